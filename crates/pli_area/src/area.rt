@@ -2,7 +2,8 @@
 ghost use Rattle.std.specs.Prelude.{◌≡◌, ◌+◌, ◌%◌, ◌<◌, ◌≤◌, [], length, None, ℕ, IsSome, IfSome, IfOk, OnOk, OnErr};
 ghost use Rattle.std.specs.Option.{option_map};
 ghost use Rattle.std.specs.Result.{result_ok};
-ghost use Rattle.pli_area.specs.Areas.{IsArea, IsLeast, IsFull, IsAdded, HasBytes, first_fit, holes_visited, block_at, without_block, with_bytes, bytes_at, extent};
+ghost use Rattle.pli_area.specs.Areas.{IsArea, IsLeast, IsFull, IsAdded, HasBytes, first_fit, holes_visited, block_at};
+ghost use Rattle.pli_area.specs.Areas.{without_block, with_bytes, bytes_at, extent};
 
 use crate::header::{HEADER_SIZE, extent_without, put_header, room_of};
 use crate::marks::{Marks, is_marked};
@@ -57,7 +58,11 @@ impl Model for Area {
     ghost use Rattle.pli_area.specs.Held.{IsHeld};
     ghost use Rattle.pli_area.specs.views.AreaView.{blocks_from};
 
-    ghost view = { λ a. record { capacity = length a.region; blocks = blocks_from a.region 0 a.marks; visited = a.visited } };
+    ghost view = { λ a. record {
+      capacity = length a.region;
+      blocks = blocks_from a.region 0 a.marks;
+      visited = a.visited;
+    } };
 
     ghost invariant = { λ a. IsHeld a.region a.marks a.chain.first a.extent a.count };
 }
@@ -93,8 +98,8 @@ impl Area {
     }
 
     /// Places a block at the least position that fits, and answers it. What its bytes are at first is not said. `Full`
-    /// where no position fits, and then nothing changes but how many holes were looked at. Looks at holes alone until it
-    /// finds one.
+    /// where no position fits, and then nothing changes but how many holes were looked at. Looks at holes alone until
+    /// it finds one.
     pub fn allocate(&mut self, description: u32, size: u32) -> Result<u32, Full>
         ensures place { result_ok result ≡ first_fit self.old size }
         ensures least { IfOk result (λ position. IsLeast self.old size position) }

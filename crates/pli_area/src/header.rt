@@ -19,7 +19,8 @@ pub(crate) fn room_of(size: u32) -> usize
 pub(crate) fn put_header(region: &mut Region, start: u32, description: u32, size: u32)
     requires inside { start + 8 ≤ length region.old }
     requires small { length region.old < 2 ^ 32 }
-    ensures { region.new ≡ overwritten (overwritten region.old start (bytes_of description)) (start + 4) (bytes_of size) }
+    ensures { region.new ≡ overwritten (overwritten region.old start (bytes_of description)) (start + 4)
+        (bytes_of size) }
 {
     region.set_word(start, description);
     region.set_word(start + 4, size);

@@ -1,6 +1,7 @@
 //! Laws and worked examples of areas.
 ghost use Rattle.pli_area.specs.laws.AreaLaws.{FirstHoleIsLeast};
-ghost use Rattle.pli_area.specs.examples.AreaExamples.{TwoBlocksFit, SecondIsLeft, HolesJoin, HolesAreVisited, SizesAreRounded, BytesStay};
+ghost use Rattle.pli_area.specs.examples.AreaExamples.{TwoBlocksFit, SecondIsLeft, HolesJoin, HolesAreVisited};
+ghost use Rattle.pli_area.specs.examples.AreaExamples.{SizesAreRounded, BytesStay};
 
 /// A law: the position in the first hole that is long enough is the least multiple of 8 that an area allows, and where
 /// there is no such hole it allows none.

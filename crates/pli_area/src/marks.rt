@@ -1,5 +1,6 @@
 //! Marks, one for each 8 bytes of an area, which say where headers of blocks are.
-ghost use Rattle.std.specs.Prelude.{◌≡◌, ◌≢◌, ℕ, ◌+◌, ◌-◌, ◌/◌, ◌<◌, ◌≤◌, ◌++◌, false, true, length, take, replicate, slice_index_or, slice_set, IfOk};
+ghost use Rattle.std.specs.Prelude.{◌≡◌, ◌≢◌, ℕ, ◌+◌, ◌-◌, ◌/◌, ◌<◌, ◌≤◌, ◌++◌, false, true, length, take, replicate};
+ghost use Rattle.std.specs.Prelude.{slice_index_or, slice_set, IfOk};
 ghost use Rattle.pli_area.specs.Held.{is_marked};
 ghost use Rattle.pli_area.specs.MarkBits.{IsCut, has_bit, marks_of};
 

@@ -51,7 +51,8 @@ impl<'m> AreaBlocks<'m> {
 
     /// Whether the area has fewer bytes than that; then no block of as many or more fits, whatever blocks there are.
     pub fn is_exceeded(&self, size: u64) -> bool
-        ensures { result ≡ true → (more : ℕ) → size ≤ more → place_in (capacity_of self.now) (blocks_view self.now) more ≡ None }
+        ensures { result ≡ true → (more : ℕ) → size ≤ more →
+            place_in (capacity_of self.now) (blocks_view self.now) more ≡ None }
     {
         self.area.stands();
         let capacity = u64::from(self.area.capacity());
@@ -70,8 +71,10 @@ impl<'m> AreaBlocks<'m> {
         bytes: &[u8],
     ) -> Result<Option<u32>, AllocError>
         requires { length bytes.now ≡ size_of (description_view description.now) }
-        ensures position { IfOk result (λ position. position ≡ place_in (capacity_of self.old) (blocks_view self.old) (length bytes.now)) }
-        ensures blocks { IfOk result (λ position. blocks_view self.new ≡ placed position (description_view description.now)
+        ensures position { IfOk result (λ position. position
+            ≡ place_in (capacity_of self.old) (blocks_view self.old) (length bytes.now)) }
+        ensures blocks { IfOk result (λ position. blocks_view self.new
+            ≡ placed position (description_view description.now)
             (values_of (description_view description.now) bytes.now) (blocks_view self.old)) }
         ensures err { OnErr result (blocks_view self.new ≡ blocks_view self.old) }
         ensures capacity { capacity_of self.new ≡ capacity_of self.old }
@@ -99,7 +102,8 @@ impl<'m> AreaBlocks<'m> {
     ) -> Result<Vec<u8>, AllocError>
         requires { PartStands (blocks_view self.now) position offset (description_view part.now) }
         ensures size { IfOk result (λ bytes. length bytes.items ≡ size_of (description_view part.now)) }
-        ensures held { IfOk result (λ bytes. PartHolds (blocks_view self.now) position offset (description_view part.now)
+        ensures held { IfOk result (λ bytes. PartHolds (blocks_view self.now) position offset
+            (description_view part.now)
             (values_of (description_view part.now) bytes.items)) }
     {
         self.area.stands();
@@ -131,7 +135,8 @@ impl<'m> AreaBlocks<'m> {
     /// Takes over the blocks of another area, at the same positions; `false` where they end behind the last byte, and
     /// then nothing has changed, as after an error.
     pub fn assign(&mut self, alloc: Global, source: &AreaBlocks<'m>) -> Result<bool, AllocError>
-        ensures answer { IfOk result (λ fits. AssignsBlocks fits (capacity_of self.old) (blocks_view source.now) (blocks_view self.old) (blocks_view self.new)) }
+        ensures answer { IfOk result (λ fits. AssignsBlocks fits (capacity_of self.old) (blocks_view source.now)
+            (blocks_view self.old) (blocks_view self.new)) }
         ensures err { OnErr result (blocks_view self.new ≡ blocks_view self.old) }
         ensures capacity { capacity_of self.new ≡ capacity_of self.old }
     {

@@ -10,7 +10,8 @@ use std::alloc::AllocError;
 /// Where a description stands among these; `None` where none is equal to it. Takes time linear in these.
 fn index_of(descriptions: &[&Description], description: &Description) -> Option<usize>
     ensures there { IfSome result (λ number. number < length descriptions.now) }
-    ensures described { IfSome result (λ number. described (wholes descriptions.now) number ≡ description_view description.now) }
+    ensures described { IfSome result (λ number. described (wholes descriptions.now) number
+        ≡ description_view description.now) }
 {
     for number in 0..descriptions.len() {
         if descriptions[number].equals(description) {
@@ -27,7 +28,8 @@ pub(crate) fn number_in<'m>(
 ) -> Result<u32, AllocError>
     ensures grown { IsGrown (wholes descriptions.old.items) (wholes descriptions.new.items) }
     ensures there { IfOk result (λ number. number < length descriptions.new.items) }
-    ensures described { IfOk result (λ number. described (wholes descriptions.new.items) number ≡ description_view description.now) }
+    ensures described { IfOk result (λ number. described (wholes descriptions.new.items) number
+        ≡ description_view description.now) }
 {
     if let Some(number) = index_of(descriptions, description) {
         return u32::try_from(number).map_err(|_error| AllocError);

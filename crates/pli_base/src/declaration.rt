@@ -1,6 +1,7 @@
 //! The trees of what stands behind DECLARE, and in the parentheses of a procedure's RETURNS.
-//! None of the types leads back to itself. An ENTRY or RETURNS in the description of a parameter or of a result is a fault of
-//! the declaration whatever its parentheses hold, so that nothing is kept of them, and a text may nest them as deep as it likes.
+//! None of the types leads back to itself. An ENTRY or RETURNS in the description of a parameter or of a result is a
+//! fault of the declaration whatever its parentheses hold, so that nothing is kept of them, and a text may nest them as
+//! deep as it likes.
 ghost use Rattle.std.specs.Prelude.{◌≡◌, IfOk};
 ghost use Rattle.pli_base.specs.Declarations.{integer_of};
 

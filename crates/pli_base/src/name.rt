@@ -1,7 +1,8 @@
 //! Names of the language.
 ghost use Rattle.std.specs.Prelude.{◌≡◌, ◌↔◌, IsTrue, Some, nat_eq};
 ghost use Rattle.std.specs.Hash as fed;
-ghost use Rattle.std.specs.Cmp.Lexicographic.{pointwise, slice_cmp, nat_list_eq_equiv, nat_list_cmp_total, texts_ties, texts_po};
+ghost use Rattle.std.specs.Cmp.Lexicographic.{pointwise, slice_cmp, nat_list_eq_equiv, nat_list_cmp_total, texts_ties};
+ghost use Rattle.std.specs.Cmp.Lexicographic.{texts_po};
 ghost use Rattle.std.specs.Ordering.{nat_cmp};
 ghost use Rattle.std.specs.Cmp.Rules.{hashing};
 ghost use Rattle.std.specs.Cmp;
@@ -34,7 +35,8 @@ impl Model for Name {
 
     ghost view = { λ n. take n.count n.bytes };
 
-    ghost invariant = { λ n. (n.count ≤ 31) × (drop n.count n.bytes ≡ replicate (31 - n.count) 0) × (length n.bytes ≡ 31) × (name_of (take n.count n.bytes) ≡ Some (take n.count n.bytes)) };
+    ghost invariant = { λ n. (n.count ≤ 31) × (drop n.count n.bytes ≡ replicate (31 - n.count) 0)
+        × (length n.bytes ≡ 31) × (name_of (take n.count n.bytes) ≡ Some (take n.count n.bytes)) };
 
     ghost inverse = { λ v. record { bytes = v ++ replicate (31 - length v) 0; count = length v } };
 

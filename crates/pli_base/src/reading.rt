@@ -1,7 +1,8 @@
 //! Reading tokens: what a reader gives, the fault where it cannot go on, and the signs and names that readers pass.
 ghost use Rattle.std.specs.Option.{option_copied};
 ghost use Rattle.std.specs.Prelude.{◌≡◌, ◌+◌, length, option_map, IfOk, IfSome};
-ghost use Rattle.pli_base.specs.Words.{behind, name_first, is_open, is_close, is_comma, is_period, is_colon, is_semicolon};
+ghost use Rattle.pli_base.specs.Words.{behind, name_first, is_open, is_close, is_comma, is_period, is_colon};
+ghost use Rattle.pli_base.specs.Words.{is_semicolon};
 ghost use Rattle.pli_base.specs.Reading.{misfit, taken};
 ghost use Rattle.pli_base.specs.answers.FailureAnswers.{Gives};
 

@@ -4,7 +4,8 @@ ghost use Rattle.std.specs.Prelude.{◌≡◌, IfOk};
 use std::alloc::{AllocError, Global};
 use std::marker::Model;
 
-/// The characters of a character constant, a doubled quote being one quote (X3.74). Contracts see the list of its bytes.
+/// The characters of a character constant, a doubled quote being one quote (X3.74). Contracts see the list of its
+/// bytes.
 #[derive(Drop)]
 pub struct CharacterString {
     bytes: Vec<u8>,

@@ -35,9 +35,9 @@ pub enum Sign {
     Percent,
 }
 
-/// What a token says. Names are in upper case. A decimal constant is its value, at most 9223372036854775807, and its number
-/// of digits, 1 to 19, so that `07` differs from `7`; a binary constant is its value and its number of digits, 1 to 63,
-/// which is its precision (own). A character constant is its characters, a bit constant its bits (X3.74).
+/// What a token says. Names are in upper case. A decimal constant is its value, at most 9223372036854775807, and its
+/// number of digits, 1 to 19, so that `07` differs from `7`; a binary constant is its value and its number of digits, 1
+/// to 63, which is its precision (own). A character constant is its characters, a bit constant its bits (X3.74).
 #[derive(Drop)]
 pub enum TokenText {
     Word(Name),

@@ -13,7 +13,8 @@ use pli_run::Ending;
 
 /// Puts the parts, one after another.
 pub fn put_parts<W: Sink>(writer: &mut W, parts: &[&[u8]]) -> Result<(), Failed>
-    ensures written { Writes (W.contents writer.old) (W.contents writer.new) (joined (map (λ p. p.now) parts.now)) result }
+    ensures written { Writes (W.contents writer.old) (W.contents writer.new)
+        (joined (map (λ p. p.now) parts.now)) result }
     ensures mark { Marked (W.failed writer.old) (W.failed writer.new) result }
 {
     for part in parts {

@@ -64,7 +64,8 @@ impl Batch {
     /// Adds bytes behind those that wait, which are put where there is no room for both. Where the writer fails, what
     /// waits is of no more use.
     pub fn add<W: Sink>(&mut self, writer: &mut W, bytes: &[u8]) -> Result<(), Failed>
-        ensures passed { Passes (W.contents writer.old) (W.contents writer.new) (self.old ++ bytes.now) self.new result }
+        ensures passed { Passes (W.contents writer.old) (W.contents writer.new)
+            (self.old ++ bytes.now) self.new result }
         ensures mark { Marked (W.failed writer.old) (W.failed writer.new) result }
     {
         if bytes.len() > BATCH_LIMIT - self.count {
@@ -79,7 +80,8 @@ impl Batch {
 
     /// Adds parts, one after another.
     pub fn add_parts<W: Sink>(&mut self, writer: &mut W, parts: &[&[u8]]) -> Result<(), Failed>
-        ensures passed { Passes (W.contents writer.old) (W.contents writer.new) (self.old ++ joined (map (λ p. p.now) parts.now)) self.new result }
+        ensures passed { Passes (W.contents writer.old) (W.contents writer.new)
+            (self.old ++ joined (map (λ p. p.now) parts.now)) self.new result }
         ensures mark { Marked (W.failed writer.old) (W.failed writer.new) result }
     {
         for part in parts {

@@ -78,7 +78,8 @@ impl Bench {
         line: &[u8],
         writer: &mut W,
     ) -> Result<AfterCommand, WriteFailed>
-        ensures answered { AnsweredOne Step quits line.now (span self.old self.new) (span (W.contents writer.old) (W.contents writer.new)) result }
+        ensures answered { AnsweredOne Step quits line.now (span self.old self.new)
+            (span (W.contents writer.old) (W.contents writer.new)) result }
         ensures mark { Marked (W.failed writer.old) (W.failed writer.new) result }
     {
         match read_command(line) {
@@ -119,7 +120,8 @@ impl Bench {
         }
     }
 
-    /// Answers the commands of `reader` on `writer`, up to QUIT or to the end. Bytes are asked for at most `reads` times.
+    /// Answers the commands of `reader` on `writer`, up to QUIT or to the end. Bytes are asked for at most `reads`
+    /// times.
     pub fn serve<R: Source, W: Sink>(
         &mut self,
         reader: &mut R,
@@ -146,7 +148,8 @@ impl Bench {
     }
 
     fn add<W: Sink>(&mut self, name: Name, kind: MemberKind, writer: &mut W) -> Result<(), Failed>
-        ensures answered { Does (Obeys (Some (spelt.Add name kind))) self.old self.new (W.contents writer.old) (W.contents writer.new) result }
+        ensures answered { Does (Obeys (Some (spelt.Add name kind))) self.old self.new (W.contents writer.old)
+            (W.contents writer.new) result }
         ensures mark { Marked (W.failed writer.old) (W.failed writer.new) result }
     {
         edits_keep_fits();
@@ -155,7 +158,8 @@ impl Bench {
     }
 
     fn delete<W: Sink>(&mut self, name: Name, writer: &mut W) -> Result<(), Failed>
-        ensures answered { Does (Obeys (Some (spelt.Delete name))) self.old self.new (W.contents writer.old) (W.contents writer.new) result }
+        ensures answered { Does (Obeys (Some (spelt.Delete name))) self.old self.new (W.contents writer.old)
+            (W.contents writer.new) result }
         ensures mark { Marked (W.failed writer.old) (W.failed writer.new) result }
     {
         let _ = self.members.entries();
@@ -171,7 +175,8 @@ impl Bench {
         text: &[u8],
         writer: &mut W,
     ) -> Result<(), Failed>
-        ensures answered { Does (Obeys (Some (spelt.Insert name after text.now))) self.old self.new (W.contents writer.old) (W.contents writer.new) result }
+        ensures answered { Does (Obeys (Some (spelt.Insert name after text.now))) self.old self.new
+            (W.contents writer.old) (W.contents writer.new) result }
         ensures mark { Marked (W.failed writer.old) (W.failed writer.new) result }
     {
         edits_keep_fits();
@@ -186,7 +191,8 @@ impl Bench {
         text: &[u8],
         writer: &mut W,
     ) -> Result<(), Failed>
-        ensures answered { Does (Obeys (Some (spelt.Replace name number text.now))) self.old self.new (W.contents writer.old) (W.contents writer.new) result }
+        ensures answered { Does (Obeys (Some (spelt.Replace name number text.now))) self.old self.new
+            (W.contents writer.old) (W.contents writer.new) result }
         ensures mark { Marked (W.failed writer.old) (W.failed writer.new) result }
     {
         edits_keep_fits();
@@ -201,7 +207,8 @@ impl Bench {
         last: u32,
         writer: &mut W,
     ) -> Result<(), Failed>
-        ensures answered { Does (Obeys (Some (spelt.Remove name first last))) self.old self.new (W.contents writer.old) (W.contents writer.new) result }
+        ensures answered { Does (Obeys (Some (spelt.Remove name first last))) self.old self.new (W.contents writer.old)
+            (W.contents writer.new) result }
         ensures mark { Marked (W.failed writer.old) (W.failed writer.new) result }
     {
         edits_keep_fits();
@@ -212,7 +219,8 @@ impl Bench {
     }
 
     fn list_lines<W: Sink>(&self, name: Name, writer: &mut W) -> Result<(), Failed>
-        ensures answered { Does (Obeys (Some (spelt.ListLines name))) self.now self.now (W.contents writer.old) (W.contents writer.new) result }
+        ensures answered { Does (Obeys (Some (spelt.ListLines name))) self.now self.now (W.contents writer.old)
+            (W.contents writer.new) result }
         ensures mark { Marked (W.failed writer.old) (W.failed writer.new) result }
     {
         let Some(lines) = self.members.lines(name) else {
@@ -223,7 +231,8 @@ impl Bench {
     }
 
     fn list_members<W: Sink>(&self, writer: &mut W) -> Result<(), Failed>
-        ensures answered { Does (Obeys (Some spelt.ListMembers)) self.now self.now (W.contents writer.old) (W.contents writer.new) result }
+        ensures answered { Does (Obeys (Some spelt.ListMembers)) self.now self.now (W.contents writer.old)
+            (W.contents writer.new) result }
         ensures mark { Marked (W.failed writer.old) (W.failed writer.new) result }
     {
         put_members(writer, self.members.entries())?;
@@ -231,7 +240,8 @@ impl Bench {
     }
 
     fn rebuild<W: Sink>(&mut self, writer: &mut W) -> Result<(), Failed>
-        ensures answered { Does (Obeys (Some spelt.Build)) self.old self.new (W.contents writer.old) (W.contents writer.new) result }
+        ensures answered { Does (Obeys (Some spelt.Build)) self.old self.new (W.contents writer.old)
+            (W.contents writer.new) result }
         ensures mark { Marked (W.failed writer.old) (W.failed writer.new) result }
     {
         let standing = self.standing.take();
@@ -254,7 +264,8 @@ impl Bench {
     }
 
     fn dump<W: Sink>(&self, writer: &mut W) -> Result<(), Failed>
-        ensures answered { Does (Obeys (Some spelt.Dump)) self.now self.now (W.contents writer.old) (W.contents writer.new) result }
+        ensures answered { Does (Obeys (Some spelt.Dump)) self.now self.now (W.contents writer.old)
+            (W.contents writer.new) result }
         ensures mark { Marked (W.failed writer.old) (W.failed writer.new) result }
     {
         let Some(module) = &self.standing else {
@@ -264,7 +275,8 @@ impl Bench {
     }
 
     fn execute<W: Sink>(&self, steps: Option<u64>, writer: &mut W) -> Result<(), Failed>
-        ensures answered { Does (Obeys (Some (spelt.Run steps))) self.now self.now (W.contents writer.old) (W.contents writer.new) result }
+        ensures answered { Does (Obeys (Some (spelt.Run steps))) self.now self.now (W.contents writer.old)
+            (W.contents writer.new) result }
         ensures mark { Marked (W.failed writer.old) (W.failed writer.new) result }
     {
         let Some(module) = &self.standing else {

@@ -3,7 +3,9 @@ ghost use Rattle.std.specs.Prelude.{◌≡◌, ◌≤◌, ◌<◌, ◌^◌, IfSo
 ghost use Rattle.std.specs.Option.{option_copied};
 ghost use Rattle.std.specs.List.{list_all, position};
 ghost use Rattle.pli_base.specs.Name.{is_digit};
-ghost use Rattle.pli_bench.specs.Commands.{is_blank, first_word, behind_blank, is_word, number_of, kind_of_word, numbered_text, numbered_of, add_of, insert_of, replace_of, remove_of, run_of, command_of};
+ghost use Rattle.pli_bench.specs.Commands.{is_blank, first_word, behind_blank, is_word, number_of, kind_of_word};
+ghost use Rattle.pli_bench.specs.Commands.{numbered_text, numbered_of, add_of, insert_of, replace_of, remove_of};
+ghost use Rattle.pli_bench.specs.Commands.{run_of, command_of};
 ghost use Rattle.pli_bench.specs.views.CommandView.{command_view};
 
 use pli_base::{Name, decimal_value, is_digit};

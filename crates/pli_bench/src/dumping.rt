@@ -43,7 +43,8 @@ fn next_column(column: u8) -> u8
 
 /// Adds a byte, and the line feed behind it where it is the last of a line.
 fn add_byte<W: Sink>(batch: &mut Batch, writer: &mut W, byte: u8, column: u8) -> Result<(), Failed>
-    ensures passed { Passes (W.contents writer.old) (W.contents writer.new) (batch.old ++ (digits_of byte ++ end_at column)) batch.new result }
+    ensures passed { Passes (W.contents writer.old) (W.contents writer.new)
+        (batch.old ++ (digits_of byte ++ end_at column)) batch.new result }
     ensures mark { Marked (W.failed writer.old) (W.failed writer.new) result }
 {
     let digits = [digit_of(byte / 16), digit_of(byte % 16)];

@@ -85,11 +85,11 @@ pub trait Interpreter {
     ghost too_long_goes: { (line : List ℕ) → line_limit < length line → quits line ≡ false };
 }
 
-/// Answers the lines of `reader` on `writer`, up to the first that quits or to the end. A line ends with a line feed, and
-/// a carriage return before it is dropped; a last line without a line feed counts where it is not empty (own). Bytes are
-/// asked for at most `reads` times: where that does not come to the end, it is `TooManyReads`, which an input of fewer
-/// bytes than `reads` never is. Where the reader failed or was asked too often, the lines that ended in what was taken
-/// were answered; where the writer failed, the state is the one behind the command whose answer it failed in.
+/// Answers the lines of `reader` on `writer`, up to the first that quits or to the end. A line ends with a line feed,
+/// and a carriage return before it is dropped; a last line without a line feed counts where it is not empty (own).
+/// Bytes are asked for at most `reads` times: where that does not come to the end, it is `TooManyReads`, which an input
+/// of fewer bytes than `reads` never is. Where the reader failed or was asked too often, the lines that ended in what
+/// was taken were answered; where the writer failed, the state is the one behind the command whose answer it failed in.
 pub fn serve<T: Interpreter, R: Source, W: Sink>(
     bench: &mut T,
     reader: &mut R,

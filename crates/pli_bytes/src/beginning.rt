@@ -10,8 +10,9 @@ ghost use Rattle.pli_map.specs.views.DescriptionView.{description_view, members_
 
 use pli_map::{Bounds, Description, alignment, far_size, scalars_in};
 
-/// Lays down the values with which the scalars of a description begin, in as many bytes as it takes: zeros, blanks, empty
-/// strings, null locators. What the bytes of an area are then is not said. No more than 16,777,216 bytes. Takes no memory.
+/// Lays down the values with which the scalars of a description begin, in as many bytes as it takes: zeros, blanks,
+/// empty strings, null locators. What the bytes of an area are then is not said. No more than 16,777,216 bytes. Takes
+/// no memory.
 pub fn lay_first(description: &Description, bytes: &mut [u8])
     requires size { length bytes.old ≡ size_of (description_view description.now) }
     requires limit { size_of (description_view description.now) ≤ 16777216 }

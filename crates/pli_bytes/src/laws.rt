@@ -1,7 +1,8 @@
 //! Laws of values in bytes.
 ghost use Rattle.pli_bytes.specs.laws.ContentsLaws.{Counted, Described, OnPaths, PartCopied, PartPut, PartValues};
 
-/// A law: the values of a part are those of its bytes, and where these are put or copied, its values are, and no others change.
+/// A law: the values of a part are those of its bytes, and where these are put or copied, its values are, and no others
+/// change.
 pub fn parts_are_their_bytes()
     ensures counted { Counted }
     ensures described { Described }

@@ -13,8 +13,8 @@ use crate::putting::put_value_at;
 use pli_map::{Bounds, Description, alignment, far_size, holds, scalars_in};
 use pli_value::Value;
 
-/// Lays values down, one for each scalar of a description, in as many bytes as it takes; false exactly where they are not
-/// as many, or a scalar may not hold its value. No more than 16,777,216 bytes. Takes no memory.
+/// Lays values down, one for each scalar of a description, in as many bytes as it takes; false exactly where they are
+/// not as many, or a scalar may not hold its value. No more than 16,777,216 bytes. Takes no memory.
 pub fn lay(description: &Description, values: &[Value], bytes: &mut [u8]) -> bool
     requires size { length bytes.old ≡ size_of (description_view description.now) }
     requires limit { size_of (description_view description.now) ≤ 16777216 }
@@ -112,7 +112,8 @@ fn lay_elements<'v>(
 ) -> Option<&'v [Value]>
     requires within { at + size_of (tree.Array bounds.now (description_view element.now)) ≤ length bytes.old }
     requires limit { size_of (tree.Array bounds.now (description_view element.now)) ≤ 16777216 }
-    requires scalars { scalars ≡ min (scalars_in (tree.Array bounds.now (description_view element.now))) 18446744073709551615 }
+    requires scalars { scalars ≡ min (scalars_in (tree.Array bounds.now (description_view element.now)))
+        18446744073709551615 }
     ensures { let d = tree.Array bounds.now (description_view element.now) in
         MatchOption result (NoneTaken (scalars_of d) (map value_view values.now))
         (λ left. LaidFront at d (map value_view values.now) (map value_view left.now) bytes.old bytes.new) }

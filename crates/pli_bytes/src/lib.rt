@@ -1,4 +1,5 @@
-//! Values of scalars in bytes: each scalar of a description lies at an offset of its bytes, and is read, put and laid there.
+//! Values of scalars in bytes: each scalar of a description lies at an offset of its bytes, and is read, put and laid
+//! there.
 #![tactic(auto)]
 
 mod beginning;

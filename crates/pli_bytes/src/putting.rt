@@ -106,9 +106,9 @@ fn write_front(bytes: &mut [u8], front: &[u8])
     bytes[..front.len()].copy_from_slice(front);
 }
 
-/// Characters put behind those that a scalar of CHARACTER VARYING holds, which lies at an offset of the bytes; where both
-/// are more than its greatest length or than so many, or the bytes end before it does, nothing changes. Only the length and
-/// the new characters are written.
+/// Characters put behind those that a scalar of CHARACTER VARYING holds, which lies at an offset of the bytes; where
+/// both are more than its greatest length or than so many, or the bytes end before it does, nothing changes. Only the
+/// length and the new characters are written.
 #[inline]
 pub fn append_at(bytes: &mut [u8], offset: usize, greatest: u16, more: &[u8], room: usize) -> bool
     ensures { AppendedOrSame result greatest offset more.now room bytes.old bytes.new }

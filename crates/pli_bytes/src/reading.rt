@@ -17,8 +17,8 @@ use pli_value::bit::Bits;
 use pli_value::character::{STRING_LIMIT, fit_varying};
 use std::alloc::{AllocError, Global};
 
-/// The value that a scalar of this description holds, which lies at an offset of the bytes; zero where the description is no
-/// scalar's. Only strings take memory. Bits of more than 32,767, which are not of the language, have no room.
+/// The value that a scalar of this description holds, which lies at an offset of the bytes; zero where the description
+/// is no scalar's. Only strings take memory. Bits of more than 32,767, which are not of the language, have no room.
 pub fn value_at(
     alloc: Global,
     bytes: &[u8],
@@ -77,8 +77,8 @@ fn bits(alloc: Global, packed: &[u8], count: u16) -> Result<Value, AllocError>
     Ok(Value::Bits(Bits::unpack(alloc, packed, count)?))
 }
 
-/// The number that a scalar of FIXED BINARY of this precision holds, which lies at an offset of the bytes; `None` where they
-/// end before it does.
+/// The number that a scalar of FIXED BINARY of this precision holds, which lies at an offset of the bytes; `None` where
+/// they end before it does.
 #[inline(always)]
 pub fn number_at(bytes: &[u8], offset: usize, precision: u8) -> Option<i64>
     ensures { IfSome result (λ x. value_in bytes.now
@@ -90,8 +90,8 @@ pub fn number_at(bytes: &[u8], offset: usize, precision: u8) -> Option<i64>
     first_number(&bytes[offset..], precision)
 }
 
-/// The number that a scalar of FIXED BINARY of this precision holds, with which the bytes begin; `None` where there are not
-/// so many.
+/// The number that a scalar of FIXED BINARY of this precision holds, with which the bytes begin; `None` where there are
+/// not so many.
 #[inline(always)]
 fn first_number(bytes: &[u8], precision: u8) -> Option<i64>
     ensures { MatchOption result (length bytes.now < number_bytes precision)
@@ -116,8 +116,8 @@ fn known_number(bytes: &[u8], precision: u8) -> i64
     }
 }
 
-/// The characters that a scalar of CHARACTER or CHARACTER VARYING holds, which lies at an offset of the bytes; `None` for any
-/// other description, and where the bytes end before it does.
+/// The characters that a scalar of CHARACTER or CHARACTER VARYING holds, which lies at an offset of the bytes; `None`
+/// for any other description, and where the bytes end before it does.
 #[inline]
 pub fn text_at<'b>(bytes: &'b [u8], offset: usize, description: &Description) -> Option<&'b [u8]>
     ensures { IfSome result (λ text. value_in bytes.now

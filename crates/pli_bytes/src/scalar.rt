@@ -13,9 +13,9 @@ use crate::putting::put_value_at;
 use pli_map::{Bounds, Description, PlacedPart, alignment, far_size, holds};
 use pli_value::Value;
 
-/// Puts a value in the place of that of the scalar which begins on a byte. Nothing changes where none does, or where it may
-/// not hold the value. No more than 16,777,216 bytes. Takes no memory, and time for the descriptions that stand before the
-/// scalar's.
+/// Puts a value in the place of that of the scalar which begins on a byte. Nothing changes where none does, or where it
+/// may not hold the value. No more than 16,777,216 bytes. Takes no memory, and time for the descriptions that stand
+/// before the scalar's.
 pub fn put_on(bytes: &mut [u8], description: &Description, offset: u32, value: &Value)
     requires size { length bytes.old ≡ size_of (description_view description.now) }
     requires limit { size_of (description_view description.now) ≤ 16777216 }
@@ -93,7 +93,8 @@ fn scalar_of_element<'d>(
 #[cycle(scalar_on)]
 fn scalar_of_member(members: &[Description], offset: u32) -> Option<PlacedPart<'_>>
     requires { size_of (tree.Structure (members_view members.now)) ≤ 16777216 }
-    ensures { option_map part_view result ≡ contents.scalar_on offset (scalars_at (tree.Structure (members_view members.now))) }
+    ensures { option_map part_view result ≡ contents.scalar_on offset
+        (scalars_at (tree.Structure (members_view members.now))) }
 {
     let byte = u64::from(offset);
     let mut end: u64 = 0;

@@ -13,8 +13,8 @@ use crate::instruction::Instruction;
 use crate::operands::Operands;
 use pli_operation::Operation;
 
-/// The instruction at the front of bytes, and the bytes behind it. The fault is that the bytes end within it, or that no
-/// instruction has such an opcode or operand.
+/// The instruction at the front of bytes, and the bytes behind it. The fault is that the bytes end within it, or that
+/// no instruction has such an opcode or operand.
 #[tactic(auto, unfolding(crate::specs::Instructions::instruction, crate::specs::Instructions::reader_of))]
 pub fn decode(bytes: &[u8]) -> Result<(Instruction, &[u8]), DeckFault>
     ensures { Answers (λ x. (x.0, x.1.now)) result (instruction_fields.instruction.read bytes.now) }

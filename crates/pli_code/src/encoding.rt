@@ -52,7 +52,8 @@ fn put_word_short(out: &mut Vec<u8>, code: u8, first: u32, second: u16) -> Resul
 
 /// Puts a subscript's opcode, its bounds and its multiplier.
 fn put_subscript(out: &mut Vec<u8>, low: i32, high: i32, multiplier: u32) -> Result<(), AllocError>
-    ensures { OnOk result (out.new.items ≡ out.old.items ++ (17 ∷ (big_bytes 4 (cast_unsigned w32 low) ++ (big_bytes 4 (cast_unsigned w32 high) ++ big_bytes 4 multiplier)))) }
+    ensures { OnOk result (out.new.items ≡ out.old.items ++ (17
+        ∷ (big_bytes 4 (cast_unsigned w32 low) ++ (big_bytes 4 (cast_unsigned w32 high) ++ big_bytes 4 multiplier)))) }
 {
     put_byte(out, 17)?;
     put_signed(out, low)?;
@@ -62,7 +63,8 @@ fn put_subscript(out: &mut Vec<u8>, low: i32, high: i32, multiplier: u32) -> Res
 
 /// Puts an operation: its opcode, and its width, precision or relation.
 fn put_operation(out: &mut Vec<u8>, operation: Operation) -> Result<(), AllocError>
-    ensures { OnOk result (let form = instruction_fields.operation_form operation in out.new.items ≡ out.old.items ++ (form.tag ∷ form.bytes)) }
+    ensures { OnOk result (let form = instruction_fields.operation_form operation in out.new.items
+        ≡ out.old.items ++ (form.tag ∷ form.bytes)) }
 {
     match operation {
         Operation::ToCharacters { width } => put_with_byte(out, 24, width),

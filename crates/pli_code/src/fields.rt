@@ -129,8 +129,8 @@ pub fn byte_within(bytes: &[u8], low: u8, high: u8) -> Result<(u8, &[u8]), DeckF
     }
 }
 
-/// A signed number of four bytes that is at most `bound` from 0, and the bytes behind it. The fault is that there are too
-/// few, or that the number is further from 0.
+/// A signed number of four bytes that is at most `bound` from 0, and the bytes behind it. The fault is that there are
+/// too few, or that the number is further from 0.
 pub fn signed_within(bytes: &[u8], bound: u32) -> Result<(i32, &[u8]), DeckFault>
     ensures read { Answers (λ x. (x.0, x.1.now)) result ((signed 4 w32 bound).read bytes.now) }
     ensures near { IfOk result (λ x. unsigned_abs x.0 ≤ bound) }
@@ -144,8 +144,8 @@ pub fn signed_within(bytes: &[u8], bound: u32) -> Result<(i32, &[u8]), DeckFault
     }
 }
 
-/// A signed number of eight bytes that is at most `bound` from 0, and the bytes after it. The fault is that there are too
-/// few, or that the number is further from 0.
+/// A signed number of eight bytes that is at most `bound` from 0, and the bytes after it. The fault is that there are
+/// too few, or that the number is further from 0.
 pub fn signed_long_within(bytes: &[u8], bound: u64) -> Result<(i64, &[u8]), DeckFault>
     ensures { Answers (λ x. (x.0, x.1.now)) result ((signed 8 w64 bound).read bytes.now) }
 {

@@ -69,8 +69,8 @@ fn lent_members<'a>(alloc: Global, units: &'a [Member]) -> Result<Vec<LentMember
 }
 
 impl Module {
-    /// The module, its units' decks lent. Takes time in proportion to the externals, the units and their links. An error
-    /// comes where memory runs out.
+    /// The module, its units' decks lent. Takes time in proportion to the externals, the units and their links. An
+    /// error comes where memory runs out.
     pub fn lent(&self, alloc: Global) -> Result<LentModule<'_>, AllocError>
         ensures { IfOk result (λ lent. lent_module_view lent ≡ module_view self.now) }
     {

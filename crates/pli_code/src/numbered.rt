@@ -1,6 +1,7 @@
 //! The numbers that stand in bytes for errors, relations and conditions, and what they stand for.
 ghost use Rattle.std.specs.Prelude.{◌≡◌};
-ghost use Rattle.pli_code.specs.Numbered.{condition_number, condition_of, error_number, error_of, relation_number, relation_of};
+ghost use Rattle.pli_code.specs.Numbered.{condition_number, condition_of, error_number, error_of, relation_number};
+ghost use Rattle.pli_code.specs.Numbered.{relation_of};
 
 use pli_base::statement::Condition;
 use pli_operation::Relation;

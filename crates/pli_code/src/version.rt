@@ -16,6 +16,7 @@ impl Version {
     pub const WRITTEN: Version = Version::Second;
 
     /// Its number, 1 or 2, which stands in the bytes.
+    #[inline]
     pub fn number(self) -> u8
         ensures { result ≡ version_number self }
     {
@@ -26,6 +27,7 @@ impl Version {
     }
 
     /// The greatest precision of its numbers: 31 or 63.
+    #[inline]
     pub fn greatest_precision(self) -> u8
         ensures value { result ≡ greatest_precision self }
         ensures few { result ≤ 63 }

@@ -2,7 +2,8 @@
 ghost use Rattle.std.specs.Prelude.{◌≡◌, ◌≢◌, ◌≤◌, ◌<◌, ◌+◌, ℕ, drop, map};
 ghost use Rattle.std.specs.String.{string_bytes};
 ghost use Rattle.pli_command_line.specs.CommandLine.{Gives};
-ghost use Rattle.pli_command_line.specs.Statuses.{EndsServed, BreaksOff, devices, Refused, Tells, status_of, reads_limit};
+ghost use Rattle.pli_command_line.specs.Statuses.{EndsServed, BreaksOff, devices, Refused, Tells, status_of};
+ghost use Rattle.pli_command_line.specs.Statuses.{reads_limit};
 
 use crate::arguments::{ArgumentsError, read_arguments};
 use pli_base::{Sink, Source, put_all};
@@ -64,7 +65,8 @@ fn words_behind_name(words: &[String]) -> &[String]
     words.get(1..).unwrap_or(&[])
 }
 
-/// Reads the words, of which the first is the program's name, serves `reader` to `writer`, and answers the status (own).
+/// Reads the words, of which the first is the program's name, serves `reader` to `writer`, and answers the status
+/// (own).
 /// `errors` takes the text of status 2 alone, and its failure changes no status.
 pub fn go<R: Source, W: Sink, F: Sink>(
     alloc: Global,

@@ -1,6 +1,7 @@
 //! Copies of what stands behind DECLARE.
 ghost use Rattle.std.specs.Prelude.{◌≡◌, IfOk};
-ghost use Rattle.pli_base.specs.views.DeclarationView.{simple_view, described_view, parameter_view, attribute_view, item_view};
+ghost use Rattle.pli_base.specs.views.DeclarationView.{simple_view, described_view, parameter_view, attribute_view};
+ghost use Rattle.pli_base.specs.views.DeclarationView.{item_view};
 ghost use Rattle.pli_base.specs.Declarations as tree;
 
 use crate::copied::{Copied, copied_list};

@@ -1,7 +1,8 @@
 //! Copies of expressions and references.
 ghost use Rattle.std.specs.Prelude.{◌≡◌, IfOk};
 ghost use Rattle.pli_base.specs.Syntax as tree;
-ghost use Rattle.pli_base.specs.views.SyntaxView.{expression_view, reference_view, expressions_view, arguments_view, joined_view};
+ghost use Rattle.pli_base.specs.views.SyntaxView.{expression_view, reference_view, expressions_view, arguments_view};
+ghost use Rattle.pli_base.specs.views.SyntaxView.{joined_view};
 ghost use Rattle.pli_base.specs.declared.syntax.ConstantValue as constant;
 ghost use Rattle.pli_copy.specs.views.PartView.{part_view};
 

@@ -3,7 +3,8 @@ ghost use Rattle.std.specs.Prelude.{◌≡◌, map, option_map, IfOk};
 ghost use Rattle.pli_base.specs.views.SyntaxView.{expression_view, arguments_view, reference_view};
 ghost use Rattle.pli_base.specs.laws.StatementLaws.{boxed_view};
 ghost use Rattle.pli_base.specs.Statements as tree;
-ghost use Rattle.pli_base.specs.views.StatementView.{option_view, range_view, control_view, allocation_view, body_view, statement_view, statements_view, unit_view};
+ghost use Rattle.pli_base.specs.views.StatementView.{option_view, range_view, control_view, allocation_view, body_view};
+ghost use Rattle.pli_base.specs.views.StatementView.{statement_view, statements_view, unit_view};
 
 use crate::copied::{Copied, copied_list, copied_option};
 use crate::expression::copied_expressions;
@@ -187,7 +188,8 @@ fn copied_assignment(
     equals: u32,
     value: &Expression,
 ) -> Result<Body, AllocError>
-    ensures { IfOk result (λ copied. body_view copied ≡ tree.Assign (reference_view target.now) equals (expression_view value.now)) }
+    ensures { IfOk result (λ copied. body_view copied ≡ tree.Assign (reference_view target.now) equals
+        (expression_view value.now)) }
 {
     Ok(Body::Assign {
         target: target.copy(alloc)?,
@@ -274,7 +276,8 @@ fn copied_group(
     statements: &[Statement],
     end: u32,
 ) -> Result<Body, AllocError>
-    ensures { IfOk result (λ copied. body_view copied ≡ tree.Do (option_map control_view control.now) (statements_view statements.now) end) }
+    ensures { IfOk result (λ copied. body_view copied ≡ tree.Do (option_map control_view control.now)
+        (statements_view statements.now) end) }
 {
     let statements = copied_statements(alloc, statements)?;
     let control = copied_option(alloc, control)?;

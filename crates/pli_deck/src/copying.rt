@@ -5,7 +5,8 @@ ghost use Rattle.pli_map.specs.views.DescriptionView.{description_view};
 ghost use Rattle.pli_program.specs.Templates as templates;
 ghost use Rattle.pli_type_tree.specs.views.TemplateView.{initial_view};
 ghost use Rattle.pli_code.specs.CodeTables as plain;
-ghost use Rattle.pli_code.specs.views.CodeView.{block_view, code_view, coded_template_view, deck_view, global_view, signature_view};
+ghost use Rattle.pli_code.specs.views.CodeView.{block_view, code_view, coded_template_view, deck_view, global_view};
+ghost use Rattle.pli_code.specs.views.CodeView.{signature_view};
 ghost use Rattle.pli_value.specs.Value as values;
 ghost use Rattle.pli_value.specs.Value.{value_view};
 

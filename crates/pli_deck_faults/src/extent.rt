@@ -1,7 +1,8 @@
 //! Whether a module keeps the limits.
 ghost use Rattle.std.specs.Prelude.{◌≡◌, ◌≤◌, min, nat_le, length, map, get_or, slice_get, option_map, IfOk};
 ghost use Rattle.std.specs.List.{sum_by};
-ghost use Rattle.pli_code.specs.views.CodeView.{code_view, coded_template_view, external_view, global_view, member_view, module_view};
+ghost use Rattle.pli_code.specs.views.CodeView.{code_view, coded_template_view, external_view, global_view};
+ghost use Rattle.pli_code.specs.views.CodeView.{member_view, module_view};
 ghost use Rattle.pli_deck_write.specs.ModuleSpelling as spelling;
 ghost use Rattle.pli_deck_faults.specs.CutSizes.{cut_sizes, unit_sizes};
 ghost use Rattle.pli_deck_faults.specs.Remains.{Remains};
@@ -34,7 +35,8 @@ fn instructions_within(units: &[Member]) -> bool
 
 /// The number of the description of a template of code, if the code has the template.
 fn described(code: &Code, number: u16) -> Option<u16>
-    ensures { result ≡ option_map (λ t. t.description) (slice_get (map coded_template_view code.now.templates.items) number) }
+    ensures { result ≡ option_map (λ t. t.description) (slice_get
+        (map coded_template_view code.now.templates.items) number) }
 {
     let template = code.templates.get(usize::from(number))?;
     Some(template.description)
@@ -78,7 +80,8 @@ fn static_bytes(code: &Code, sizes: &[u64], global: &CodedGlobal) -> u64
 /// Whether the static variables of a unit, its own ones, are within so many bytes, and what is then left.
 fn behind_unit(code: &Code, sizes: &[u64], bytes: u64) -> Option<u64>
     requires { (bytes ≤ 16777216) × (sizes.now ≡ cut_sizes code.now.descriptions.items) }
-    ensures { Remains result bytes (sum_by (spelling.static_bytes (code_view code.now)) (map global_view code.now.globals.items)) }
+    ensures { Remains result bytes (sum_by (spelling.static_bytes (code_view code.now))
+        (map global_view code.now.globals.items)) }
 {
     let mut left = bytes;
     for global in &code.globals {
@@ -116,7 +119,8 @@ fn all_sizes(alloc: Global, units: &[Member]) -> Result<Vec<Vec<u64>>, AllocErro
 /// What is left of so many bytes behind the static variables that units have for themselves; none where these are more.
 fn behind_units(units: &[Member], all: &[Vec<u64>], bytes: u64) -> Option<u64>
     requires { (bytes ≤ 16777216) × (map (λ sizes. sizes.items) all.now ≡ map unit_sizes units.now) }
-    ensures { Remains result bytes (sum_by (λ u. sum_by (spelling.static_bytes u.deck.code) u.deck.code.globals) (map member_view units.now)) }
+    ensures { Remains result bytes (sum_by (λ u. sum_by (spelling.static_bytes u.deck.code) u.deck.code.globals)
+        (map member_view units.now)) }
 {
     let mut left = bytes;
     let mut place: usize = 0;
@@ -130,7 +134,8 @@ fn behind_units(units: &[Member], all: &[Vec<u64>], bytes: u64) -> Option<u64>
 /// The bytes of a global that is an external static variable.
 fn declared_bytes(code: &Code, sizes: &[u64], number: u16) -> u64
     requires { sizes.now ≡ cut_sizes code.now.descriptions.items }
-    ensures { result ≡ min (spelling.declared_bytes (code_view code.now) (slice_get (map global_view code.now.globals.items) number)) 4294967296 }
+    ensures { result ≡ min (spelling.declared_bytes (code_view code.now)
+        (slice_get (map global_view code.now.globals.items) number)) 4294967296 }
 {
     match code.globals.get(usize::from(number)) {
         Some(
@@ -147,7 +152,8 @@ fn declared_bytes(code: &Code, sizes: &[u64], number: u16) -> u64
 /// The bytes of an external static variable, by its first declaration.
 fn external_bytes(units: &[Member], all: &[Vec<u64>], external: &External) -> u64
     requires { map (λ sizes. sizes.items) all.now ≡ map unit_sizes units.now }
-    ensures { result ≡ min (spelling.external_bytes (map member_view units.now) (external_view external.now)) 4294967296 }
+    ensures { result ≡ min (spelling.external_bytes (map member_view units.now) (external_view external.now))
+        4294967296 }
 {
     let place = usize::from(external.unit);
     if place >= units.len() {
@@ -164,7 +170,8 @@ fn behind_externals(
     bytes: u64,
 ) -> Option<u64>
     requires { (bytes ≤ 16777216) × (map (λ sizes. sizes.items) all.now ≡ map unit_sizes units.now) }
-    ensures { Remains result bytes (sum_by (spelling.external_bytes (map member_view units.now)) (map external_view externals.now)) }
+    ensures { Remains result bytes (sum_by (spelling.external_bytes (map member_view units.now))
+        (map external_view externals.now)) }
 {
     let mut left = bytes;
     for external in externals {

@@ -32,7 +32,8 @@ fn initial_fits(places: &Places, initial: &InitialScalar) -> bool
 /// Whether all of some initial values fit.
 fn all_fit(places: &Places, values: &[InitialScalar]) -> bool
     ensures { (d : tree.Description) → places_view places.now ≡ places_of d →
-        result ≡ list_all (λ i. faults.fits_scalar (faults.scalar_at d i.offset) i.value) (map initial_view values.now) }
+        result ≡ list_all (λ i. faults.fits_scalar (faults.scalar_at d i.offset) i.value)
+        (map initial_view values.now) }
 {
     for value in values {
         if !initial_fits(places, value) {
@@ -63,7 +64,8 @@ fn counted(placed: &Option<DescriptionExtent>, initial: &[InitialScalar]) -> Opt
 
 /// The bytes that count of a template; none of one whose description there is not.
 fn bytes_of(placed: &[Option<DescriptionExtent>], template: &CodedTemplate) -> Option<u32>
-    ensures { (ds : List tree.Description) → all_placed placed.now ≡ map placed_of ds → let t = coded_template_view template.now in
+    ensures { (ds : List tree.Description) → all_placed placed.now ≡ map placed_of ds →
+        let t = coded_template_view template.now in
         result ≡ counted_of (slice_get ds t.description) t.initial }
 {
     let number = usize::from(template.description);

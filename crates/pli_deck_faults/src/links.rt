@@ -47,7 +47,8 @@ fn external_stands(units: &[Member], external: &External) -> bool
 
 /// Whether the first declarations of externals are there.
 fn externals_stand(units: &[Member], externals: &[External]) -> bool
-    ensures { result ≡ list_all (λ e. spelling.has_kind e.kind (spelling.global_at (map member_view units.now) e.unit e.global)) (map external_view externals.now) }
+    ensures { result ≡ list_all (λ e. spelling.has_kind e.kind
+        (spelling.global_at (map member_view units.now) e.unit e.global)) (map external_view externals.now) }
 {
     for external in externals {
         if !external_stands(units, external) {
@@ -59,7 +60,8 @@ fn externals_stand(units: &[Member], externals: &[External]) -> bool
 
 /// Whether an external is there, and of a global's kind.
 fn variable_stands(externals: &[External], global: &CodedGlobal, link: u16) -> bool
-    ensures { result ≡ spelling.is_of_kind (module_fields.global_tag (global_view global.now)) (slice_get (map external_view externals.now) link) }
+    ensures { result ≡ spelling.is_of_kind (module_fields.global_tag (global_view global.now))
+        (slice_get (map external_view externals.now) link) }
 {
     match externals.get(usize::from(link)) {
         Some(external) => has_kind(external.kind, global),
@@ -90,7 +92,8 @@ pub fn is_external(global: &CodedGlobal) -> bool
 
 /// Whether what the external globals of a unit stand for is there.
 fn globals_linked(program: &Module, globals: &[CodedGlobal], links: &[u16]) -> bool
-    ensures { result ≡ spelling.are_good_links (module_view program.now) (filter module_fields.is_external (map global_view globals.now)) links.now }
+    ensures { result ≡ spelling.are_good_links (module_view program.now)
+        (filter module_fields.is_external (map global_view globals.now)) links.now }
 {
     let mut at: usize = 0;
     for global in globals {
@@ -109,7 +112,8 @@ fn globals_linked(program: &Module, globals: &[CodedGlobal], links: &[u16]) -> b
 
 /// Whether what the external globals of units stand for is there.
 fn units_linked(program: &Module, units: &[Member]) -> bool
-    ensures { result ≡ list_all (λ u. spelling.are_good_links (module_view program.now) (filter module_fields.is_external u.deck.code.globals) u.links) (map member_view units.now) }
+    ensures { result ≡ list_all (λ u. spelling.are_good_links (module_view program.now)
+        (filter module_fields.is_external u.deck.code.globals) u.links) (map member_view units.now) }
 {
     for unit in units {
         if !globals_linked(program, &unit.deck.code.globals, &unit.links) {

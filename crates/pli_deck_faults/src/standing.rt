@@ -3,7 +3,8 @@ ghost use Rattle.std.specs.Prelude.{◌≡◌, ◌++◌, ◌∷◌, [], nat_lt, 
 ghost use Rattle.std.specs.List.{flat_map, list_all};
 ghost use Rattle.pli_deck_write.specs.DeckFaults as faults;
 ghost use Rattle.pli_deck_write.specs.DeckFaults.{OfDescription, OfTemplate, OfValue, OfGlobal, OfBlock, OfInstruction};
-ghost use Rattle.pli_code.specs.views.CodeView.{block_view, code_view, coded_template_view, global_view, signature_view};
+ghost use Rattle.pli_code.specs.views.CodeView.{block_view, code_view, coded_template_view, global_view};
+ghost use Rattle.pli_code.specs.views.CodeView.{signature_view};
 
 use pli_code::{Block, Code, CodedGlobal, CodedSignature, CodedTemplate, Instruction};
 
@@ -80,7 +81,8 @@ fn descriptions_stand(code: &Code, numbers: &[u16]) -> bool
 /// Whether the descriptions of a signature are there.
 #[tactic(auto, using(crate::proofs::CountLemmas::mapped_passes, crate::proofs::CountLemmas::both_pass))]
 fn signature_stands(code: &Code, signature: &CodedSignature) -> bool
-    ensures { result ≡ list_all (faults.is_there (code_view code.now)) (faults.named_by_signature (signature_view signature.now)) }
+    ensures { result ≡ list_all (faults.is_there (code_view code.now))
+        (faults.named_by_signature (signature_view signature.now)) }
 {
     descriptions_stand(code, &signature.parameters) && result_stands(code, signature.result)
 }
@@ -88,14 +90,16 @@ fn signature_stands(code: &Code, signature: &CodedSignature) -> bool
 /// Whether the description of a template is there.
 #[tactic(auto, using(crate::proofs::CountLemmas::alone))]
 fn template_stands(code: &Code, template: &CodedTemplate) -> bool
-    ensures { result ≡ list_all (faults.is_there (code_view code.now)) (faults.named_by_template (coded_template_view template.now)) }
+    ensures { result ≡ list_all (faults.is_there (code_view code.now))
+        (faults.named_by_template (coded_template_view template.now)) }
 {
     has_description(code, template.description)
 }
 
 /// Whether the descriptions of templates are there.
 fn templates_stand(code: &Code, templates: &[CodedTemplate]) -> bool
-    ensures { result ≡ list_all (λ t. list_all (faults.is_there (code_view code.now)) (faults.named_by_template t)) (map coded_template_view templates.now) }
+    ensures { result ≡ list_all (λ t. list_all (faults.is_there (code_view code.now)) (faults.named_by_template t))
+        (map coded_template_view templates.now) }
 {
     for template in templates {
         if !template_stands(code, template) {
@@ -108,7 +112,8 @@ fn templates_stand(code: &Code, templates: &[CodedTemplate]) -> bool
 /// Whether what a global names is there.
 #[tactic(auto, using(crate::proofs::CountLemmas::alone))]
 fn global_stands(code: &Code, global: &CodedGlobal) -> bool
-    ensures { result ≡ list_all (faults.is_there (code_view code.now)) (faults.named_by_global (global_view global.now)) }
+    ensures { result ≡ list_all (faults.is_there (code_view code.now))
+        (faults.named_by_global (global_view global.now)) }
 {
     match global {
         CodedGlobal::OwnVariable { template, .. } => has_template(code, *template),
@@ -119,7 +124,8 @@ fn global_stands(code: &Code, global: &CodedGlobal) -> bool
 
 /// Whether what globals name is there.
 fn globals_stand(code: &Code, globals: &[CodedGlobal]) -> bool
-    ensures { result ≡ list_all (λ g. list_all (faults.is_there (code_view code.now)) (faults.named_by_global g)) (map global_view globals.now) }
+    ensures { result ≡ list_all (λ g. list_all (faults.is_there (code_view code.now)) (faults.named_by_global g))
+        (map global_view globals.now) }
 {
     for global in globals {
         if !global_stands(code, global) {
@@ -163,7 +169,8 @@ fn entry_stands(code: &Code, entry: u16) -> bool
 /// Whether a block's templates and its first instruction are there.
 #[tactic(auto, using(crate::proofs::CountLemmas::mapped_passes, crate::proofs::CountLemmas::both_pass))]
 fn frame_stands(code: &Code, variables: &[u16], entry: u16) -> bool
-    ensures { result ≡ list_all (faults.is_there (code_view code.now)) (map OfTemplate variables.now ++ OfInstruction entry ∷ []) }
+    ensures { result ≡ list_all (faults.is_there (code_view code.now))
+        (map OfTemplate variables.now ++ OfInstruction entry ∷ []) }
 {
     variables_stand(code, variables) && entry_stands(code, entry)
 }
@@ -178,7 +185,8 @@ fn block_stands(code: &Code, block: &Block) -> bool
 
 /// Whether what blocks name is there.
 fn blocks_stand(code: &Code, blocks: &[Block]) -> bool
-    ensures { result ≡ list_all (λ b. list_all (faults.is_there (code_view code.now)) (faults.named_by_block b)) (map block_view blocks.now) }
+    ensures { result ≡ list_all (λ b. list_all (faults.is_there (code_view code.now)) (faults.named_by_block b))
+        (map block_view blocks.now) }
 {
     for block in blocks {
         if !block_stands(code, block) {
@@ -216,7 +224,8 @@ fn instruction_stands(code: &Code, instruction: &Instruction) -> bool
 
 /// Whether what instructions name is there.
 fn instructions_stand(code: &Code, instructions: &[Instruction]) -> bool
-    ensures { result ≡ list_all (λ i. list_all (faults.is_there (code_view code.now)) (faults.named_by_instruction i)) instructions.now }
+    ensures { result ≡ list_all (λ i. list_all (faults.is_there (code_view code.now)) (faults.named_by_instruction i))
+        instructions.now }
 {
     for instruction in instructions {
         if !instruction_stands(code, instruction) {
@@ -230,7 +239,8 @@ fn instructions_stand(code: &Code, instructions: &[Instruction]) -> bool
 #[tactic(auto, using(crate::proofs::CountLemmas::both_pass, crate::proofs::CountLemmas::each_passes))]
 fn variables_known(code: &Code) -> bool
     ensures { let c = code_view code.now in
-        result ≡ list_all (faults.is_there c) (flat_map faults.named_by_template c.templates ++ flat_map faults.named_by_global c.globals) }
+        result ≡ list_all (faults.is_there c) (flat_map faults.named_by_template c.templates
+        ++ flat_map faults.named_by_global c.globals) }
 {
     templates_stand(code, &code.templates) && globals_stand(code, &code.globals)
 }
@@ -238,7 +248,8 @@ fn variables_known(code: &Code) -> bool
 /// Whether what the variables of code name is there, and a first block.
 #[tactic(auto, using(crate::proofs::CountLemmas::alone, crate::proofs::CountLemmas::both_pass))]
 fn tables_stand(code: &Code) -> bool
-    ensures { result ≡ list_all (faults.is_there (code_view code.now)) (faults.named_by_variables (code_view code.now)) }
+    ensures { result ≡ list_all (faults.is_there (code_view code.now))
+        (faults.named_by_variables (code_view code.now)) }
 {
     variables_known(code) && has_block(code, 0)
 }

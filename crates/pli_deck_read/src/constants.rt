@@ -151,7 +151,8 @@ fn initials_of(
     version: Version,
     bytes: &[u8],
 ) -> Result<(Vec<InitialScalar>, &[u8]), ReadError>
-    ensures { Gives (λ x. (map initial_view x.0.items, x.1.now)) result ((list_of u4 (deck_fields.initial version)).read bytes.now) }
+    ensures { Gives (λ x. (map initial_view x.0.items, x.1.now)) result
+        ((list_of u4 (deck_fields.initial version)).read bytes.now) }
 {
     let (count, rest) = word_of(bytes)?;
     many_of(alloc, &Initials { version }, count, rest)

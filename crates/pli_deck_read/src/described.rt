@@ -145,7 +145,8 @@ fn array_at<'a>(
     levels: u16,
     bytes: &'a [u8],
 ) -> Result<(Description, &'a [u8]), ReadError>
-    ensures { Gives (λ x. (description_view x.0, x.1.now)) result (described version (description_within version levels) 8 bytes.now) }
+    ensures { Gives (λ x. (description_view x.0, x.1.now)) result
+        (described version (description_within version levels) 8 bytes.now) }
 {
     let (bounds, rest) = dimensions_of(alloc, bytes)?;
     let (element, rest) = description_at(alloc, version, levels, rest)?;
@@ -162,7 +163,8 @@ fn structure_at<'a>(
     levels: u16,
     bytes: &'a [u8],
 ) -> Result<(Description, &'a [u8]), ReadError>
-    ensures { Gives (λ x. (description_view x.0, x.1.now)) result (described version (description_within version levels) 9 bytes.now) }
+    ensures { Gives (λ x. (description_view x.0, x.1.now)) result
+        (described version (description_within version levels) 9 bytes.now) }
 {
     let (count, rest) = short_within(bytes, 1, 65535)?;
     let (members, rest) = members_at(alloc, version, levels, count, rest)?;
@@ -178,7 +180,8 @@ fn members_at<'a>(
     count: u16,
     bytes: &'a [u8],
 ) -> Result<(Vec<Description>, &'a [u8]), ReadError>
-    ensures { Gives (λ x. (map description_view x.0.items, x.1.now)) result (many (description_within version levels).read count bytes.now) }
+    ensures { Gives (λ x. (map description_view x.0.items, x.1.now)) result
+        (many (description_within version levels).read count bytes.now) }
 {
     let mut members = Vec::new(alloc);
     let mut rest = bytes;
@@ -196,7 +199,8 @@ pub fn descriptions_of(
     version: Version,
     bytes: &[u8],
 ) -> Result<(Vec<Description>, &[u8]), ReadError>
-    ensures { Gives (λ x. (map description_view x.0.items, x.1.now)) result ((list (description version)).read bytes.now) }
+    ensures { Gives (λ x. (map description_view x.0.items, x.1.now)) result
+        ((list (description version)).read bytes.now) }
 {
     let (count, rest) = short_of(bytes)?;
     members_at(alloc, version, LEVELS, count, rest)

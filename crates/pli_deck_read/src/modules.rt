@@ -4,7 +4,8 @@ ghost use Rattle.std.specs.List.{filter};
 ghost use Rattle.pli_code.specs.Fields.{Answers, followed, from_to, made, shaped, u1};
 ghost use Rattle.pli_deck_write.specs.DeckFields as deck_fields;
 ghost use Rattle.pli_code.specs.Modules as plain;
-ghost use Rattle.pli_code.specs.views.CodeView.{deck_view, external_view, global_view, kind_number, member_view, module_view};
+ghost use Rattle.pli_code.specs.views.CodeView.{deck_view, external_view, global_view, kind_number, member_view};
+ghost use Rattle.pli_code.specs.views.CodeView.{module_view};
 ghost use Rattle.pli_deck_write.specs.ModuleFields as module_fields;
 ghost use Rattle.pli_deck_read.specs.Earlier.{last_of};
 ghost use Rattle.pli_base.specs.answers.FailureAnswers.{Gives};
@@ -50,7 +51,8 @@ fn comes_after(earlier: &[External], name: &Name) -> bool
 /// An external, whose name stands behind that of the one before it.
 #[tactic(auto, unfolding(pli_deck_write::specs::ModuleFields::external_behind, pli_deck_write::specs::DeckFields::name))]
 fn external_of<'a>(earlier: &[External], bytes: &'a [u8]) -> Result<(External, &'a [u8]), ReadError>
-    ensures { Gives (λ x. (external_view x.0, x.1.now)) result ((module_fields.external_behind (last_of (map external_view earlier.now))).read bytes.now) }
+    ensures { Gives (λ x. (external_view x.0, x.1.now)) result
+        ((module_fields.external_behind (last_of (map external_view earlier.now))).read bytes.now) }
 {
     let (text, rest) = name_text_of(bytes)?;
     let Some(name) = upper_name(text) else {
@@ -79,7 +81,8 @@ fn externals_at(
     count: u16,
     bytes: &[u8],
 ) -> Result<(Vec<External>, &[u8]), ReadError>
-    ensures { Gives (λ x. (map external_view x.0.items, x.1.now)) result (module_fields.many_behind module_fields.external_behind None count bytes.now) }
+    ensures { Gives (λ x. (map external_view x.0.items, x.1.now)) result
+        (module_fields.many_behind module_fields.external_behind None count bytes.now) }
 {
     let mut externals: Vec<External> = Vec::new(alloc);
     let mut rest = bytes;
@@ -97,7 +100,8 @@ fn externals_at(
 
 /// A list of externals.
 fn externals_of(alloc: Global, bytes: &[u8]) -> Result<(Vec<External>, &[u8]), ReadError>
-    ensures { Gives (λ x. (map external_view x.0.items, x.1.now)) result ((module_fields.chain module_fields.external_behind).read bytes.now) }
+    ensures { Gives (λ x. (map external_view x.0.items, x.1.now)) result
+        ((module_fields.chain module_fields.external_behind).read bytes.now) }
 {
     let (count, rest) = short_of(bytes)?;
     externals_at(alloc, count, rest)
@@ -196,7 +200,9 @@ fn contents_of(alloc: Global, version: Version, bytes: &[u8]) -> Result<(Module,
 /// The version, and what a module has after it.
 fn versioned_of(alloc: Global, bytes: &[u8]) -> Result<(Module, &[u8]), ReadError>
     ensures { Gives (λ x. (module_view x.0, x.1.now)) result
-        ((shaped module_fields.module_of module_fields.module_parts (followed (deck_fields.version_in deck_fields.any_version) module_fields.module_contents)).read bytes.now) }
+        ((shaped module_fields.module_of module_fields.module_parts
+        (followed (deck_fields.version_in deck_fields.any_version) module_fields.module_contents)).read
+        bytes.now) }
 {
     let (version, rest) = version_of(bytes, None)?;
     contents_of(alloc, version, rest)

@@ -70,7 +70,8 @@ fn number_list_of(alloc: Global, bytes: &[u8]) -> Result<(Vec<u16>, &[u8]), Read
 /// An external procedure.
 #[tactic(auto, unfolding(pli_deck_write::specs::DeckFields::name))]
 fn entry_of(alloc: Global, bytes: &[u8]) -> Result<(CodedGlobal, &[u8]), ReadError>
-    ensures { Gives (λ x. (global_view x.0, x.1.now)) result (made (λ p. code.EntryPoint p.0 p.1) (deck_fields.name ⊗ deck_fields.signature) bytes.now) }
+    ensures { Gives (λ x. (global_view x.0, x.1.now)) result
+        (made (λ p. code.EntryPoint p.0 p.1) (deck_fields.name ⊗ deck_fields.signature) bytes.now) }
 {
     let (text, rest) = name_text_of(bytes)?;
     let Some(name) = upper_name(text) else {

@@ -132,7 +132,8 @@ fn versioned_of(
     bytes: &[u8],
 ) -> Result<(Deck, &[u8]), ReadError>
     ensures { Gives (λ x. (deck_view x.0, x.1.now)) result
-        ((shaped deck_fields.deck_of deck_fields.deck_parts (followed (deck_fields.version_in (wanted_version wanted)) deck_fields.contents)).read bytes.now) }
+        ((shaped deck_fields.deck_of deck_fields.deck_parts (followed
+        (deck_fields.version_in (wanted_version wanted)) deck_fields.contents)).read bytes.now) }
 {
     let (version, rest) = version_of(bytes, wanted)?;
     contents_of(alloc, version, rest)
@@ -145,7 +146,8 @@ pub fn deck_at(
     wanted: Option<Version>,
     bytes: &[u8],
 ) -> Result<(Deck, &[u8]), ReadError>
-    ensures { Gives (λ x. (deck_view x.0, x.1.now)) result ((deck_fields.deck_in_versions (wanted_version wanted)).read bytes.now) }
+    ensures { Gives (λ x. (deck_view x.0, x.1.now)) result ((deck_fields.deck_in_versions (wanted_version wanted)).read
+        bytes.now) }
 {
     match behind(bytes, b"PLID") {
         Some(rest) => versioned_of(alloc, wanted, rest),

@@ -1,5 +1,5 @@
 -- The laws of the field of descriptions.
-use Rattle.std.proofs.Common.{◌≡◌, ℕ, zero, suc, ◌%◌, nat_eq, true, false, List, [], ◌∷◌, ◌++◌, get_or, Ok, refl, ap, ◌∙◌, arith}
+use Rattle.std.proofs.Common.{◌≡◌, ℕ, zero, suc, ◌%◌, nat_eq, true, false, List, [], ◌∷◌, ◌++◌, get_or, Ok, refl, ap, ◌∙◌}
 use Rattle.std.specs.Prelude.{int_le}
 use Rattle.pli_map.specs.Description.{Description, FixedBinary, Character, Varying, Bit, Pointer, Offset}
 use Rattle.pli_map.specs.Description.{Area, Array, Structure, Members, NoMembers, MemberThen}

@@ -57,7 +57,8 @@ fn put_area_size(out: &mut Vec<u8>, bytes: u32) -> Result<(), AllocError>
 /// spelling: a tag that nothing has is put for what is too deep.
 #[cycle(put_description)]
 fn put_within(out: &mut Vec<u8>, levels: u16, value: &Description) -> Result<(), AllocError>
-    ensures { OnOk result (out.new.items ≡ out.old.items ++ (description_within written levels).bytes_of (description_view value.now)) }
+    ensures { OnOk result (out.new.items ≡ out.old.items ++ (description_within written levels).bytes_of
+        (description_view value.now)) }
 {
     if levels == 0 {
         return put_byte(out, 0);
@@ -89,7 +90,8 @@ fn put_within(out: &mut Vec<u8>, levels: u16, value: &Description) -> Result<(),
 /// Puts descriptions one behind another.
 #[cycle(put_description)]
 fn put_members(out: &mut Vec<u8>, levels: u16, members: &[Description]) -> Result<(), AllocError>
-    ensures { OnOk result (out.new.items ≡ out.old.items ++ flat_map (description_within written levels).bytes_of (map description_view members.now)) }
+    ensures { OnOk result (out.new.items ≡ out.old.items ++ flat_map (description_within written levels).bytes_of
+        (map description_view members.now)) }
 {
     for member in members {
         put_within(out, levels, member)?;

@@ -8,8 +8,8 @@ ghost use Rattle.pli_deck_write.specs.examples.DeckExamples.{WrittenSo, ReadSo};
 ghost use Rattle.pli_deck_write.specs.examples.FaultExamples.{DeckFaultsAre};
 ghost use Rattle.pli_deck_write.specs.examples.ModuleExamples.{ModulesWrittenSo, ModulesReadSo, ModuleFaultsAre};
 
-/// A law: in each version, a description that is read is spelled by the bytes that were there, and one that is spelled is
-/// read again, whatever stands behind it.
+/// A law: in each version, a description that is read is spelled by the bytes that were there, and one that is spelled
+/// is read again, whatever stands behind it.
 pub fn descriptions_both_ways()
     ensures { (v : Version) → BothWays (description v) }
 {}

@@ -57,7 +57,8 @@ fn put_member(alloc: Global, out: &mut Vec<u8>, unit: &LentMember<'_>) -> Result
 
 /// Puts units one behind another.
 fn put_members(alloc: Global, out: &mut Vec<u8>, units: &[LentMember<'_>]) -> Result<(), AllocError>
-    ensures { OnOk result (out.new.items ≡ out.old.items ++ flat_map module_fields.member_bytes (map lent_member_view units.now)) }
+    ensures { OnOk result (out.new.items ≡ out.old.items ++ flat_map module_fields.member_bytes
+        (map lent_member_view units.now)) }
 {
     for unit in units {
         put_member(alloc, out, unit)?;

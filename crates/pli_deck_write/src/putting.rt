@@ -7,7 +7,8 @@ ghost use Rattle.pli_deck_write.specs.DeckFields as deck_fields;
 ghost use Rattle.pli_program.specs.Templates as templates;
 ghost use Rattle.pli_type_tree.specs.views.TemplateView.{initial_view};
 ghost use Rattle.pli_code.specs.CodeTables as tables;
-ghost use Rattle.pli_code.specs.views.CodeView.{block_view, coded_template_view, global_view, kind_view, signature_view};
+ghost use Rattle.pli_code.specs.views.CodeView.{block_view, coded_template_view, global_view, kind_view};
+ghost use Rattle.pli_code.specs.views.CodeView.{signature_view};
 ghost use Rattle.pli_value.specs.Value as values;
 ghost use Rattle.pli_value.specs.Value.{value_view};
 
@@ -45,7 +46,8 @@ impl PutsOne for Numbers {
 /// Puts a list of numbers.
 #[tactic(auto, using(crate::proofs::PutLemmas::unmapped))]
 pub fn put_numbers(out: &mut Vec<u8>, numbers: &[u16]) -> Result<(), AllocError>
-    ensures { OnOk result (out.new.items ≡ out.old.items ++ (big_bytes 2 (length numbers.now) ++ flat_map u2.bytes_of numbers.now)) }
+    ensures { OnOk result (out.new.items ≡ out.old.items ++ (big_bytes 2 (length numbers.now)
+        ++ flat_map u2.bytes_of numbers.now)) }
 {
     put_list(out, &Numbers, numbers)
 }
@@ -53,7 +55,8 @@ pub fn put_numbers(out: &mut Vec<u8>, numbers: &[u16]) -> Result<(), AllocError>
 /// Puts the parameters' descriptions, with a count of one byte.
 #[tactic(auto, using(crate::proofs::PutLemmas::unmapped))]
 fn put_parameters(out: &mut Vec<u8>, parameters: &[u16]) -> Result<(), AllocError>
-    ensures { OnOk result (out.new.items ≡ out.old.items ++ (big_bytes 1 (length parameters.now) ++ flat_map u2.bytes_of parameters.now)) }
+    ensures { OnOk result (out.new.items ≡ out.old.items ++ (big_bytes 1 (length parameters.now)
+        ++ flat_map u2.bytes_of parameters.now)) }
 {
     put_small_count(out, parameters.len())?;
     put_all(out, &Numbers, parameters)
@@ -62,7 +65,8 @@ fn put_parameters(out: &mut Vec<u8>, parameters: &[u16]) -> Result<(), AllocErro
 /// Puts a signature.
 #[tactic(auto, unfolding(crate::specs::DeckFields::signature))]
 pub fn put_signature(out: &mut Vec<u8>, signature: &CodedSignature) -> Result<(), AllocError>
-    ensures { OnOk result (out.new.items ≡ out.old.items ++ deck_fields.signature.bytes_of (signature_view signature.now)) }
+    ensures { OnOk result (out.new.items ≡ out.old.items ++ deck_fields.signature.bytes_of
+        (signature_view signature.now)) }
 {
     put_parameters(out, signature.parameters.as_slice())?;
     put_optional(out, signature.result)
@@ -82,7 +86,8 @@ fn locator_tag(locator: Locator) -> u8
 /// Puts a constant, with a number as the version has it.
 #[tactic(auto, unfolding(crate::specs::DeckFields::constant))]
 fn put_constant(out: &mut Vec<u8>, version: Version, constant: &Value) -> Result<(), AllocError>
-    ensures { OnOk result (out.new.items ≡ out.old.items ++ (deck_fields.constant version).bytes_of (value_view constant.now)) }
+    ensures { OnOk result (out.new.items ≡ out.old.items ++ (deck_fields.constant version).bytes_of
+        (value_view constant.now)) }
 {
     match constant {
         Value::Number(number) => {
@@ -171,7 +176,8 @@ impl PutsOne for Templates {
 
 /// Puts a tag, a name and a number of two bytes.
 fn put_shared(out: &mut Vec<u8>, tag: u8, name: &Name, template: u16) -> Result<(), AllocError>
-    ensures { OnOk result (out.new.items ≡ out.old.items ++ (tag ∷ (deck_fields.name ⊗ u2).bytes_of (name.now, template))) }
+    ensures { OnOk result (out.new.items ≡ out.old.items ++ (tag
+        ∷ (deck_fields.name ⊗ u2).bytes_of (name.now, template))) }
 {
     put_byte(out, tag)?;
     put_name(out, name)?;

@@ -36,7 +36,8 @@ fn put_spelled_members(
     decks: &[&[u8]],
 ) -> Result<(), AllocError>
     requires { AreDecks (map (λ d. d.now) decks.now) (map lent_member_view units.now) }
-    ensures { OnOk result (out.new.items ≡ out.old.items ++ flat_map module_fields.member_bytes (map lent_member_view units.now)) }
+    ensures { OnOk result (out.new.items ≡ out.old.items ++ flat_map module_fields.member_bytes
+        (map lent_member_view units.now)) }
 {
     for (at, unit) in units.iter().enumerate() {
         put_spelled(out, unit, decks[at])?;

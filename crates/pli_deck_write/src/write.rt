@@ -46,7 +46,8 @@ fn put_deck(out: &mut Vec<u8>, deck: &Deck) -> Result<(), AllocError>
     put_contents(out, deck)
 }
 
-/// The bytes of a deck in its version, which are its one spelling where it has one. An error comes where memory runs out.
+/// The bytes of a deck in its version, which are its one spelling where it has one. An error comes where memory runs
+/// out.
 pub fn write_deck(alloc: Global, deck: &Deck) -> Result<Vec<u8>, AllocError>
     ensures bytes { IfOk result (λ v. v.items ≡ deck_bytes (deck_view deck.now)) }
     ensures spelled { IsDeck (deck_view deck.now) → IfOk result (λ v. SpellsDeck v.items (deck_view deck.now)) }

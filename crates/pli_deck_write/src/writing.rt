@@ -159,7 +159,8 @@ pub fn put_list<P: PutsOne>(
     writer: &P,
     values: &[P::Value],
 ) -> Result<(), AllocError>
-    ensures { OnOk result (out.new.items ≡ out.old.items ++ (big_bytes 2 (length values.now) ++ flat_map (P.bytes_of writer.now) (map P.say values.now))) }
+    ensures { OnOk result (out.new.items ≡ out.old.items ++ (big_bytes 2 (length values.now)
+        ++ flat_map (P.bytes_of writer.now) (map P.say values.now))) }
 {
     put_count(out, values.len())?;
     put_all(out, writer, values)

@@ -1,10 +1,11 @@
 //! A law of the faults of declarations; worked examples of them, and of resolved units.
 ghost use Rattle.pli_declare.specs.laws.FaultLaws.{FaultsAreLeastCodes};
-ghost use Rattle.pli_declare.specs.examples.ResolutionExamples.{OfOneName, OfItems, TwoMembers, UndeclaredNames, Groups, Units, Blocks, Locators, Parameters};
+ghost use Rattle.pli_declare.specs.examples.ResolutionExamples.{OfOneName, OfItems, TwoMembers, UndeclaredNames};
+ghost use Rattle.pli_declare.specs.examples.ResolutionExamples.{Groups, Units, Blocks, Locators, Parameters};
 ghost use Rattle.pli_declare.specs.examples.ResolvedExamples.{OneVariable, Hiding, Jump, Located, Areas, OfMembers};
 
-/// A law: a fault is answered exactly where a declared name, a parameter, a reference or a label at its token has its code as the
-/// least, both ways.
+/// A law: a fault is answered exactly where a declared name, a parameter, a reference or a label at its token has its
+/// code as the least, both ways.
 pub fn faults_are_least_codes()
     ensures { FaultsAreLeastCodes }
 {}

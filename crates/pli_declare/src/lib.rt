@@ -1,4 +1,5 @@
-//! What a unit without faults in its declarations declares, and what its names mean; which faults there are, as definitions.
+//! What a unit without faults in its declarations declares, and what its names mean; which faults there are, as
+//! definitions.
 #![tactic(auto)]
 
 mod block;

@@ -32,8 +32,8 @@ pub struct UnitMeanings {
     pub named: NamedMeanings,
 }
 
-/// A unit whose declarations have no faults: its tree, with what each of its blocks declares and what each name means. Contracts
-/// see the tree.
+/// A unit whose declarations have no faults: its tree, with what each of its blocks declares and what each name means.
+/// Contracts see the tree.
 #[derive(Drop)]
 pub struct Resolved<'a> {
     unit: &'a Procedure,
@@ -55,7 +55,8 @@ impl<'a> Model for Resolved<'a> {
 
     ghost view = { λ r. r.unit.now };
 
-    ghost invariant = { λ r. IsResolvedOf (unit_view r.unit.now) r.regions.items r.outermost.items r.blocks.items r.meanings.uses r.meanings.named.areas r.meanings.named.locators };
+    ghost invariant = { λ r. IsResolvedOf (unit_view r.unit.now) r.regions.items r.outermost.items r.blocks.items
+        r.meanings.uses r.meanings.named.areas r.meanings.named.locators };
 }
 
 /// The same meanings.
@@ -69,7 +70,8 @@ impl NamedMeanings {
     /// The same meanings.
     fn copy(&self) -> Result<NamedMeanings, AllocError>
         ensures areas { IfOk result (λ copied. (at : ℕ) → get nat_eq copied.areas at ≡ get nat_eq self.now.areas at) }
-        ensures locators { IfOk result (λ copied. (at : ℕ) → get nat_eq copied.locators at ≡ get nat_eq self.now.locators at) }
+        ensures locators { IfOk result (λ copied. (at : ℕ) →
+            get nat_eq copied.locators at ≡ get nat_eq self.now.locators at) }
     {
         Ok(NamedMeanings {
             areas: copied_meanings(&self.areas)?,
@@ -82,8 +84,10 @@ impl UnitMeanings {
     /// The same meanings.
     fn copy(&self) -> Result<UnitMeanings, AllocError>
         ensures uses { IfOk result (λ copied. (at : ℕ) → get nat_eq copied.uses at ≡ get nat_eq self.now.uses at) }
-        ensures areas { IfOk result (λ copied. (at : ℕ) → get nat_eq copied.named.areas at ≡ get nat_eq self.now.named.areas at) }
-        ensures locators { IfOk result (λ copied. (at : ℕ) → get nat_eq copied.named.locators at ≡ get nat_eq self.now.named.locators at) }
+        ensures areas { IfOk result (λ copied. (at : ℕ) → get nat_eq copied.named.areas at
+            ≡ get nat_eq self.now.named.areas at) }
+        ensures locators { IfOk result (λ copied. (at : ℕ) →
+            get nat_eq copied.named.locators at ≡ get nat_eq self.now.named.locators at) }
     {
         Ok(UnitMeanings {
             uses: copied_meanings(&self.uses)?,
@@ -93,7 +97,8 @@ impl UnitMeanings {
 }
 
 impl<'a> Resolved<'a> {
-    /// The resolved unit of a tree, of all that the pass that resolves it has found: what blocks declare, and what names mean.
+    /// The resolved unit of a tree, of all that the pass that resolves it has found: what blocks declare, and what
+    /// names mean.
     pub fn new(
         unit: &'a Procedure,
         regions: Vec<Region>,
@@ -101,7 +106,8 @@ impl<'a> Resolved<'a> {
         blocks: Vec<BlockDeclarations<'a>>,
         meanings: UnitMeanings,
     ) -> Resolved<'a>
-        requires { IsResolvedOf (unit_view unit.now) regions.items outermost.items blocks.items meanings.uses meanings.named.areas meanings.named.locators }
+        requires { IsResolvedOf (unit_view unit.now) regions.items outermost.items blocks.items meanings.uses
+            meanings.named.areas meanings.named.locators }
         ensures { result ≡ unit.now }
     {
         Resolved {

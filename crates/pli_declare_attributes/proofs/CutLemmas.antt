@@ -1,5 +1,5 @@
 -- A count of elements that is cut at the limit changes no fault.
-use Rattle.std.proofs.Common.{◌≡◌, ℕ, zero, suc, ◌*◌, ◌≤◌, ◌<◌, min, Bool, not, ◌||◌, ◌&&◌, nat_lt, true, false, if◌then◌else◌, Option, Some, None, option_map, List, [], ◌∷◌, map, arith, ap, sym, ◌∙◌, inl, inr, refl}
+use Rattle.std.proofs.Common.{◌≡◌, ℕ, zero, suc, ◌*◌, ◌≤◌, ◌<◌, min, Bool, not, ◌||◌, ◌&&◌, nat_lt, true, false, if◌then◌else◌, Option, Some, None, option_map, List, [], ◌∷◌, map, arith, ap, inl, inr, refl}
 use Rattle.std.specs.List.{list_all}
 use Rattle.std.specs.Option.{option_or}
 use Rattle.std.proofs.lemmas.Bool.{cases_lt}
@@ -13,7 +13,7 @@ use Rattle.pli_declare_attributes.specs.Sets as sets
 use Rattle.pli_declare_attributes.specs.Types.{number_of, scalar_of}
 use Rattle.pli_declare_attributes.specs.Extents.{all_bounds, are_bad_bounds}
 use Rattle.pli_declare_attributes.specs.Agreement.{set_agrees, is_missing}
-use Rattle.pli_declare_attributes.specs.Initials.{values_in, fits, all_given, is_more_than, elements_of, elements_inside, is_bad_initial}
+use Rattle.pli_declare_attributes.specs.Initials.{values_in, fits, all_given, is_more_than, elements_inside, is_bad_initial}
 use Rattle.pli_declare_attributes.specs.Faults.{first_of, lesser, shape_fault, is_bad_area, area_fault, own_fault, attributes_fault, item_fault, parameters_fault, parameters_in, returned_fault, returned_in, entry_fault}
 use Rattle.pli_declare_attributes.specs.Completed.{variable_of, completed_of}
 use Rattle.pli_declare_attributes.specs.answers.Cuts.{most_elements, cut, cut_place}

@@ -1,15 +1,19 @@
 //! Which attributes agree, and which are missing.
 ghost use Rattle.std.specs.Prelude.{◌≡◌, [], ◌∷◌};
 ghost use Rattle.std.specs.Int.RustNames.{bit_and};
-ghost use Rattle.pli_declare_attributes.specs.Sets.{fixed, binary, automatic, static, based, controlled, internal, external, is_one_of, data_attributes, storage_attributes, scope_attributes};
-ghost use Rattle.pli_declare_attributes.specs.Agreement.{is_at_level_one, may_have_members, excluded_at, data_types, is_plain, agrees_as_entry, agrees_as_built_in, agrees_as_variable, set_agrees, is_missing};
+ghost use Rattle.pli_declare_attributes.specs.Sets.{fixed, binary, automatic, static, based, controlled, internal};
+ghost use Rattle.pli_declare_attributes.specs.Sets.{external, is_one_of, data_attributes, storage_attributes};
+ghost use Rattle.pli_declare_attributes.specs.Sets.{scope_attributes};
+ghost use Rattle.pli_declare_attributes.specs.Agreement.{is_at_level_one, may_have_members, excluded_at, data_types};
+ghost use Rattle.pli_declare_attributes.specs.Agreement.{is_plain, agrees_as_entry, agrees_as_built_in};
+ghost use Rattle.pli_declare_attributes.specs.Agreement.{agrees_as_variable, set_agrees, is_missing};
 
 use crate::place::{ItemPlace, Position};
 use crate::set::AttributeSet;
 use bitflags::Flags;
 
-/// Whether the data attributes are those of one data type. Of FIXED and BINARY one may be missing, and so may all: these are
-/// faults of their own.
+/// Whether the data attributes are those of one data type. Of FIXED and BINARY one may be missing, and so may all:
+/// these are faults of their own.
 fn has_one_data_type(set: AttributeSet) -> bool
     ensures { result ≡ is_one_of (bit_and set.0 data_attributes) data_types }
 {

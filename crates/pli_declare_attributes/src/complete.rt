@@ -4,10 +4,13 @@ ghost use Rattle.std.specs.List.{list_any};
 ghost use Rattle.pli_base.specs.views.DeclarationView.{described_view, parameter_view, attribute_view, item_view};
 ghost use Rattle.pli_map.specs.views.DescriptionView.{description_view};
 ghost use Rattle.pli_declare_attributes.specs.Extents.{are_bad_bounds};
-ghost use Rattle.pli_declare_attributes.specs.Faults.{parameter_of, parameter_fault, parameters_fault, described_scalar, is_too_large, with_bounds, own_fault, returned_fault, returned_in};
+ghost use Rattle.pli_declare_attributes.specs.Faults.{parameter_of, parameter_fault, parameters_fault};
+ghost use Rattle.pli_declare_attributes.specs.Faults.{described_scalar, is_too_large, with_bounds, own_fault};
+ghost use Rattle.pli_declare_attributes.specs.Faults.{returned_fault, returned_in};
 ghost use Rattle.pli_declare_attributes.specs.Faults as spec;
 ghost use Rattle.pli_declare_attributes.specs.Completed.{storage_at, storage_of, scope_of, variable_of, completed_of};
-ghost use Rattle.pli_declare_attributes.specs.views.CompletedView.{variable_view, completed_view, IsCompleted, IsResult};
+ghost use Rattle.pli_declare_attributes.specs.views.CompletedView.{variable_view, completed_view, IsCompleted};
+ghost use Rattle.pli_declare_attributes.specs.views.CompletedView.{IsResult};
 
 use crate::completed::{Completed, DeclaredStorage, ScopeAttribute, Variable};
 use crate::extents::all_described;
@@ -96,7 +99,8 @@ pub(crate) fn parameters(
     descriptions: &[ParameterDescription],
 ) -> Result<Vec<Description>, AllocError>
     requires { parameters_fault (map parameter_view descriptions.now) ≡ None }
-    ensures { IfOk result (λ ds. map description_view ds.items ≡ map parameter_of (map parameter_view descriptions.now)) }
+    ensures { IfOk result (λ ds. map description_view ds.items
+        ≡ map parameter_of (map parameter_view descriptions.now)) }
 {
     let mut all = Vec::with_capacity(alloc, descriptions.len())?;
     for description in descriptions {
@@ -128,7 +132,8 @@ fn result_type(attributes: &[DescribedAttribute]) -> Description
 /// What the attributes in an item's RETURNS say, where they have no fault.
 fn returned_type(attributes: &[Attribute]) -> Option<Description>
     requires { returned_fault (returned_in (map attribute_view attributes.now)) ≡ None }
-    ensures { option_map description_view result ≡ option_map described_scalar (returned_in (map attribute_view attributes.now)) }
+    ensures { option_map description_view result ≡ option_map described_scalar
+        (returned_in (map attribute_view attributes.now)) }
 {
     match returned_of(attributes) {
         Some(returned) => Some(result_type(returned)),
@@ -173,8 +178,9 @@ fn variable<'a>(
     })
 }
 
-/// What an item is, by its attributes with their defaults; or the least of A3 to A7, A9 and A13 to A15 that holds, apart from
-/// faults of the names and the level that stand in it (own). Memory is taken only where the attributes have no fault.
+/// What an item is, by its attributes with their defaults; or the least of A3 to A7, A9 and A13 to A15 that holds,
+/// apart from faults of the names and the level that stand in it (own). Memory is taken only where the attributes have
+/// no fault.
 pub fn completed_item<'a>(
     alloc: Global,
     place: ItemPlace,

@@ -17,8 +17,10 @@ use std::alloc::{AllocError, Global};
 
 /// The type that an item's attributes say, with its defaults, where precision and length are good.
 pub fn scalar_description(attributes: &[Attribute]) -> Description
-    requires precision { let stood = map outermost (map attribute_view attributes.now) in is_bad_precision (set_of stood) (number_of stood) ≡ false }
-    requires length { let stood = map outermost (map attribute_view attributes.now) in is_bad_length (set_of stood) (number_of stood) ≡ false }
+    requires precision { let stood = map outermost (map attribute_view attributes.now) in is_bad_precision
+        (set_of stood) (number_of stood) ≡ false }
+    requires length { let stood = map outermost (map attribute_view attributes.now) in is_bad_length (set_of stood)
+        (number_of stood) ≡ false }
     ensures { description_view result ≡ described_scalar (map outermost (map attribute_view attributes.now)) }
 {
     scalar(Summary::of_item(attributes))
@@ -32,7 +34,8 @@ pub fn array_description(
     element: Description,
 ) -> Result<Description, AllocError>
     requires { are_bad_bounds dimensions.now ≡ false }
-    ensures { IfOk result (λ d. description_view d ≡ with_bounds (all_bounds dimensions.now) (description_view element)) }
+    ensures { IfOk result (λ d. description_view d ≡ with_bounds (all_bounds dimensions.now)
+        (description_view element)) }
 {
     let bounds = all_described(alloc, dimensions)?;
     bounded(alloc, bounds, element)

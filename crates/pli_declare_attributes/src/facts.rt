@@ -22,8 +22,8 @@ use std::alloc::{AllocError, Global};
 /// How many parameters an entry may have (own).
 const PARAMETER_LIMIT: usize = 64;
 
-/// An item with what its attributes say, whatever its name is and wherever it stands. It is made once for an item, and then
-/// answers for each of its names without a further look at the attributes.
+/// An item with what its attributes say, whatever its name is and wherever it stands. It is made once for an item, and
+/// then answers for each of its names without a further look at the attributes.
 #[derive(Clone, Copy)]
 pub struct ItemFacts<'a> {
     pub item: &'a Item,
@@ -39,13 +39,17 @@ pub struct ItemFacts<'a> {
     ghost is_set: { summary.set.0 ≡ set_of (map outermost (map attribute_view item.now.attributes.items)) },
     ghost is_once: { summary.once ≡ each_once 0 (map outermost (map attribute_view item.now.attributes.items)) },
     ghost is_number: { summary.number ≡ number_of (map outermost (map attribute_view item.now.attributes.items)) },
-    ghost are_fitting: { is_bad_precision summary.set.0 summary.number ≡ false → is_bad_length summary.set.0 summary.number ≡ false
-        → values_fit ≡ list_all (fits (scalar_of summary.set.0 summary.number)) (values_in (map attribute_view item.now.attributes.items)) },
+    ghost are_fitting: { is_bad_precision summary.set.0 summary.number ≡ false →
+        is_bad_length summary.set.0 summary.number ≡ false
+        → values_fit ≡ list_all (fits (scalar_of summary.set.0 summary.number))
+        (values_in (map attribute_view item.now.attributes.items)) },
     ghost are_given: { values_given ≡ all_given (values_in (map attribute_view item.now.attributes.items)) },
     ghost are_few: { values_given ≤ 340282366920938463463374607431768211455 },
-    ghost is_held: { held ≡ spec.lesser (parameters_fault (parameters_in (map attribute_view item.now.attributes.items)))
+    ghost is_held: { held ≡ spec.lesser (parameters_fault (parameters_in
+        (map attribute_view item.now.attributes.items)))
         (returned_fault (returned_in (map attribute_view item.now.attributes.items))) },
-    ghost is_of_sizes: { held ≡ None → sizes ≡ spec.entry_fault (parameters_in (map attribute_view item.now.attributes.items)) },
+    ghost is_of_sizes: { held ≡ None → sizes ≡ spec.entry_fault
+        (parameters_in (map attribute_view item.now.attributes.items)) },
 }
 
 /// Whether each value is of the type that attributes say, where its numbers are good.
@@ -99,7 +103,8 @@ fn sizes_where(
 ) -> Result<Option<Code>, AllocError>
     requires { held ≡ spec.lesser (parameters_fault (parameters_in (map attribute_view attributes.now)))
         (returned_fault (returned_in (map attribute_view attributes.now))) }
-    ensures { IfOk result (λ fault. held ≡ None → fault ≡ spec.entry_fault (parameters_in (map attribute_view attributes.now))) }
+    ensures { IfOk result (λ fault. held ≡ None → fault ≡ spec.entry_fault
+        (parameters_in (map attribute_view attributes.now))) }
 {
     if held.is_some() {
         return Ok(None);
@@ -108,7 +113,8 @@ fn sizes_where(
 }
 
 impl<'a> ItemFacts<'a> {
-    /// What the attributes of an item say. Memory is taken only for the parameters of an ENTRY whose descriptions have no fault.
+    /// What the attributes of an item say. Memory is taken only for the parameters of an ENTRY whose descriptions have
+    /// no fault.
     pub fn of(alloc: Global, item: &'a Item) -> Result<ItemFacts<'a>, AllocError>
         ensures { IfOk result (λ facts. item_view facts.item.now ≡ item_view item.now) }
     {

@@ -100,7 +100,8 @@ fn bad_initial(place: ItemPlace, facts: &ItemFacts) -> bool
     requires length { is_bad_length facts.now.summary.set.0 facts.now.summary.number ≡ false }
     requires bounds { are_bad_bounds facts.now.item.now.dimensions.items ≡ false }
     ensures { let item = item_view facts.now.item.now in
-        result ≡ is_bad_initial place item.dimensions facts.now.summary.set.0 facts.now.summary.number (values_in item.attributes) }
+        result ≡ is_bad_initial place item.dimensions facts.now.summary.set.0 facts.now.summary.number
+        (values_in item.attributes) }
 {
     let set = facts.summary.set;
     set.has(AttributeSet::INITIAL)
@@ -181,8 +182,8 @@ fn attributes_fault(place: ItemPlace, facts: &ItemFacts) -> Option<Code>
     lesser(own_fault(place, facts), facts.held)
 }
 
-/// The least of A3 to A7, A9 and A13 to A15 that holds of an item at a place, apart from faults of the names and the level that
-/// stand in it (own). That the number of elements above is cut at a limit changes nothing.
+/// The least of A3 to A7, A9 and A13 to A15 that holds of an item at a place, apart from faults of the names and the
+/// level that stand in it (own). That the number of elements above is cut at a limit changes nothing.
 pub fn item_fault(place: ItemPlace, facts: &ItemFacts) -> Option<Code>
     ensures here { result ≡ spec.item_fault place (item_view facts.now.item.now) }
     ensures whole { (p : SpecPlace) → place ≡ cut_place p → result ≡ spec.item_fault p (item_view facts.now.item.now) }

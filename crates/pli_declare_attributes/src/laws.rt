@@ -1,6 +1,10 @@
 //! Laws of attributes, and worked examples.
-ghost use Rattle.pli_declare_attributes.specs.laws.Laws.{SetsAreOfWhatStands, ResultsAreScalars, ParametersAreOfScalars, VariablesAreOfScalars};
-ghost use Rattle.pli_declare_attributes.specs.examples.Examples.{Defaults, StorageClasses, Arrays, Structures, Entries, TypesConflict, StorageConflicts, OtherConflicts, Missing, BadNumbers, BadInitials, BadAreas, PartsOfEntries};
+ghost use Rattle.pli_declare_attributes.specs.laws.Laws.{SetsAreOfWhatStands, ResultsAreScalars};
+ghost use Rattle.pli_declare_attributes.specs.laws.Laws.{ParametersAreOfScalars, VariablesAreOfScalars};
+ghost use Rattle.pli_declare_attributes.specs.examples.Examples.{Defaults, StorageClasses, Arrays, Structures, Entries};
+ghost use Rattle.pli_declare_attributes.specs.examples.Examples.{TypesConflict, StorageConflicts, OtherConflicts};
+ghost use Rattle.pli_declare_attributes.specs.examples.Examples.{Missing, BadNumbers, BadInitials, BadAreas};
+ghost use Rattle.pli_declare_attributes.specs.examples.Examples.{PartsOfEntries};
 
 /// Items with their faults, and what they are completed to.
 pub fn worked_examples()

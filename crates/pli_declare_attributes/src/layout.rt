@@ -39,7 +39,8 @@ fn area_layout(size: u64) -> Option<Layout>
 /// What a type takes, whatever the number in it is, or `None` where it is over the limit.
 #[tactic(auto, unfolding(crate::specs::Types::scalar_of))]
 fn summary_layout(summary: Summary) -> Option<Layout>
-    ensures { IsLayout result (size_of (scalar_of summary.set.0 summary.number)) (alignment_of (scalar_of summary.set.0 summary.number)) }
+    ensures { IsLayout result (size_of (scalar_of summary.set.0 summary.number))
+        (alignment_of (scalar_of summary.set.0 summary.number)) }
 {
     let set = summary.set;
     let number = summary.number;
@@ -71,11 +72,13 @@ pub fn scalar_layout(attributes: &[Attribute]) -> Option<Layout>
     summary_layout(Summary::of_item(attributes))
 }
 
-/// What an array takes of these dimensions, which are good, and of elements of this layout; or `None` where it is over the limit.
+/// What an array takes of these dimensions, which are good, and of elements of this layout; or `None` where it is over
+/// the limit.
 #[tactic(auto, using(crate::proofs::ShapeLemmas::bounds_good, crate::proofs::CountLemmas::enough))]
 pub fn array_layout(element: Layout, dimensions: &[WrittenBounds]) -> Option<Layout>
     requires { are_bad_bounds dimensions.now ≡ false }
-    ensures { IsLayout result (count_of (all_bounds dimensions.now) * next_multiple_of element.bytes element.alignment) element.alignment }
+    ensures { IsLayout result (count_of (all_bounds dimensions.now) * next_multiple_of element.bytes element.alignment)
+        element.alignment }
 {
     let count = elements(1, dimensions).min(u128::from(u64::MAX)) as u64;
     element.times(count)

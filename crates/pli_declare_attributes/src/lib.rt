@@ -1,4 +1,5 @@
-//! What the attributes of one declared name say, apart from other names: whether they agree, what they are completed to, and their least fault.
+//! What the attributes of one declared name say, apart from other names: whether they agree, what they are completed
+//! to, and their least fault.
 #![tactic(auto)]
 
 mod agreement;

@@ -1,7 +1,8 @@
 //! What an item is to BASED and OFFSET, which name others.
 ghost use Rattle.std.specs.Prelude.{◌≡◌, ◌+◌, ◌||◌, map};
 ghost use Rattle.pli_base.specs.views.DeclarationView.{item_view};
-ghost use Rattle.pli_declare_attributes.specs.Sets.{has, none_of, set_of, outermost, entry, built_in, based, pointer, offset, area};
+ghost use Rattle.pli_declare_attributes.specs.Sets.{has, none_of, set_of, outermost, entry, built_in, based, pointer};
+ghost use Rattle.pli_declare_attributes.specs.Sets.{offset, area};
 
 use crate::facts::ItemFacts;
 use crate::set::AttributeSet;
@@ -20,10 +21,13 @@ pub struct Named {
 impl Named {
     /// Of an item.
     pub fn of_item(facts: &ItemFacts) -> Named
-        ensures variable { result.is_variable ≡ none_of (set_of (map outermost (item_view facts.now.item.now).attributes)) (entry + built_in) }
-        ensures locator { result.is_locator ≡ (has (set_of (map outermost (item_view facts.now.item.now).attributes)) pointer || has (set_of (map outermost (item_view facts.now.item.now).attributes)) offset) }
+        ensures variable { result.is_variable ≡ none_of (set_of
+            (map outermost (item_view facts.now.item.now).attributes)) (entry + built_in) }
+        ensures locator { result.is_locator ≡ (has (set_of (map outermost (item_view facts.now.item.now).attributes))
+            pointer || has (set_of (map outermost (item_view facts.now.item.now).attributes)) offset) }
         ensures area { result.is_area ≡ has (set_of (map outermost (item_view facts.now.item.now).attributes)) area }
-        ensures not_based { result.is_not_based ≡ none_of (set_of (map outermost (item_view facts.now.item.now).attributes)) based }
+        ensures not_based { result.is_not_based ≡ none_of (set_of
+            (map outermost (item_view facts.now.item.now).attributes)) based }
     {
         let set = facts.summary.set;
         let other = AttributeSet::ENTRY.and(AttributeSet::BUILTIN);

@@ -21,8 +21,9 @@ pub struct ItemPlace {
     pub has_members: bool,
     /// Whether a level above it has dimensions.
     pub in_array: bool,
-    /// How many elements the dimensions of the levels above make together, 1 without any; `None` where one of them has bad bounds.
-    /// The greatest number may stand for every greater one, since the values of one INITIAL are for no more elements.
+    /// How many elements the dimensions of the levels above make together, 1 without any; `None` where one of them has
+    /// bad bounds. The greatest number may stand for every greater one, since the values of one INITIAL are for no more
+    /// elements.
     pub elements_above: Option<u128>,
     /// Whether the name is that of a built-in function.
     pub built_in_name: bool,

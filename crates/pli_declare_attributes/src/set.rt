@@ -45,10 +45,14 @@ impl Flags for AttributeSet {
 
     ghost exact = { ⊤ };
 
-    ghost table = { (codes "FIXED", 1) ∷ (codes "BINARY", 2) ∷ (codes "CHARACTER", 4) ∷ (codes "VARYING", 8) ∷ (codes "BIT", 16) ∷ (codes "POINTER", 32) ∷ (codes "OFFSET", 64)
-        ∷ (codes "AREA", 128) ∷ (codes "AUTOMATIC", 256) ∷ (codes "STATIC", 512) ∷ (codes "BASED", 1024) ∷ (codes "CONTROLLED", 2048) ∷ (codes "INTERNAL", 4096)
-        ∷ (codes "EXTERNAL", 8192) ∷ (codes "INITIAL", 16384) ∷ (codes "BUILTIN", 32768) ∷ (codes "ENTRY", 65536) ∷ (codes "RETURNS", 131072)
-        ∷ (codes "PRECISION", 262144) ∷ (codes "FIXED_BINARY", 3) ∷ (codes "VARYING_CHARACTER", 12) ∷ (codes "DATA", 255) ∷ (codes "STORAGE", 3840) ∷ (codes "SCOPE", 12288) ∷ [] };
+    ghost table = { (codes "FIXED", 1) ∷ (codes "BINARY", 2) ∷ (codes "CHARACTER", 4) ∷ (codes "VARYING", 8)
+        ∷ (codes "BIT", 16) ∷ (codes "POINTER", 32) ∷ (codes "OFFSET", 64)
+        ∷ (codes "AREA", 128) ∷ (codes "AUTOMATIC", 256) ∷ (codes "STATIC", 512) ∷ (codes "BASED", 1024)
+        ∷ (codes "CONTROLLED", 2048) ∷ (codes "INTERNAL", 4096)
+        ∷ (codes "EXTERNAL", 8192) ∷ (codes "INITIAL", 16384) ∷ (codes "BUILTIN", 32768) ∷ (codes "ENTRY", 65536)
+        ∷ (codes "RETURNS", 131072)
+        ∷ (codes "PRECISION", 262144) ∷ (codes "FIXED_BINARY", 3) ∷ (codes "VARYING_CHARACTER", 12)
+        ∷ (codes "DATA", 255) ∷ (codes "STORAGE", 3840) ∷ (codes "SCOPE", 12288) ∷ [] };
 
     ghost set_of = { λ s. s.0 };
 

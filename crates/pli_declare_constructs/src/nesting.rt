@@ -91,8 +91,8 @@ impl Nesting {
         }
     }
 
-    /// Whether a GOTO in a region reaches a label in the list of another: one that encloses it (X3.74), but out of an ON-unit none in
-    /// a group of the block in which the ON stands (own).
+    /// Whether a GOTO in a region reaches a label in the list of another: one that encloses it (X3.74), but out of an
+    /// ON-unit none in a group of the block in which the ON stands (own).
     pub fn reaches(&self, from: usize, label: usize) -> bool
         ensures { result ≡ reaches self.now from label }
     {

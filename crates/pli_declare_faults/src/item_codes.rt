@@ -38,7 +38,8 @@ impl Known<'_> {
         is_good: bool,
     ) -> Option<Code>
         requires { is_good ≡ entity_is_good (outline_view self.now.scopes.outline.now) block (entity_view entity) }
-        ensures { result ≡ least_of (entity_codes (outline_view self.now.scopes.outline.now) block judged.code judged.is_too_large (entity_view entity.entry)) }
+        ensures { result ≡ least_of (entity_codes (outline_view self.now.scopes.outline.now) block judged.code
+            judged.is_too_large (entity_view entity.entry)) }
     {
         match entity {
             Entity::Item {
@@ -55,7 +56,8 @@ impl Known<'_> {
         }
     }
 
-    /// The least code of the name of this number in a block, where the names in its attributes are known to be good or not.
+    /// The least code of the name of this number in a block, where the names in its attributes are known to be good or
+    /// not.
     fn item_code(&self, block: usize, number: usize, is_good: bool) -> Option<Code>
         requires block { block < length self.now.scopes.outline.now.regions.items + 1 }
         requires number { number < length (entries_in (outline_view self.now.scopes.outline.now) block) }
@@ -80,7 +82,8 @@ impl Known<'_> {
         requires block { block < length self.now.scopes.outline.now.regions.items + 1 }
         requires good { good.now ≡ block_goodness (outline_view self.now.scopes.outline.now) block }
         ensures { IfOk result (λ codes. codes.items
-            ≡ map (item_code (outline_view self.now.scopes.outline.now) block) (numbers_from 0 (length (entries_in (outline_view self.now.scopes.outline.now) block)))) }
+            ≡ map (item_code (outline_view self.now.scopes.outline.now) block)
+            (numbers_from 0 (length (entries_in (outline_view self.now.scopes.outline.now) block)))) }
     {
         let count = self.table(block).entries.len();
         let mut codes = Vec::with_capacity(alloc, count)?;

@@ -33,7 +33,8 @@ impl<'a> Known<'a> {
     pub(crate) fn judged(&self, block: usize, number: usize) -> Judged
         requires block { block < length self.now.scopes.outline.now.regions.items + 1 }
         requires number { number < length (entries_in (outline_view self.now.scopes.outline.now) block) }
-        ensures { let o = outline_view self.now.scopes.outline.now in result ≡ judged_at (entries_in o block) (parameters_of o block) number }
+        ensures { let o = outline_view self.now.scopes.outline.now in result
+            ≡ judged_at (entries_in o block) (parameters_of o block) number }
     {
         self.judged[block][number]
     }

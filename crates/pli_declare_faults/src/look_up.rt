@@ -34,8 +34,8 @@ fn decided(found: Found, block: Option<usize>) -> Looked
     }
 }
 
-/// What names that stand in a region mean: the innermost block round it that declares the first of them decides (X3.74), and at
-/// last the outermost, which declares the unit's own name.
+/// What names that stand in a region mean: the innermost block round it that declares the first of them decides
+/// (X3.74), and at last the outermost, which declares the unit's own name.
 pub(crate) fn look_up(scopes: &Scopes, region: usize, names: &[Name]) -> Looked
     ensures { IsLookedUp result (outline_view scopes.now.outline.now) region names.now }
 {

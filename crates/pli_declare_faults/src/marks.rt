@@ -23,7 +23,8 @@ use pli_declare_constructs::Nesting;
 use pli_declare_outline::{Mark, Outline, PlacedMark};
 use std::alloc::{AllocError, Global};
 
-/// The faults of names that have these numbers in a block of these codes, from the first on. Gives the number behind them.
+/// The faults of names that have these numbers in a block of these codes, from the first on. Gives the number behind
+/// them.
 fn tell_names(
     codes: &[Option<Code>],
     first: usize,
@@ -51,7 +52,8 @@ fn tell_items(
 ) -> Result<usize, AllocError>
     requires { first + length (flat_map (λ i. i.names) (map item_view items.now)) ≤ length codes.now }
     ensures number { IfOk result (λ n. n ≡ first + length (flat_map (λ i. i.names) (map item_view items.now))) }
-    ensures faults { OnOk result (faults.new.items ≡ faults.old.items ++ name_faults codes.now first (flat_map (λ i. i.names) (map item_view items.now))) }
+    ensures faults { OnOk result (faults.new.items ≡ faults.old.items
+        ++ name_faults codes.now first (flat_map (λ i. i.names) (map item_view items.now))) }
 {
     let mut number = first;
     for item in items {
@@ -69,7 +71,8 @@ fn tell_declared(
 ) -> Result<usize, AllocError>
     requires { first + length (declared_names (mark_view mark.now)) ≤ length codes.now }
     ensures number { IfOk result (λ n. n ≡ first + length (declared_names (mark_view mark.now))) }
-    ensures faults { OnOk result (faults.new.items ≡ faults.old.items ++ name_faults codes.now first (declared_names (mark_view mark.now))) }
+    ensures faults { OnOk result (faults.new.items ≡ faults.old.items
+        ++ name_faults codes.now first (declared_names (mark_view mark.now))) }
 {
     match mark {
         Mark::Declared(items) => tell_items(codes, first, items, faults),
@@ -88,8 +91,10 @@ fn tell_reference(
     faults: &mut Vec<Fault>,
     uses: &mut Vec<Use>,
 ) -> Result<(), AllocError>
-    ensures faults { OnOk result (faults.new.items ≡ faults.old.items ++ used_faults (outline_view scopes.now.outline.now) here (Used names.now)) }
-    ensures uses { OnOk result (uses.new.items ≡ uses.old.items ++ uses_at (outline_view scopes.now.outline.now) here (Used names.now)) }
+    ensures faults { OnOk result (faults.new.items ≡ faults.old.items
+        ++ used_faults (outline_view scopes.now.outline.now) here (Used names.now)) }
+    ensures uses { OnOk result (uses.new.items ≡ uses.old.items
+        ++ uses_at (outline_view scopes.now.outline.now) here (Used names.now)) }
 {
     let Some(first) = names.first() else {
         return Ok(());
@@ -107,8 +112,10 @@ fn tell_jump(
     faults: &mut Vec<Fault>,
     uses: &mut Vec<Use>,
 ) -> Result<(), AllocError>
-    ensures faults { OnOk result (faults.new.items ≡ faults.old.items ++ used_faults (outline_view scopes.now.outline.now) here (Jumped label)) }
-    ensures uses { OnOk result (uses.new.items ≡ uses.old.items ++ uses_at (outline_view scopes.now.outline.now) here (Jumped label)) }
+    ensures faults { OnOk result (faults.new.items ≡ faults.old.items
+        ++ used_faults (outline_view scopes.now.outline.now) here (Jumped label)) }
+    ensures uses { OnOk result (uses.new.items ≡ uses.old.items
+        ++ uses_at (outline_view scopes.now.outline.now) here (Jumped label)) }
 {
     let used = jump(scopes, here, label.name);
     tell(faults, label.at, used.code)?;
@@ -125,7 +132,8 @@ fn tell_used(
 ) -> Result<(), AllocError>
     ensures faults { OnOk result (let o = outline_view scopes.now.outline.now in let mark = mark_view placed.now.mark in
         faults.new.items ≡ faults.old.items ++ parameter_faults o mark ++ used_faults o placed.now.region mark) }
-    ensures uses { OnOk result (uses.new.items ≡ uses.old.items ++ uses_at (outline_view scopes.now.outline.now) placed.now.region (mark_view placed.now.mark)) }
+    ensures uses { OnOk result (uses.new.items ≡ uses.old.items
+        ++ uses_at (outline_view scopes.now.outline.now) placed.now.region (mark_view placed.now.mark)) }
 {
     let here = placed.region;
     match &placed.mark {
@@ -166,8 +174,8 @@ pub(crate) fn block_of(outline: &Outline, nesting: &Nesting, region: usize) -> u
     }
 }
 
-/// The faults of the marks behind the first, in their order, where codes are those of each name of each block; and what the names
-/// mean that they use.
+/// The faults of the marks behind the first, in their order, where codes are those of each name of each block; and what
+/// the names mean that they use.
 pub(crate) fn tell_marks(
     alloc: Global,
     scopes: &Scopes,
@@ -178,8 +186,10 @@ pub(crate) fn tell_marks(
 ) -> Result<(), AllocError>
     requires codes { AreCodes (map (λ list. list.items) codes.now) (outline_view scopes.now.outline.now) }
     requires marks { marks_view marks.now ≡ inner_marks (outline_view scopes.now.outline.now).marks }
-    ensures faults { OnOk result (faults.new.items ≡ faults.old.items ++ faults_after (outline_view scopes.now.outline.now) [] (marks_view marks.now)) }
-    ensures uses { OnOk result (uses.new.items ≡ uses.old.items ++ of_marks (uses_at (outline_view scopes.now.outline.now)) (marks_view marks.now)) }
+    ensures faults { OnOk result (faults.new.items ≡ faults.old.items
+        ++ faults_after (outline_view scopes.now.outline.now) [] (marks_view marks.now)) }
+    ensures uses { OnOk result (uses.new.items ≡ uses.old.items
+        ++ of_marks (uses_at (outline_view scopes.now.outline.now)) (marks_view marks.now)) }
 {
     let mut next = Vec::from_elem(alloc, 0, codes.len())?;
     for placed in marks {

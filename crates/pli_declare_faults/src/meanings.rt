@@ -9,7 +9,8 @@ use std::alloc::{AllocError, Global};
 
 /// Notes what the name at a token means.
 fn note(meanings: &mut IndexMap<u32, Target>, one: Use) -> Result<(), AllocError>
-    ensures { OnOk result ((at : ℕ) → get nat_eq meanings.new at ≡ (if nat_eq one.at at then Some one.target else get nat_eq meanings.old at)) }
+    ensures { OnOk result ((at : ℕ) → get nat_eq meanings.new at
+        ≡ (if nat_eq one.at at then Some one.target else get nat_eq meanings.old at)) }
 {
     meanings.insert(one.at, one.target)?;
     Ok(())

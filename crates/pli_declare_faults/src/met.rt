@@ -7,7 +7,8 @@ ghost use Rattle.pli_declare_outline.specs.views.OutlineView.{outline_view};
 ghost use Rattle.pli_declare_variables.specs.AttributeNames.{plain_of, simple_of};
 ghost use Rattle.pli_declare_variables.specs.Declarations.{returned_by};
 ghost use Rattle.pli_declare_variables.specs.Places.{is_locator, is_area};
-ghost use Rattle.pli_declare.specs.Resolution.{is_good, simple_is_good, described_is_good, attribute_is_good, returned_are};
+ghost use Rattle.pli_declare.specs.Resolution.{is_good, simple_is_good, described_is_good, attribute_is_good};
+ghost use Rattle.pli_declare.specs.Resolution.{returned_are};
 ghost use Rattle.pli_declare_faults.specs.answers.Answers.{IsLookedUp};
 ghost use Rattle.pli_declare_faults.specs.answers.Meeting.{Meets, nothing_met};
 
@@ -26,7 +27,8 @@ struct Meant {
     is_area: bool,
 }
 
-/// What was met in attributes: whether all names in them are good, and what those of the first area and of the first locator mean.
+/// What was met in attributes: whether all names in them are good, and what those of the first area and of the first
+/// locator mean.
 #[derive(Clone, Copy)]
 pub struct Met {
     pub are_good: bool,
@@ -52,7 +54,8 @@ impl Known<'_> {
     #[tactic(auto, using(crate::proofs::Goodness::found_fits, crate::proofs::Goodness::several_fit, crate::proofs::Goodness::nothing_fits, crate::proofs::Goodness::unit_is_no_locator, crate::proofs::Goodness::unit_is_no_area))]
     fn meant(&self, block: usize, names: &[Name]) -> Meant
         ensures looked { IsLookedUp result.looked (outline_view self.now.scopes.outline.now) block names.now }
-        ensures locator { result.is_locator ≡ is_good (outline_view self.now.scopes.outline.now) block is_locator names.now }
+        ensures locator { result.is_locator ≡ is_good (outline_view self.now.scopes.outline.now) block is_locator
+            names.now }
         ensures area { result.is_area ≡ is_good (outline_view self.now.scopes.outline.now) block is_area names.now }
     {
         let looked = look_up(&self.scopes, block, names);
@@ -79,7 +82,8 @@ impl Known<'_> {
     /// What is met up to an attribute, of what was met before it.
     fn meet_simple(&self, block: usize, attribute: &SimpleAttribute, met: Met) -> Met
         ensures { let o = outline_view self.now.scopes.outline.now in
-            Meets met result o block (simple_is_good o block (simple_view attribute.now)) (simple_view attribute.now ∷ []) }
+            Meets met result o block (simple_is_good o block (simple_view attribute.now))
+            (simple_view attribute.now ∷ []) }
     {
         match attribute {
             SimpleAttribute::Offset(Some(name)) => {
@@ -105,7 +109,8 @@ impl Known<'_> {
     /// The same of an attribute of a description.
     fn meet_plain(&self, block: usize, attribute: &DescribedAttribute, met: Met) -> Met
         ensures { let o = outline_view self.now.scopes.outline.now in
-            Meets met result o block (described_is_good o block (described_view attribute.now)) (plain_of (described_view attribute.now)) }
+            Meets met result o block (described_is_good o block (described_view attribute.now))
+            (plain_of (described_view attribute.now)) }
     {
         match attribute {
             DescribedAttribute::Simple(attribute) => self.meet_simple(block, attribute, met),
@@ -116,7 +121,8 @@ impl Known<'_> {
     /// What is met up to the last attribute of a description.
     fn meet_described(&self, block: usize, attributes: &[DescribedAttribute], before: Met) -> Met
         ensures { let o = outline_view self.now.scopes.outline.now in
-            Meets before result o block (list_all (described_is_good o block) (map described_view attributes.now)) (flat_map plain_of (map described_view attributes.now)) }
+            Meets before result o block (list_all (described_is_good o block) (map described_view attributes.now))
+            (flat_map plain_of (map described_view attributes.now)) }
     {
         let mut met = before;
         for attribute in attributes {
@@ -127,7 +133,8 @@ impl Known<'_> {
 
     /// Whether the names in descriptions of parameters are good.
     fn descriptions_are_good(&self, block: usize, descriptions: &[ParameterDescription]) -> bool
-        ensures { result ≡ list_all (λ d. list_all (described_is_good (outline_view self.now.scopes.outline.now) block) d.attributes) (map parameter_view descriptions.now) }
+        ensures { result ≡ list_all (λ d. list_all (described_is_good (outline_view self.now.scopes.outline.now) block)
+            d.attributes) (map parameter_view descriptions.now) }
     {
         for description in descriptions {
             let attributes = description.attributes.as_slice();
@@ -141,11 +148,12 @@ impl Known<'_> {
         true
     }
 
-    /// What is met up to an attribute of an item, of what was met before it. Descriptions of parameters name no area or locator of the
-    /// item's own.
+    /// What is met up to an attribute of an item, of what was met before it. Descriptions of parameters name no area or
+    /// locator of the item's own.
     fn meet_attribute(&self, block: usize, attribute: &Attribute, met: Met) -> Met
         ensures { let o = outline_view self.now.scopes.outline.now in
-            Meets met result o block (attribute_is_good o block (attribute_view attribute.now)) (simple_of (attribute_view attribute.now)) }
+            Meets met result o block (attribute_is_good o block (attribute_view attribute.now))
+            (simple_of (attribute_view attribute.now)) }
     {
         match attribute {
             Attribute::Simple(attribute) => self.meet_simple(block, attribute, met),
@@ -165,7 +173,8 @@ impl Known<'_> {
     /// What is met in the attributes of an item.
     pub(crate) fn meet_attributes(&self, block: usize, attributes: &[Attribute]) -> Met
         ensures { let o = outline_view self.now.scopes.outline.now in
-            Meets nothing_met result o block (list_all (attribute_is_good o block) (map attribute_view attributes.now)) (flat_map simple_of (map attribute_view attributes.now)) }
+            Meets nothing_met result o block (list_all (attribute_is_good o block)
+            (map attribute_view attributes.now)) (flat_map simple_of (map attribute_view attributes.now)) }
     {
         let mut met = Met::nothing();
         for attribute in attributes {
@@ -178,7 +187,8 @@ impl Known<'_> {
     pub(crate) fn meet_returned(&self, block: usize, procedure: &Procedure) -> Met
         ensures { let o = outline_view self.now.scopes.outline.now in
             let heading = (unit_view procedure.now).heading in
-            Meets nothing_met result o block (returned_are (list_all (described_is_good o block)) heading) (flat_map plain_of (flat_map (λ attributes. attributes) (returned_by heading.options))) }
+            Meets nothing_met result o block (returned_are (list_all (described_is_good o block)) heading)
+            (flat_map plain_of (flat_map (λ attributes. attributes) (returned_by heading.options))) }
     {
         let mut met = Met::nothing();
         let options = options_of(procedure);

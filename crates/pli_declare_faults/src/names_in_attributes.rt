@@ -1,5 +1,5 @@
-//! For each declared name whether the names of locators and areas in its attributes are good, and what they mean: looked up once for an
-//! item, whatever number of names it has.
+//! For each declared name whether the names of locators and areas in its attributes are good, and what they mean:
+//! looked up once for an item, whatever number of names it has.
 ghost use Rattle.std.specs.Prelude.{◌≡◌, ◌<◌, ℕ, ◌++◌, List, [], length, map, get_or, slice_set, IfOk, OnOk};
 ghost use Rattle.std.specs.List.{flat_map};
 ghost use Rattle.pli_base.specs.Name.{Name};
@@ -84,9 +84,14 @@ impl Known<'_> {
         areas: &mut Vec<Use>,
         locators: &mut Vec<Use>,
     ) -> Result<(), AllocError>
-        ensures answers { OnOk result (answers.new.items ≡ answers.old.items ++ flat_map (item_goodness (outline_view self.now.scopes.outline.now) block) (map item_view items.now)) }
-        ensures areas { OnOk result (areas.new.items ≡ areas.old.items ++ flat_map (item_names (outline_view self.now.scopes.outline.now) block area_in) (map item_view items.now)) }
-        ensures locators { OnOk result (locators.new.items ≡ locators.old.items ++ flat_map (item_names (outline_view self.now.scopes.outline.now) block locator_in) (map item_view items.now)) }
+        ensures answers { OnOk result (answers.new.items ≡ answers.old.items
+            ++ flat_map (item_goodness (outline_view self.now.scopes.outline.now) block) (map item_view items.now)) }
+        ensures areas { OnOk result (areas.new.items ≡ areas.old.items
+            ++ flat_map (item_names (outline_view self.now.scopes.outline.now) block area_in)
+            (map item_view items.now)) }
+        ensures locators { OnOk result (locators.new.items ≡ locators.old.items
+            ++ flat_map (item_names (outline_view self.now.scopes.outline.now) block locator_in)
+            (map item_view items.now)) }
     {
         for item in items {
             let met = self.meet_attributes(block, item.attributes.as_slice());
@@ -106,9 +111,12 @@ impl Known<'_> {
         areas: &mut Vec<Use>,
         locators: &mut Vec<Use>,
     ) -> Result<(), AllocError>
-        ensures answers { OnOk result (answers.new.items ≡ answers.old.items ++ mark_goodness (outline_view self.now.scopes.outline.now) block (mark_view mark.now)) }
-        ensures areas { OnOk result (areas.new.items ≡ areas.old.items ++ areas_at (outline_view self.now.scopes.outline.now) block (mark_view mark.now)) }
-        ensures locators { OnOk result (locators.new.items ≡ locators.old.items ++ locators_at (outline_view self.now.scopes.outline.now) block (mark_view mark.now)) }
+        ensures answers { OnOk result (answers.new.items ≡ answers.old.items
+            ++ mark_goodness (outline_view self.now.scopes.outline.now) block (mark_view mark.now)) }
+        ensures areas { OnOk result (areas.new.items ≡ areas.old.items
+            ++ areas_at (outline_view self.now.scopes.outline.now) block (mark_view mark.now)) }
+        ensures locators { OnOk result (locators.new.items ≡ locators.old.items
+            ++ locators_at (outline_view self.now.scopes.outline.now) block (mark_view mark.now)) }
     {
         match mark {
             Mark::Declared(items) => self.append_items(block, items, answers, areas, locators)?,
@@ -136,22 +144,26 @@ impl Known<'_> {
         ensures answers { OnOk result (
             let before = map (λ list. list.items) all.old.items in
             map (λ list. list.items) all.new.items
-            ≡ slice_set before block (get_or before block [] ++ mark_goodness (outline_view self.now.scopes.outline.now) block (mark_view mark.now))) }
-        ensures areas { OnOk result (areas.new.items ≡ areas.old.items ++ areas_at (outline_view self.now.scopes.outline.now) block (mark_view mark.now)) }
-        ensures locators { OnOk result (locators.new.items ≡ locators.old.items ++ locators_at (outline_view self.now.scopes.outline.now) block (mark_view mark.now)) }
+            ≡ slice_set before block (get_or before block []
+            ++ mark_goodness (outline_view self.now.scopes.outline.now) block (mark_view mark.now))) }
+        ensures areas { OnOk result (areas.new.items ≡ areas.old.items
+            ++ areas_at (outline_view self.now.scopes.outline.now) block (mark_view mark.now)) }
+        ensures locators { OnOk result (locators.new.items ≡ locators.old.items
+            ++ locators_at (outline_view self.now.scopes.outline.now) block (mark_view mark.now)) }
     {
         self.append_mark(block, mark, &mut all[block], areas, locators)
     }
 
-    /// For each name of each block whether the names of locators and areas in its attributes are good; and what the first area and the
-    /// first locator mean, at each name, behind others.
+    /// For each name of each block whether the names of locators and areas in its attributes are good; and what the
+    /// first area and the first locator mean, at each name, behind others.
     pub(crate) fn names_in_attributes(
         &self,
         alloc: Global,
         areas: &mut Vec<Use>,
         locators: &mut Vec<Use>,
     ) -> Result<Vec<Vec<bool>>, AllocError>
-        ensures good { IfOk result (λ all. AreGoodness (map (λ list. list.items) all.items) (outline_view self.now.scopes.outline.now)) }
+        ensures good { IfOk result (λ all. AreGoodness (map (λ list. list.items) all.items)
+            (outline_view self.now.scopes.outline.now)) }
         ensures areas { let o = outline_view self.now.scopes.outline.now in
             OnOk result (areas.new.items ≡ areas.old.items ++ of_marks (areas_at o) (inner_marks o.marks)) }
         ensures locators { let o = outline_view self.now.scopes.outline.now in

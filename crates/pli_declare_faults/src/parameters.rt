@@ -39,7 +39,8 @@ fn append_at(
 ) -> Result<(), AllocError>
     ensures { OnOk result (
         let before = map (λ list. list.items) all.old.items in
-        map (λ list. list.items) all.new.items ≡ slice_set before region (get_or before region [] ++ map (λ i. i.name) parameters.now)) }
+        map (λ list. list.items) all.new.items ≡ slice_set before region
+        (get_or before region [] ++ map (λ i. i.name) parameters.now)) }
 {
     let Some(names) = all.get_mut(region) else {
         return Ok(());
@@ -82,7 +83,8 @@ pub(crate) fn judged_blocks(
 
 /// The names of the items at level 1.
 fn item_names(alloc: Global, entries: &[Entry]) -> Result<IndexSet<Name>, AllocError>
-    ensures { IfOk result (λ names. (name : Characters) → list_any (same_name name) names.keys ≡ list_any (is_item_named name) (entries_view entries.now)) }
+    ensures { IfOk result (λ names. (name : Characters) → list_any (same_name name) names.keys
+        ≡ list_any (is_item_named name) (entries_view entries.now)) }
 {
     let mut names = IndexSet::new(alloc);
     for entry in entries {
@@ -101,7 +103,8 @@ fn block_names(
     block: usize,
 ) -> Result<IndexSet<Name>, AllocError>
     requires { AreOf tables.now (outline_view outline.now) }
-    ensures { IfOk result (λ names. (name : Characters) → list_any (same_name name) names.keys ≡ list_any (is_item_named name) (entries_in (outline_view outline.now) block)) }
+    ensures { IfOk result (λ names. (name : Characters) → list_any (same_name name) names.keys
+        ≡ list_any (is_item_named name) (entries_in (outline_view outline.now) block)) }
 {
     match tables.blocks.get(block) {
         Some(table) => item_names(alloc, &table.entries),
@@ -122,7 +125,8 @@ fn parameter_code(is_new: bool, is_item: bool) -> Option<Code>
     }
 }
 
-/// Tells the fault of a parameter of a procedure whose items at level 1 have these names, and puts its name to those before the next.
+/// Tells the fault of a parameter of a procedure whose items at level 1 have these names, and puts its name to those
+/// before the next.
 #[tactic(auto, using(crate::proofs::ParameterNames::not_not))]
 fn tell_parameter(
     items: &IndexSet<Name>,
@@ -130,17 +134,20 @@ fn tell_parameter(
     parameter: &Identifier,
     faults: &mut Vec<Fault>,
 ) -> Result<(), AllocError>
-    ensures before { OnOk result (before.new.keys ≡ (if list_any (same_name parameter.now.name) before.old.keys then before.old.keys else before.old.keys ++ parameter.now.name ∷ [])) }
+    ensures before { OnOk result (before.new.keys ≡ (if list_any
+        (same_name parameter.now.name) before.old.keys then before.old.keys else before.old.keys ++ parameter.now.name
+        ∷ [])) }
     ensures told { OnOk result (faults.new.items ≡ faults.old.items
-        ++ at_token parameter.now.at (code_of_parameter (list_any (same_name parameter.now.name) before.old.keys) (list_any (same_name parameter.now.name) items.now.keys))) }
+        ++ at_token parameter.now.at (code_of_parameter (list_any (same_name parameter.now.name) before.old.keys)
+        (list_any (same_name parameter.now.name) items.now.keys))) }
 {
     let is_new = before.insert(parameter.name)?;
     let code = parameter_code(is_new, items.contains(&parameter.name));
     tell(faults, parameter.at, code)
 }
 
-/// The faults of the parameters of the procedure that is a region: A2 where one before it has its name, A4 where no item at level 1
-/// of its block has it.
+/// The faults of the parameters of the procedure that is a region: A2 where one before it has its name, A4 where no
+/// item at level 1 of its block has it.
 pub(crate) fn tell_parameters(
     alloc: Global,
     outline: &Outline,
@@ -150,7 +157,8 @@ pub(crate) fn tell_parameters(
     faults: &mut Vec<Fault>,
 ) -> Result<(), AllocError>
     requires { AreOf tables.now (outline_view outline.now) }
-    ensures { OnOk result (faults.new.items ≡ faults.old.items ++ parameter_codes (outline_view outline.now) region [] parameters.now) }
+    ensures { OnOk result (faults.new.items ≡ faults.old.items
+        ++ parameter_codes (outline_view outline.now) region [] parameters.now) }
 {
     if parameters.is_empty() {
         return Ok(());

@@ -80,7 +80,8 @@ fn outermost<'a>(
 ) -> Result<Vec<Declaration<'a>>, AllocError>
     requires tabled { AreOf tables.now (outline_view outline.now) }
     requires faultless { outline_faults (outline_view outline.now) (outline_view outline.now).marks ≡ [] }
-    ensures { IfOk result (λ declarations. map declaration_view declarations.items ≡ declared_in (unit_entries (outline_view outline.now).marks) []) }
+    ensures { IfOk result (λ declarations. map declaration_view declarations.items
+        ≡ declared_in (unit_entries (outline_view outline.now).marks) []) }
 {
     declare(alloc, &tables.unit.entries, &[])
 }
@@ -109,10 +110,14 @@ fn resolved<'a>(
     told: &Told,
 ) -> Result<Resolved<'a>, AllocError>
     requires outlined { outline_view scopes.now.outline.now ≡ outline_of (unit_view unit.now) }
-    requires faultless { outline_faults (outline_view scopes.now.outline.now) (outline_view scopes.now.outline.now).marks ≡ [] }
-    requires uses { told.now.uses.items ≡ of_marks (uses_at (outline_view scopes.now.outline.now)) (inner_marks (outline_view scopes.now.outline.now).marks) }
-    requires areas { told.now.areas.items ≡ of_marks (areas_at (outline_view scopes.now.outline.now)) (inner_marks (outline_view scopes.now.outline.now).marks) }
-    requires locators { told.now.locators.items ≡ of_marks (locators_at (outline_view scopes.now.outline.now)) (inner_marks (outline_view scopes.now.outline.now).marks) }
+    requires faultless { outline_faults (outline_view scopes.now.outline.now)
+        (outline_view scopes.now.outline.now).marks ≡ [] }
+    requires uses { told.now.uses.items ≡ of_marks (uses_at (outline_view scopes.now.outline.now))
+        (inner_marks (outline_view scopes.now.outline.now).marks) }
+    requires areas { told.now.areas.items ≡ of_marks (areas_at (outline_view scopes.now.outline.now))
+        (inner_marks (outline_view scopes.now.outline.now).marks) }
+    requires locators { told.now.locators.items ≡ of_marks (locators_at (outline_view scopes.now.outline.now))
+        (inner_marks (outline_view scopes.now.outline.now).marks) }
     ensures { IfOk result (λ r. r ≡ unit.now) }
 {
     let regions = Vec::from_slice(alloc, &scopes.outline.regions)?;
@@ -148,8 +153,8 @@ fn resolve_told<'a>(
     Ok(resolved(alloc, unit, &scopes, &told)?)
 }
 
-/// The resolved unit of a tree whose outline is given, or all faults of its declarations and uses: for each declared name and
-/// each reference the least code, in the order of their tokens.
+/// The resolved unit of a tree whose outline is given, or all faults of its declarations and uses: for each declared
+/// name and each reference the least code, in the order of their tokens.
 pub fn resolve<'a>(
     alloc: Global,
     unit: &'a Procedure,

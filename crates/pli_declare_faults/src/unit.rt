@@ -26,7 +26,8 @@ fn codes_of_blocks(
     good: &Vec<Vec<bool>>,
 ) -> Result<Vec<Vec<Option<Code>>>, AllocError>
     requires { AreGoodness (map (λ list. list.items) good.now.items) (outline_view known.now.scopes.outline.now) }
-    ensures { IfOk result (λ codes. AreCodes (map (λ list. list.items) codes.items) (outline_view known.now.scopes.outline.now)) }
+    ensures { IfOk result (λ codes. AreCodes (map (λ list. list.items) codes.items)
+        (outline_view known.now.scopes.outline.now)) }
 {
     let mut codes = Vec::new(alloc);
     for block in 0..known.scopes.outline.regions.len() + 1 {
@@ -42,7 +43,8 @@ fn codes_of(
     areas: &mut Vec<Use>,
     locators: &mut Vec<Use>,
 ) -> Result<Vec<Vec<Option<Code>>>, AllocError>
-    ensures codes { IfOk result (λ codes. AreCodes (map (λ list. list.items) codes.items) (outline_view scopes.now.outline.now)) }
+    ensures codes { IfOk result (λ codes. AreCodes (map (λ list. list.items) codes.items)
+        (outline_view scopes.now.outline.now)) }
     ensures areas { let o = outline_view scopes.now.outline.now in
         OnOk result (areas.new.items ≡ areas.old.items ++ of_marks (areas_at o) (inner_marks o.marks)) }
     ensures locators { let o = outline_view scopes.now.outline.now in
@@ -67,7 +69,8 @@ fn tell_unit(
     faults: &mut Vec<Fault>,
 ) -> Result<(), AllocError>
     requires { AreOf tables.now (outline_view outline.now) }
-    ensures { OnOk result (faults.new.items ≡ faults.old.items ++ unit_faults (outline_view outline.now) (placed_view first.now)) }
+    ensures { OnOk result (faults.new.items ≡ faults.old.items
+        ++ unit_faults (outline_view outline.now) (placed_view first.now)) }
 {
     let Mark::Entered { procedure, region } = &first.mark else {
         return Ok(());
@@ -84,8 +87,8 @@ fn tell_unit(
     )
 }
 
-/// The faults of the marks of an outline, what the names mean that they use, and what the areas and the locators in the attributes of
-/// declared names mean, each behind others.
+/// The faults of the marks of an outline, what the names mean that they use, and what the areas and the locators in the
+/// attributes of declared names mean, each behind others.
 fn tell_outline(
     alloc: Global,
     scopes: &Scopes,
@@ -111,8 +114,8 @@ fn tell_outline(
     tell_marks(alloc, scopes, &codes, marks, faults, uses)
 }
 
-/// All faults of an outline; what each reference and the label of each GOTO means; and what the areas and the locators in the
-/// attributes of declared names mean.
+/// All faults of an outline; what each reference and the label of each GOTO means; and what the areas and the locators
+/// in the attributes of declared names mean.
 #[derive(Drop)]
 pub(crate) struct Told {
     pub faults: Vec<Fault>,
@@ -123,10 +126,14 @@ pub(crate) struct Told {
 
 /// What is told of the marks of an outline.
 pub(crate) fn outline_told(alloc: Global, scopes: &Scopes) -> Result<Told, AllocError>
-    ensures faults { let o = outline_view scopes.now.outline.now in IfOk result (λ told. told.faults.items ≡ outline_faults o o.marks) }
-    ensures uses { let o = outline_view scopes.now.outline.now in IfOk result (λ told. told.uses.items ≡ of_marks (uses_at o) (inner_marks o.marks)) }
-    ensures areas { let o = outline_view scopes.now.outline.now in IfOk result (λ told. told.areas.items ≡ of_marks (areas_at o) (inner_marks o.marks)) }
-    ensures locators { let o = outline_view scopes.now.outline.now in IfOk result (λ told. told.locators.items ≡ of_marks (locators_at o) (inner_marks o.marks)) }
+    ensures faults { let o = outline_view scopes.now.outline.now in IfOk result (λ told. told.faults.items
+        ≡ outline_faults o o.marks) }
+    ensures uses { let o = outline_view scopes.now.outline.now in IfOk result (λ told. told.uses.items
+        ≡ of_marks (uses_at o) (inner_marks o.marks)) }
+    ensures areas { let o = outline_view scopes.now.outline.now in IfOk result (λ told. told.areas.items
+        ≡ of_marks (areas_at o) (inner_marks o.marks)) }
+    ensures locators { let o = outline_view scopes.now.outline.now in IfOk result (λ told. told.locators.items
+        ≡ of_marks (locators_at o) (inner_marks o.marks)) }
 {
     let mut faults = Vec::new(alloc);
     let mut uses = Vec::new(alloc);

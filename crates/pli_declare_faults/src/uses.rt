@@ -47,9 +47,11 @@ fn names_of(alloc: Global, identifiers: &[Identifier]) -> Result<Vec<Name>, Allo
 
 /// What a reference means, of whose names this was found, and its fault. Ambiguous names mean nothing.
 fn reference_with(names: &[Identifier], looked: Looked) -> Used
-    ensures code { (o : Outlined) (here : ℕ) → IsLookedUp looked o here (names_of names.now) → result.code ≡ reference_code names.now (meant (scope_of o here) (names_of names.now)) }
+    ensures code { (o : Outlined) (here : ℕ) → IsLookedUp looked o here (names_of names.now) →
+        result.code ≡ reference_code names.now (meant (scope_of o here) (names_of names.now)) }
     ensures target { (o : Outlined) (here at : ℕ) → IsLookedUp looked o here (names_of names.now)
-        → target_uses at result.target ≡ used_as o here at (function_use at names.now) (meant (scope_of o here) (names_of names.now)) }
+        → target_uses at result.target ≡ used_as o here at (function_use at names.now)
+        (meant (scope_of o here) (names_of names.now)) }
 {
     match looked {
         Looked::Found { block, number } => Used {
@@ -78,7 +80,8 @@ fn meant_by(
     here: usize,
     names: &[Identifier],
 ) -> Result<Looked, AllocError>
-    ensures { IfOk result (λ looked. IsLookedUp looked (outline_view scopes.now.outline.now) here (names_of names.now)) }
+    ensures { IfOk result (λ looked. IsLookedUp looked (outline_view scopes.now.outline.now) here
+        (names_of names.now)) }
 {
     match names {
         [name] => Ok(look_up(scopes, here, &[name.name])),
@@ -96,9 +99,11 @@ pub(crate) fn reference(
     here: usize,
     names: &[Identifier],
 ) -> Result<Used, AllocError>
-    ensures code { IfOk result (λ used. used.code ≡ reference_code names.now (meant (scope_of (outline_view scopes.now.outline.now) here) (names_of names.now))) }
+    ensures code { IfOk result (λ used. used.code ≡ reference_code names.now
+        (meant (scope_of (outline_view scopes.now.outline.now) here) (names_of names.now))) }
     ensures target { IfOk result (λ used. (at : ℕ) → target_uses at used.target
-        ≡ used_as (outline_view scopes.now.outline.now) here at (function_use at names.now) (meant (scope_of (outline_view scopes.now.outline.now) here) (names_of names.now))) }
+        ≡ used_as (outline_view scopes.now.outline.now) here at (function_use at names.now)
+        (meant (scope_of (outline_view scopes.now.outline.now) here) (names_of names.now))) }
 {
     let looked = meant_by(alloc, scopes, here, names)?;
     Ok(reference_with(names, looked))
@@ -106,8 +111,11 @@ pub(crate) fn reference(
 
 /// What the label of a GOTO in a region means, and its fault.
 pub(crate) fn jump(scopes: &Scopes, here: usize, label: Name) -> Used
-    ensures code { result.code ≡ jump_code (outline_view scopes.now.outline.now) here (meant (scope_of (outline_view scopes.now.outline.now) here) (label ∷ [])) }
-    ensures target { (at : ℕ) → target_uses at result.target ≡ used_as (outline_view scopes.now.outline.now) here at [] (meant (scope_of (outline_view scopes.now.outline.now) here) (label ∷ [])) }
+    ensures code { result.code ≡ jump_code (outline_view scopes.now.outline.now) here
+        (meant (scope_of (outline_view scopes.now.outline.now) here) (label ∷ [])) }
+    ensures target { (at : ℕ) → target_uses at result.target
+        ≡ used_as (outline_view scopes.now.outline.now) here at []
+        (meant (scope_of (outline_view scopes.now.outline.now) here) (label ∷ [])) }
 {
     match look_up(scopes, here, &[label]) {
         Looked::Found { block, number } => {

@@ -31,8 +31,8 @@ fn remember_in(alloc: Global, table: &mut Table, names: &[Name]) -> Result<(), A
     table.block.remember(alloc, names)
 }
 
-/// Remembers what the names of a reference in a region fit in the block that decides, if there is one. One name fits what is found
-/// at once.
+/// Remembers what the names of a reference in a region fit in the block that decides, if there is one. One name fits
+/// what is found at once.
 pub(crate) fn remember(
     alloc: Global,
     nesting: &Nesting,

@@ -9,8 +9,9 @@ use pli_declare_outline::Outline;
 use pli_declare_tables::Tables;
 use std::alloc::{AllocError, Global};
 
-/// The tables of an outline. Each reference of several names is searched for once, in the block that decides what it means, which
-/// remembers what it fits: to look it up then takes no longer than to read it, whatever number of times it stands.
+/// The tables of an outline. Each reference of several names is searched for once, in the block that decides what it
+/// means, which remembers what it fits: to look it up then takes no longer than to read it, whatever number of times it
+/// stands.
 pub fn searched_tables<'a>(
     alloc: Global,
     outline: &Outline<'a>,

@@ -1,7 +1,9 @@
 //! The marks of expressions and references.
 ghost use Rattle.std.specs.Prelude.{◌≡◌, ◌++◌, ◌∷◌, [], OnOk, IfOk};
-ghost use Rattle.pli_base.specs.views.SyntaxView.{expression_view, reference_view, expressions_view, arguments_view, joined_view};
-ghost use Rattle.pli_declare_outline.specs.Outlines.{placed, member_names, reference_marks, joined_marks, argument_marks, list_marks, expression_marks};
+ghost use Rattle.pli_base.specs.views.SyntaxView.{expression_view, reference_view, expressions_view, arguments_view};
+ghost use Rattle.pli_base.specs.views.SyntaxView.{joined_view};
+ghost use Rattle.pli_declare_outline.specs.Outlines.{placed, member_names, reference_marks, joined_marks};
+ghost use Rattle.pli_declare_outline.specs.Outlines.{argument_marks, list_marks, expression_marks};
 ghost use Rattle.pli_declare_outline.specs.views.OutlineView.{mark_view, marks_view};
 
 use crate::region::{Mark, PlacedMark};
@@ -33,7 +35,8 @@ pub fn mark<'a>(
     mark: Mark<'a>,
     marks: &mut Vec<PlacedMark<'a>>,
 ) -> Result<(), AllocError>
-    ensures { OnOk result (marks_view marks.new.items ≡ marks_view marks.old.items ++ placed here (mark_view mark.entry ∷ [])) }
+    ensures { OnOk result (marks_view marks.new.items ≡ marks_view marks.old.items
+        ++ placed here (mark_view mark.entry ∷ [])) }
 {
     marks.push(PlacedMark { region: here, mark })?;
     Ok(())

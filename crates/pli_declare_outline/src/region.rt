@@ -47,7 +47,8 @@ pub struct PlacedMark<'a> {
     pub mark: Mark<'a>,
 }
 
-/// The outline of a unit: its regions, numbered from 0 in the order in which they begin, and its marks in the order of the text.
+/// The outline of a unit: its regions, numbered from 0 in the order in which they begin, and its marks in the order of
+/// the text.
 #[derive(Drop)]
 pub struct Outline<'a> {
     pub regions: Vec<Region>,

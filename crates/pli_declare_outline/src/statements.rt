@@ -2,9 +2,14 @@
 ghost use Rattle.std.specs.Prelude.{◌≡◌, ◌++◌, ◌<◌, ◌≤◌, ◌+◌, [], ◌∷◌, map, length, option_map, OnOk, IfOk};
 ghost use Rattle.std.specs.List.{flat_map};
 ghost use Rattle.pli_base.specs.views.SyntaxView.{expression_view, reference_view};
-ghost use Rattle.pli_base.specs.views.StatementView.{range_view, control_view, allocation_view, body_view, statement_view, statements_view, unit_view};
+ghost use Rattle.pli_base.specs.views.StatementView.{range_view, control_view, allocation_view, body_view};
+ghost use Rattle.pli_base.specs.views.StatementView.{statement_view, statements_view, unit_view};
 ghost use Rattle.pli_base.specs.laws.StatementLaws.{boxed_view};
-ghost use Rattle.pli_declare_outline.specs.Outlines.{placed, optional_marks, range_marks, control_marks, both_marks, allocation_marks, expression_marks, reference_marks, label_marks, head_marks, regions_of, statement_marks, statement_regions, statements_marks, statements_regions, body_marks, body_regions, alternative_marks, alternative_regions, outline_of};
+ghost use Rattle.pli_declare_outline.specs.Outlines.{placed, optional_marks, range_marks, control_marks, both_marks};
+ghost use Rattle.pli_declare_outline.specs.Outlines.{allocation_marks, expression_marks, reference_marks, label_marks};
+ghost use Rattle.pli_declare_outline.specs.Outlines.{head_marks, regions_of, statement_marks, statement_regions};
+ghost use Rattle.pli_declare_outline.specs.Outlines.{statements_marks, statements_regions, body_marks, body_regions};
+ghost use Rattle.pli_declare_outline.specs.Outlines.{alternative_marks, alternative_regions, outline_of};
 ghost use Rattle.pli_declare_outline.specs.Walks.{own_marks};
 ghost use Rattle.pli_declare_outline.specs.views.OutlineView.{regions_view, marks_view, outline_view};
 
@@ -22,7 +27,8 @@ fn mark_optional(
     marks: &mut Vec<PlacedMark<'_>>,
 ) -> Result<(), AllocError>
     ensures { OnOk result (marks_view marks.new.items
-        ≡ marks_view marks.old.items ++ placed here (optional_marks expression_marks (option_map expression_view expression.now))) }
+        ≡ marks_view marks.old.items ++ placed here (optional_marks expression_marks
+        (option_map expression_view expression.now))) }
 {
     match expression {
         None => Ok(()),
@@ -90,7 +96,8 @@ fn mark_specification(
     marks: &mut Vec<PlacedMark<'_>>,
 ) -> Result<(), AllocError>
     ensures { OnOk result (marks_view marks.new.items
-        ≡ marks_view marks.old.items ++ placed here (optional_marks control_marks (option_map control_view control.now))) }
+        ≡ marks_view marks.old.items ++ placed here (optional_marks control_marks
+        (option_map control_view control.now))) }
 {
     match control {
         None => Ok(()),
@@ -107,7 +114,8 @@ fn mark_both(
     marks: &mut Vec<PlacedMark<'_>>,
 ) -> Result<(), AllocError>
     ensures { OnOk result (marks_view marks.new.items
-        ≡ marks_view marks.old.items ++ placed here (both_marks (option_map reference_view area.now) (option_map reference_view target.now))) }
+        ≡ marks_view marks.old.items ++ placed here (both_marks (option_map reference_view area.now)
+        (option_map reference_view target.now))) }
 {
     match (area, target) {
         (Some(area), Some(target)) => {
@@ -172,7 +180,8 @@ fn mark_references(
     Ok(())
 }
 
-/// The marks of a statement's own, apart from those of the statements inside it; a procedure begins the region of this number.
+/// The marks of a statement's own, apart from those of the statements inside it; a procedure begins the region of this
+/// number.
 pub fn mark_head<'a>(
     alloc: Global,
     here: usize,
@@ -180,7 +189,8 @@ pub fn mark_head<'a>(
     region: usize,
     marks: &mut Vec<PlacedMark<'a>>,
 ) -> Result<(), AllocError>
-    ensures { OnOk result (marks_view marks.new.items ≡ marks_view marks.old.items ++ placed here (own_marks region (body_view body.now))) }
+    ensures { OnOk result (marks_view marks.new.items ≡ marks_view marks.old.items
+        ++ placed here (own_marks region (body_view body.now))) }
 {
     match body {
         Body::Procedure(procedure) => mark(here, Mark::Entered { procedure, region }, marks),

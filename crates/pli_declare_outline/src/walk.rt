@@ -1,7 +1,9 @@
 //! The regions and marks of statements with statements inside them.
 ghost use Rattle.std.specs.Prelude.{◌≡◌, ◌+◌, ◌∷◌, length, OnOk, IfOk};
 ghost use Rattle.pli_base.specs.views.StatementView.{body_view, statement_view, statements_view, unit_view};
-ghost use Rattle.pli_declare_outline.specs.Outlines.{regions_in, regions_of, regions_among, statement_marks, statement_regions, statements_marks, statements_regions, body_marks, body_regions, outline_of};
+ghost use Rattle.pli_declare_outline.specs.Outlines.{regions_in, regions_of, regions_among, statement_marks};
+ghost use Rattle.pli_declare_outline.specs.Outlines.{statement_regions, statements_marks, statements_regions};
+ghost use Rattle.pli_declare_outline.specs.Outlines.{body_marks, body_regions, outline_of};
 ghost use Rattle.pli_declare_outline.specs.Walks.{Walked};
 ghost use Rattle.pli_declare_outline.specs.views.OutlineView.{region_view, outline_view};
 
@@ -59,7 +61,8 @@ fn walk_region<'a>(
     marks: &mut Vec<PlacedMark<'a>>,
 ) -> Result<(), AllocError>
     ensures { OnOk result (Walked regions.old.items regions.new.items marks.old.items marks.new.items
-        (region_view region ∷ statements_regions (length regions.old.items) (length regions.old.items + 1) (statements_view statements.now))
+        (region_view region ∷ statements_regions (length regions.old.items) (length regions.old.items + 1)
+        (statements_view statements.now))
         (statements_marks (length regions.old.items) (length regions.old.items + 1) (statements_view statements.now))
         (1 + regions_among (statements_view statements.now))) }
 {
@@ -78,7 +81,8 @@ fn walk_unit<'a>(
     marks: &mut Vec<PlacedMark<'a>>,
 ) -> Result<(), AllocError>
     ensures { OnOk result (Walked regions.old.items regions.new.items marks.old.items marks.new.items
-        (region_view region ∷ statement_regions (length regions.old.items) (length regions.old.items + 1) (statement_view statement.now))
+        (region_view region ∷ statement_regions (length regions.old.items) (length regions.old.items + 1)
+        (statement_view statement.now))
         (statement_marks (length regions.old.items) (length regions.old.items + 1) (statement_view statement.now))
         (1 + regions_in (statement_view statement.now))) }
 {

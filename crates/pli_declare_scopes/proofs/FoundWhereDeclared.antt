@@ -1,5 +1,5 @@
 -- What is found in a block that declares the first name.
-use Rattle.std.proofs.Common.{◌≡◌, ℕ, ◌<◌, Bool, true, false, List, [], ◌∷◌, length, get_or, Option, None, Some, IfSome, is_some, if◌then◌else◌, refl, sym, ap, subst, ◌∙◌, arith}
+use Rattle.std.proofs.Common.{◌≡◌, ℕ, ◌<◌, true, List, [], ◌∷◌, length, get_or, Option, None, Some, IfSome, is_some, if◌then◌else◌, sym, ap, subst, ◌∙◌, arith}
 use Rattle.std.specs.Prelude.{reverse}
 use Rattle.std.specs.Cmp.Lexicographic.{same_text}
 use Rattle.pli_base.specs.Name.{Name}

@@ -1,9 +1,11 @@
 //! The items that a block declares.
-ghost use Rattle.std.specs.Prelude.{◌≡◌, ◌<◌, ◌+◌, ◌-◌, reverse, take, drop, ◌++◌, ◌&&◌, [], ◌∷◌, true, false, length, get_or, if◌then◌else◌, None, Some, IfSome, IfOk, OnOk, OnErr};
+ghost use Rattle.std.specs.Prelude.{◌≡◌, ◌<◌, ◌+◌, ◌-◌, reverse, take, drop, ◌++◌, ◌&&◌, [], ◌∷◌, true, false, length};
+ghost use Rattle.std.specs.Prelude.{get_or, if◌then◌else◌, None, Some, IfSome, IfOk, OnOk, OnErr};
 ghost use Rattle.indexmap.specs.IndexMap.{get, IsUnchanged};
 ghost use Rattle.pli_base.specs.Name.{Name as Characters};
 ghost use Rattle.pli_base.specs.Words.{same_name};
-ghost use Rattle.pli_declare_scopes.specs.Scopes.{declares, declares_first, is_named, item_at, chain_over, is_part, fits, fits_fully, found_below, found_in};
+ghost use Rattle.pli_declare_scopes.specs.Scopes.{declares, declares_first, is_named, item_at, chain_over, is_part};
+ghost use Rattle.pli_declare_scopes.specs.Scopes.{fits, fits_fully, found_below, found_in};
 ghost use Rattle.pli_declare_scopes.specs.declared.found.Found.TheVariants as variants;
 ghost use Rattle.pli_declare_scopes.specs.answers.Indexes.{last_below};
 ghost use Rattle.pli_declare_scopes.specs.answers.Leaps.{IsLastUpTo};
@@ -51,7 +53,8 @@ pub struct BlockItems {
     lasts: Vec<Option<usize>>,
     /// The outermost item of its name that each item is within.
     tops: Vec<usize>,
-    /// Whether all items stand in order: each behind what its owner has so far, and one that counts within one that counts.
+    /// Whether all items stand in order: each behind what its owner has so far, and one that counts within one that
+    /// counts.
     is_ordered: bool,
     /// What the names of references were found to fit, among all these items.
     remembered: IndexMap<Vec<Name>, Found>,
@@ -73,7 +76,11 @@ impl Model for BlockItems {
 
     ghost view = { λ b. b.items.items };
 
-    ghost invariant = { λ b. IsIndexed b.items.items b.earlier.items b.latest × ArePaths b.items.items b.steps.keys b.paths.items b.ended.items × AreLeaps b.items.items b.leaps.items × AreReaching b.items.items b.lasts.items b.tops.items b.is_ordered × AreRemembered (found_in b.items.items) b.remembered.entries × AreRemembered (found_fitting b.items.items) b.tails.entries };
+    ghost invariant = { λ b. IsIndexed b.items.items b.earlier.items b.latest
+        × ArePaths b.items.items b.steps.keys b.paths.items b.ended.items × AreLeaps b.items.items b.leaps.items
+        × AreReaching b.items.items b.lasts.items b.tops.items b.is_ordered
+        × AreRemembered (found_in b.items.items) b.remembered.entries
+        × AreRemembered (found_fitting b.items.items) b.tails.entries };
 }
 
 /// Notes an item that counts as the last of its name. Gives the one before it.
@@ -84,7 +91,8 @@ fn note(
 ) -> Result<Option<usize>, AllocError>
     ensures before { IfOk result (λ before. item.now.counts ≡ true → before ≡ get same_name latest.old item.now.name) }
     ensures none { IfOk result (λ before. item.now.counts ≡ false → before ≡ None) }
-    ensures found { OnOk result ((name : Characters) → get same_name latest.new name ≡ (if item.now.counts && same_name item.now.name name then Some number else get same_name latest.old name)) }
+    ensures found { OnOk result ((name : Characters) → get same_name latest.new name
+        ≡ (if item.now.counts && same_name item.now.name name then Some number else get same_name latest.old name)) }
     ensures err { OnErr result (IsUnchanged latest.old latest.new) }
 {
     if !item.counts {
@@ -151,8 +159,8 @@ impl BlockItems {
         self.items.len()
     }
 
-    /// One more item, which belongs to one that stands before it, if to any. Gives its number. Without memory for it the block
-    /// stays as it was, and can be used on.
+    /// One more item, which belongs to one that stands before it, if to any. Gives its number. Without memory for it
+    /// the block stays as it was, and can be used on.
     pub fn declare(&mut self, item: Declared) -> Result<usize, AllocError>
         requires { IfSome item.owner (λ o. o < length self.old) }
         ensures number { IfOk result (λ n. n ≡ length self.old) }
@@ -254,8 +262,8 @@ impl BlockItems {
         Some(bound)
     }
 
-    /// How far back from a number the next item stands that may have two names of a reference above it, the second within
-    /// the first.
+    /// How far back from a number the next item stands that may have two names of a reference above it, the second
+    /// within the first.
     fn reached_between(&self, names: &[Name], at: usize, number: usize) -> usize
         requires { at + 2 < length names.now }
         ensures { IsReach self.now names.now number (Some result) }
@@ -300,13 +308,15 @@ impl BlockItems {
         self.last_up_to(*last, bound.min(number))
     }
 
-    /// Whether names fit the item of this number, where the last of them is its own name. No more levels are looked at than it
-    /// takes. Where items stand in order, a leap is tried for each name, and for the first of them no level is looked at.
+    /// Whether names fit the item of this number, where the last of them is its own name. No more levels are looked at
+    /// than it takes. Where items stand in order, a leap is tried for each name, and for the first of them no level is
+    /// looked at.
     fn fits(&self, names: &[Name], number: usize) -> bool
         requires within { number < length self.now }
         requires counts { (item_at self.now number).counts ≡ true }
         requires some { 0 < length names.now }
-        ensures { result ≡ is_part (reverse (take (length names.now - 1) names.now)) (chain_over self.now (item_at self.now number).owner) }
+        ensures { result ≡ is_part (reverse (take (length names.now - 1) names.now))
+            (chain_over self.now (item_at self.now number).owner) }
     {
         let mut left = names.len() - 1;
         let mut above = self.items[number].owner;
@@ -366,8 +376,8 @@ impl BlockItems {
         }
     }
 
-    /// What items fit the names of a reference: one that they qualify fully is preferred. They are searched for unless they are
-    /// remembered.
+    /// What items fit the names of a reference: one that they qualify fully is preferred. They are searched for unless
+    /// they are remembered.
     pub fn find(&self, names: &[Name]) -> Found
         ensures { result ≡ found_in self.now names.now }
     {
@@ -410,8 +420,8 @@ impl BlockItems {
         }
     }
 
-    /// What items fit the names of a reference, where this is an item of the first of them. No search is needed for one name that
-    /// it qualifies fully.
+    /// What items fit the names of a reference, where this is an item of the first of them. No search is needed for one
+    /// name that it qualifies fully.
     fn found_with(&self, names: &[Name], number: usize) -> Found
         requires some { 0 < length names.now }
         requires within { number < length self.now }
@@ -469,8 +479,8 @@ impl BlockItems {
         }
     }
 
-    /// What items a reference of three names or more qualifies, in part or fully. It qualifies none that the names behind
-    /// the first don't.
+    /// What items a reference of three names or more qualifies, in part or fully. It qualifies none that the names
+    /// behind the first don't.
     fn found_by_tail(&mut self, alloc: Global, names: &[Name]) -> Result<Found, AllocError>
         ensures kept { self.new ≡ self.old }
         ensures found { IfOk result (λ found. found ≡ found_fitting self.old names.now) }
@@ -488,8 +498,8 @@ impl BlockItems {
         }
     }
 
-    /// What items fit the names of a reference, searched for by the names behind its first: one that they qualify fully is
-    /// preferred.
+    /// What items fit the names of a reference, searched for by the names behind its first: one that they qualify fully
+    /// is preferred.
     fn searched_by_tail(&mut self, alloc: Global, names: &[Name]) -> Result<Found, AllocError>
         ensures kept { self.new ≡ self.old }
         ensures found { IfOk result (λ found. found ≡ found_in self.old names.now) }
@@ -501,8 +511,8 @@ impl BlockItems {
         Ok(fully)
     }
 
-    /// Searches for the names of a reference and remembers what they fit, until one more item is declared. Without memory for it
-    /// the block can be used on.
+    /// Searches for the names of a reference and remembers what they fit, until one more item is declared. Without
+    /// memory for it the block can be used on.
     pub fn remember(&mut self, alloc: Global, names: &[Name]) -> Result<(), AllocError>
         ensures { self.new ≡ self.old }
     {

@@ -1,5 +1,6 @@
 //! Leaps back along the items of one name.
-ghost use Rattle.std.specs.Prelude.{◌≡◌, ℕ, ◌<◌, ◌≤◌, ◌++◌, [], ◌∷◌, true, length, vec_len, vec_capacity, Option, None, Some, IfSome};
+ghost use Rattle.std.specs.Prelude.{◌≡◌, ℕ, ◌<◌, ◌≤◌, ◌++◌, [], ◌∷◌, true, length, vec_len, vec_capacity, Option, None};
+ghost use Rattle.std.specs.Prelude.{Some, IfSome};
 ghost use Rattle.pli_base.specs.Name.{Name as Characters};
 ghost use Rattle.pli_base.specs.Words.{same_name};
 ghost use Rattle.pli_declare_scopes.specs.declared.block.Declared.{Declared as Item};
@@ -16,8 +17,9 @@ pub(crate) struct Leap {
     pub place: usize,
 }
 
-/// The leap from an item of this number, where this is the item of its name before it: twice as far as that one's, where that one's
-/// leap and the next are equally far. So as many leaps lead to an item as its distance has binary digits, or twice as many.
+/// The leap from an item of this number, where this is the item of its name before it: twice as far as that one's,
+/// where that one's leap and the next are equally far. So as many leaps lead to an item as its distance has binary
+/// digits, or twice as many.
 fn leap_from(leaps: &[Leap], before: Option<usize>, number: usize) -> Leap
     requires back { (n : ℕ) → n < length leaps.now → leap_at leaps.now n ≤ n }
     requires within { IfSome before (λ b. b < length leaps.now) }
@@ -49,7 +51,8 @@ pub(crate) fn leap_on(leaps: &mut Vec<Leap>, before: Option<usize>, number: usiz
     requires all { number ≡ length leaps.old.items }
     requires room { vec_len leaps.old < vec_capacity leaps.old }
     ensures { (items : Items) (item : Item) → AreLeaps items leaps.old.items
-        → (item.counts ≡ true → (name : Characters) → same_name item.name name ≡ true → before ≡ last_below (is_named items name) (length items))
+        → (item.counts ≡ true → (name : Characters) → same_name item.name name ≡ true →
+        before ≡ last_below (is_named items name) (length items))
         → AreLeaps (items ++ item ∷ []) leaps.new.items }
 {
     let leap = leap_from(leaps, before, number);

@@ -44,9 +44,9 @@ fn nearest_among(before: &mut Vec<Numbered>, level: u64) -> Option<usize>
     None
 }
 
-/// How the items of a list stand, from their levels: one of a level over 1 belongs to the nearest item before it with a lesser
-/// level (X3.74). An item without a level has level 1; one of level 0 is a variable of its own, to which later items of levels
-/// over 1 may belong (own).
+/// How the items of a list stand, from their levels: one of a level over 1 belongs to the nearest item before it with a
+/// lesser level (X3.74). An item without a level has level 1; one of level 0 is a variable of its own, to which later
+/// items of levels over 1 may belong (own).
 pub fn standings(alloc: Global, levels: &[Option<u64>]) -> Result<Vec<ItemStanding>, AllocError>
     ensures { IfOk result (λ standings. standings.items ≡ standings_of levels.now) }
 {

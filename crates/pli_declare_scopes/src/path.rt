@@ -1,5 +1,6 @@
 //! Paths of names: that of an item is its name below the path of the item that it belongs to.
-ghost use Rattle.std.specs.Prelude.{◌≡◌, ◌<◌, ℕ, List, Bool, true, get_or, set, if◌then◌else◌, length, option_map, IfSome, IfOk};
+ghost use Rattle.std.specs.Prelude.{◌≡◌, ◌<◌, ℕ, List, Bool, true, get_or, set, if◌then◌else◌, length, option_map};
+ghost use Rattle.std.specs.Prelude.{IfSome, IfOk};
 ghost use Rattle.pli_declare_scopes.specs.Scopes.{BlockItems as Items, with_number};
 ghost use Rattle.pli_declare_scopes.specs.declared.found.Found.TheVariants as variants;
 ghost use Rattle.pli_declare_scopes.specs.answers.Paths.{step_at, ArePaths};
@@ -34,7 +35,8 @@ pub(crate) fn path_of(
     step: Step,
 ) -> Result<usize, AllocError>
     ensures there { IfOk result (λ p. (p < length steps.new.keys) × (step_at steps.new.keys p ≡ step)) }
-    ensures kept { (items : Items) (paths : List ℕ) → ArePaths items steps.old.keys paths ended.old.items → ArePaths items steps.new.keys paths ended.new.items }
+    ensures kept { (items : Items) (paths : List ℕ) → ArePaths items steps.old.keys paths ended.old.items →
+        ArePaths items steps.new.keys paths ended.new.items }
 {
     ended.reserve(1)?;
     let (path, is_new) = steps.insert_full(step)?;
@@ -47,7 +49,8 @@ pub(crate) fn path_of(
 /// Notes an item that ends a path, if it counts.
 pub(crate) fn note_end(ended: &mut Vec<Found>, path: usize, counts: bool, number: usize)
     requires { path < length ended.old.items }
-    ensures { ended.new.items ≡ (if counts then set ended.old.items path (with_number number (get_or ended.old.items path variants.Nothing)) else ended.old.items) }
+    ensures { ended.new.items ≡ (if counts then set ended.old.items path
+        (with_number number (get_or ended.old.items path variants.Nothing)) else ended.old.items) }
 {
     if counts {
         ended[path] = ended[path].with_number(number);

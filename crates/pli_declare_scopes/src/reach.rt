@@ -21,8 +21,8 @@ fn is_up_to(number: usize, owner: Option<usize>) -> bool
     }
 }
 
-/// Closes the items that the last one is within, up to the owner of a new one: their last number is that of the last item. Tells
-/// whether the last item is within that owner, as items that stand in order are.
+/// Closes the items that the last one is within, up to the owner of a new one: their last number is that of the last
+/// item. Tells whether the last item is within that owner, as items that stand in order are.
 fn close(items: &[Declared], lasts: &mut Vec<Option<usize>>, owner: Option<usize>) -> bool
     requires all { length lasts.old.items ≡ length items.now }
     requires owners { OwnersBefore items.now }
@@ -40,13 +40,14 @@ fn close(items: &[Declared], lasts: &mut Vec<Option<usize>>, owner: Option<usize
     owner.is_none()
 }
 
-/// Whether items still stand in order with one more: they did so far, it stands behind what its owner has so far, and where it
-/// counts its owner does.
+/// Whether items still stand in order with one more: they did so far, it stands behind what its owner has so far, and
+/// where it counts its owner does.
 fn is_in_order(items: &[Declared], item: &Declared, is_ordered: bool, is_behind: bool) -> bool
     requires { IfSome item.now.owner (λ o. o < length items.now) }
     ensures so_far { result ≡ true → is_ordered ≡ true }
     ensures behind { result ≡ true → is_behind ≡ true }
-    ensures counted { result ≡ true → item.now.counts ≡ true → IfSome item.now.owner (λ o. (item_at items.now o).counts ≡ true) }
+    ensures counted { result ≡ true → item.now.counts ≡ true →
+        IfSome item.now.owner (λ o. (item_at items.now o).counts ≡ true) }
 {
     let counts = match item.owner {
         Some(owner) => !item.counts || items[owner].counts,
@@ -79,7 +80,8 @@ pub(crate) fn reach_on(
 ) -> bool
     requires owners { OwnersBefore items.now }
     requires owned { IfSome item.now.owner (λ o. o < length items.now) }
-    requires before { item.now.counts ≡ true → before ≡ last_below (is_named items.now item.now.name) (length items.now) }
+    requires before { item.now.counts ≡ true → before ≡ last_below (is_named items.now item.now.name)
+        (length items.now) }
     requires none { item.now.counts ≡ false → before ≡ None }
     requires reaching { AreReaching items.now lasts.old.items tops.old.items is_ordered }
     requires lasts_room { vec_len lasts.old < vec_capacity lasts.old }
@@ -93,8 +95,8 @@ pub(crate) fn reach_on(
     is_in_order(items, item, is_ordered, is_behind)
 }
 
-/// Whether an item of some name stands above a place, or there, where this is the last item of that name up to the place. So it
-/// does if the outermost item of that name, which that one is within, reaches to the place.
+/// Whether an item of some name stands above a place, or there, where this is the last item of that name up to the
+/// place. So it does if the outermost item of that name, which that one is within, reaches to the place.
 pub(crate) fn stands_above(
     lasts: &[Option<usize>],
     tops: &[usize],
@@ -127,8 +129,9 @@ pub(crate) fn reaches(last: Option<usize>, place: usize) -> bool
     }
 }
 
-/// Where a search from a place upwards for an item of some name begins, where this is the last item of that name up to the place: at
-/// that item, if the place is within it, and else at the place. None if no item of that name stands above.
+/// Where a search from a place upwards for an item of some name begins, where this is the last item of that name up to
+/// the place: at that item, if the place is within it, and else at the place. None if no item of that name stands
+/// above.
 pub(crate) fn nearest_above(
     lasts: &[Option<usize>],
     tops: &[usize],

@@ -11,14 +11,16 @@ use std::alloc::{AllocError, AllocFailed};
 
 /// What names were found to fit, if they are among these.
 fn remembered_of(remembered: &IndexMap<Vec<Name>, Found>, names: &[Name]) -> Option<Found>
-    ensures { (find : List Characters → What) → AreRemembered find remembered.now.entries → IfSome result (λ found. found ≡ find names.now) }
+    ensures { (find : List Characters → What) → AreRemembered find remembered.now.entries →
+        IfSome result (λ found. found ≡ find names.now) }
 {
     remembered.get(names).copied()
 }
 
 /// What names were found to fit, if they are remembered. One name is not, since it is found at once.
 pub(crate) fn recalled(remembered: &IndexMap<Vec<Name>, Found>, names: &[Name]) -> Option<Found>
-    ensures { (find : List Characters → What) → AreRemembered find remembered.now.entries → IfSome result (λ found. found ≡ find names.now) }
+    ensures { (find : List Characters → What) → AreRemembered find remembered.now.entries →
+        IfSome result (λ found. found ≡ find names.now) }
 {
     if names.len() < 2 {
         return None;

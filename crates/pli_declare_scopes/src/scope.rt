@@ -51,9 +51,9 @@ impl Scope {
         self.blocks.pop()
     }
 
-    /// What the names of a reference mean, from the first to the last (X3.74): the innermost block that declares an item of the
-    /// first name decides. There the one item that they qualify fully is meant, or where there is none the one that they qualify in
-    /// part (own: no search goes further outwards).
+    /// What the names of a reference mean, from the first to the last (X3.74): the innermost block that declares an
+    /// item of the first name decides. There the one item that they qualify fully is meant, or where there is none the
+    /// one that they qualify in part (own: no search goes further outwards).
     pub fn look_up(&self, names: &[Name]) -> ReferenceMeaning
         ensures { result ≡ meant self.now names.now }
     {

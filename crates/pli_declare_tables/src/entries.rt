@@ -24,7 +24,8 @@ struct NamedItem<'a> {
 
 /// The names of an item, behind those of others.
 fn add_names<'a>(names: &mut Vec<NamedItem<'a>>, facts: ItemFacts<'a>) -> Result<(), AllocError>
-    ensures { OnOk result (map named_view names.new.items ≡ map named_view names.old.items ++ named (item_view facts.entry.item.now)) }
+    ensures { OnOk result (map named_view names.new.items ≡ map named_view names.old.items
+        ++ named (item_view facts.entry.item.now)) }
 {
     for identifier in facts.item.names.iter() {
         let named = NamedItem {
@@ -68,7 +69,11 @@ pub fn add_entry<'a>(
     entity: Entity<'a>,
 ) -> Result<(), AllocError>
     ensures { OnOk result (entries_view entries.new.items
-        ≡ entries_view entries.old.items ++ record { identifier = identifier; owner = owner; entity = entity_view entity.entry } ∷ []) }
+        ≡ entries_view entries.old.items ++ record {
+          identifier = identifier;
+          owner = owner;
+          entity = entity_view entity.entry;
+        } ∷ []) }
 {
     let entry = Entry {
         identifier,
@@ -89,7 +94,8 @@ fn add_items<'a>(
 ) -> Result<(), AllocError>
     requires { StandBehindOwners standings.now }
     ensures { OnOk result (entries_view entries.new.items
-        ≡ entries_view entries.old.items ++ item_entries (length entries.old.items) (map named_view names.now) standings.now) }
+        ≡ entries_view entries.old.items ++ item_entries (length entries.old.items)
+        (map named_view names.now) standings.now) }
 {
     let base = entries.len();
     for (named, standing) in names.iter().zip(standings) {
@@ -113,7 +119,8 @@ fn declare_items<'a>(
     items: &'a [Item],
 ) -> Result<(), AllocError>
     ensures { OnOk result (entries_view entries.new.items
-        ≡ entries_view entries.old.items ++ declared_entries (length entries.old.items) (flat_map named (map item_view items.now))) }
+        ≡ entries_view entries.old.items ++ declared_entries (length entries.old.items)
+        (flat_map named (map item_view items.now))) }
 {
     let names = names_of(alloc, items)?;
     let levels = levels_of(alloc, &names)?;

@@ -6,7 +6,8 @@ use pli_declare_attributes::ItemFacts;
 /// What a name is declared as.
 #[derive(Clone, Copy)]
 pub enum Entity<'a> {
-    /// An item of a DECLARE, with what is known of it for all its names, and whether its level is a fault, A8 BAD LEVEL.
+    /// An item of a DECLARE, with what is known of it for all its names, and whether its level is a fault, A8 BAD
+    /// LEVEL.
     Item {
         facts: ItemFacts<'a>,
         is_bad_level: bool,

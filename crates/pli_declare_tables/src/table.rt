@@ -1,7 +1,8 @@
 //! The tables of a unit.
 ghost use Rattle.std.specs.Prelude.{◌≡◌, ℕ, ◌<◌, ◌+◌, ◌++◌, [], map, set, replicate, length, get_or, OnOk, IfOk};
 ghost use Rattle.pli_declare_outline.specs.views.OutlineView.{outline_view, regions_view, mark_view, marks_view};
-ghost use Rattle.pli_declare_tables.specs.Tables.{written, entries_of, entries_after, entries_in, unit_entries, with_verdicts, numbers_from, table_with};
+ghost use Rattle.pli_declare_tables.specs.Tables.{written, entries_of, entries_after, entries_in, unit_entries};
+ghost use Rattle.pli_declare_tables.specs.Tables.{with_verdicts, numbers_from, table_with};
 ghost use Rattle.pli_declare_scopes.specs.Repeats.{verdicts_of};
 ghost use Rattle.pli_declare_tables.specs.views.TableView.{table_view, entries_view, blocks_view};
 ghost use Rattle.pli_declare_tables.specs.answers.Answers.{AreOf, AreBehindOwners, AllBehindOwners};
@@ -52,7 +53,8 @@ fn declare_in<'a>(
     requires { block < length blocks.old.items }
     ensures { OnOk result (blocks_view blocks.new.items
         ≡ set (blocks_view blocks.old.items) block (get_or (blocks_view blocks.old.items) block []
-        ++ entries_of (length (get_or (blocks_view blocks.old.items) block [])) placed.now.region (mark_view placed.now.mark))) }
+        ++ entries_of (length (get_or (blocks_view blocks.old.items) block [])) placed.now.region
+        (mark_view placed.now.mark))) }
 {
     declare(alloc, &mut blocks[block], placed.region, &placed.mark)
 }
@@ -84,7 +86,8 @@ fn declared_blocks<'a>(
 ) -> Result<Vec<Vec<Entry<'a>>>, AllocError>
     requires { nesting.now ≡ regions_view outline.now.regions.items }
     ensures { IfOk result (λ blocks. blocks_view blocks.items
-        ≡ map (entries_in (outline_view outline.now)) (numbers_from 0 (length (outline_view outline.now).regions + 1))) }
+        ≡ map (entries_in (outline_view outline.now)) (numbers_from 0
+        (length (outline_view outline.now).regions + 1))) }
 {
     let mut declared = empty_blocks(alloc, outline.regions.len() + 1)?;
     if let Some((_, inner)) = outline.marks.split_first() {

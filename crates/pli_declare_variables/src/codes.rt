@@ -21,8 +21,8 @@ use pli_declare_attributes::{ItemFacts, ItemPlace, item_fault};
 use pli_declare_tables::{Entity, Entry};
 use std::alloc::{AllocError, Global};
 
-/// The fault of an entry at its place, whose number of elements above may be cut at the limit, where a label and a procedure are as
-/// an item without anything. An item that is known to be good has none.
+/// The fault of an entry at its place, whose number of elements above may be cut at the limit, where a label and a
+/// procedure are as an item without anything. An item that is known to be good has none.
 fn own_code(place: ItemPlace, entry: &Entry, nothing: &ItemFacts, is_good: bool) -> Option<Code>
     requires { item_view nothing.now.item.now ≡ no_item }
     ensures { (p : SpecPlace) → place ≡ cut_place p → (is_good ≡ true → IsFaultless p (entry_view entry.now).entity)
@@ -50,8 +50,8 @@ fn no_item(alloc: Global) -> Item
     }
 }
 
-/// The least of A3 to A7, A9 and A13 to A15 of entries, each at its place, but for the sizes of whole variables. Where no item has a
-/// fault, only labels and procedures are looked at.
+/// The least of A3 to A7, A9 and A13 to A15 of entries, each at its place, but for the sizes of whole variables. Where
+/// no item has a fault, only labels and procedures are looked at.
 pub(crate) fn codes_at(
     alloc: Global,
     entries: &[Entry],
@@ -59,9 +59,11 @@ pub(crate) fn codes_at(
     are_good: bool,
 ) -> Result<Vec<Option<Code>>, AllocError>
     requires { length places.now ≡ length entries.now }
-    ensures { IfOk result (λ codes. (parameters : List Characters) → (are_good ≡ true → AreGood (entries_view entries.now) parameters)
+    ensures { IfOk result (λ codes. (parameters : List Characters) →
+        (are_good ≡ true → AreGood (entries_view entries.now) parameters)
         → places.now ≡ map (cut_place_in (entries_view entries.now) parameters) (numbers_from 0 (length entries.now))
-        → codes.items ≡ map (place.own_code (entries_view entries.now) parameters) (numbers_from 0 (length entries.now))) }
+        → codes.items ≡ map (place.own_code (entries_view entries.now) parameters)
+        (numbers_from 0 (length entries.now))) }
 {
     let nothing = no_item(alloc);
     let nothing = ItemFacts::of(alloc, &nothing)?;
@@ -80,7 +82,8 @@ pub(crate) fn own_codes(
     parameters: &[Name],
 ) -> Result<Vec<Option<Code>>, AllocError>
     requires { AreBehindOwners (entries_view entries.now) }
-    ensures { IfOk result (λ codes. codes.items ≡ map (place.own_code (entries_view entries.now) parameters.now) (numbers_from 0 (length entries.now))) }
+    ensures { IfOk result (λ codes. codes.items ≡ map (place.own_code (entries_view entries.now) parameters.now)
+        (numbers_from 0 (length entries.now))) }
 {
     let places = places::places(alloc, entries, parameters)?;
     codes_at(alloc, entries, &places, false)

@@ -52,10 +52,12 @@ fn whole_description(
     number: usize,
 ) -> Result<Option<Description>, AllocError>
     requires owners { AreBehindOwners (entries_view entries.now) }
-    requires members { map (λ v. v.items) members.now ≡ map (members_of (entries_view entries.now)) (numbers_from 0 (length entries.now)) }
+    requires members { map (λ v. v.items) members.now ≡ map (members_of (entries_view entries.now))
+        (numbers_from 0 (length entries.now)) }
     requires sound { ShapesAreSound (entries_view entries.now) codes.now }
     requires within { number < length entries.now }
-    ensures { IfOk result (λ d. option_map description_view d ≡ whole_at (length entries.now) (entries_view entries.now) codes.now number) }
+    ensures { IfOk result (λ d. option_map description_view d
+        ≡ whole_at (length entries.now) (entries_view entries.now) codes.now number) }
 {
     let entry = &entries[number];
     if entry.owner.is_none() && is_variable(entry) {
@@ -65,8 +67,8 @@ fn whole_description(
     }
 }
 
-/// What a name without a fault is declared as, at its place, where its description is known; that the number of elements above is
-/// cut at a limit makes no fault.
+/// What a name without a fault is declared as, at its place, where its description is known; that the number of
+/// elements above is cut at a limit makes no fault.
 fn kind<'a>(
     alloc: Global,
     place: ItemPlace,
@@ -74,7 +76,8 @@ fn kind<'a>(
     description: Option<Description>,
 ) -> Result<DeclaredKind<'a>, AllocError>
     requires { IsFaultlessCut place (entry_view entry.now).entity }
-    ensures { IfOk result (λ kind. kind_view kind ≡ kind_with place (option_map description_view description) (entry_view entry.now).entity) }
+    ensures { IfOk result (λ kind. kind_view kind ≡ kind_with place (option_map description_view description)
+        (entry_view entry.now).entity) }
 {
     match entry.entity {
         Entity::Item {
@@ -92,8 +95,8 @@ fn kind<'a>(
     }
 }
 
-/// What each name of a block is declared as, where the parameters are those of the procedure that is the block. It recurs as deep as
-/// structures nest, which is no deeper than levels go: at most 255, since no level is a fault.
+/// What each name of a block is declared as, where the parameters are those of the procedure that is the block. It
+/// recurs as deep as structures nest, which is no deeper than levels go: at most 255, since no level is a fault.
 pub fn declare<'a>(
     alloc: Global,
     entries: &[Entry<'a>],
@@ -101,7 +104,8 @@ pub fn declare<'a>(
 ) -> Result<Vec<Declaration<'a>>, AllocError>
     requires owners { AreBehindOwners (entries_view entries.now) }
     requires good { AreGood (entries_view entries.now) parameters.now }
-    ensures { IfOk result (λ declarations. map declaration_view declarations.items ≡ declared_in (entries_view entries.now) parameters.now) }
+    ensures { IfOk result (λ declarations. map declaration_view declarations.items
+        ≡ declared_in (entries_view entries.now) parameters.now) }
 {
     let places = places::places(alloc, entries, parameters)?;
     let codes = codes_at(alloc, entries, &places, true)?;

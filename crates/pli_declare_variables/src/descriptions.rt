@@ -15,7 +15,8 @@ use pli_declare_tables::Entry;
 use pli_map::Description;
 use std::alloc::{AllocError, Global};
 
-/// The description of an item, where neither it nor an item in it has one of A3 to A7. It recurs as deep as structures nest.
+/// The description of an item, where neither it nor an item in it has one of A3 to A7. It recurs as deep as structures
+/// nest.
 #[cycle(describe)]
 pub(crate) fn describe(
     alloc: Global,
@@ -25,10 +26,12 @@ pub(crate) fn describe(
     number: usize,
 ) -> Result<Option<Description>, AllocError>
     requires owners { AreBehindOwners (entries_view entries.now) }
-    requires members { map (λ v. v.items) members.now ≡ map (members_of (entries_view entries.now)) (numbers_from 0 (length entries.now)) }
+    requires members { map (λ v. v.items) members.now ≡ map (members_of (entries_view entries.now))
+        (numbers_from 0 (length entries.now)) }
     requires sound { ShapesAreSound (entries_view entries.now) codes.now }
     requires within { number < length entries.now }
-    ensures { IfOk result (λ d. option_map description_view d ≡ described (length entries.now) (entries_view entries.now) codes.now number) }
+    ensures { IfOk result (λ d. option_map description_view d
+        ≡ described (length entries.now) (entries_view entries.now) codes.now number) }
 {
     if has_bad_shape(codes, number) {
         return Ok(None);
@@ -55,11 +58,13 @@ fn describe_members(
     owner: usize,
 ) -> Result<Option<Vec<Description>>, AllocError>
     requires owners { AreBehindOwners (entries_view entries.now) }
-    requires members { map (λ v. v.items) members.now ≡ map (members_of (entries_view entries.now)) (numbers_from 0 (length entries.now)) }
+    requires members { map (λ v. v.items) members.now ≡ map (members_of (entries_view entries.now))
+        (numbers_from 0 (length entries.now)) }
     requires sound { ShapesAreSound (entries_view entries.now) codes.now }
     requires within { owner < length entries.now }
     ensures { IfOk result (λ inside. option_map (λ v. members_view v.items) inside
-        ≡ members_made (described (length entries.now) (entries_view entries.now) codes.now) (members_of (entries_view entries.now) owner)) }
+        ≡ members_made (described (length entries.now) (entries_view entries.now) codes.now)
+        (members_of (entries_view entries.now) owner)) }
 {
     let numbers = members[owner].as_slice();
     let mut inside = Vec::with_capacity(alloc, numbers.len())?;

@@ -30,9 +30,13 @@ pub(crate) struct Nameable {
 /// What the attributes of an entry make of it.
 fn named(entry: &Entry) -> Named
     ensures variable { result.is_variable ≡ is_variable (entry_view entry.now).entity }
-    ensures locator { result.is_locator ≡ (has (set_of (map outermost (item_in (entry_view entry.now).entity).attributes)) pointer || has (set_of (map outermost (item_in (entry_view entry.now).entity).attributes)) offset) }
-    ensures area { result.is_area ≡ has (set_of (map outermost (item_in (entry_view entry.now).entity).attributes)) area }
-    ensures not_based { result.is_not_based ≡ none_of (set_of (map outermost (item_in (entry_view entry.now).entity).attributes)) based }
+    ensures locator { result.is_locator
+        ≡ (has (set_of (map outermost (item_in (entry_view entry.now).entity).attributes)) pointer
+        || has (set_of (map outermost (item_in (entry_view entry.now).entity).attributes)) offset) }
+    ensures area { result.is_area ≡ has (set_of (map outermost (item_in (entry_view entry.now).entity).attributes))
+        area }
+    ensures not_based { result.is_not_based ≡ none_of (set_of
+        (map outermost (item_in (entry_view entry.now).entity).attributes)) based }
 {
     match &entry.entity {
         Entity::Item {
@@ -64,7 +68,8 @@ fn chain_above(chains: &[Chain], owner: Option<usize>) -> Chain
 
 /// The same with the item itself.
 fn chained(entry: &Entry, named: Named, above: Chain) -> Chain
-    requires { named.is_not_based ≡ none_of (set_of (map outermost (item_in (entry_view entry.now).entity).attributes)) based }
+    requires { named.is_not_based ≡ none_of (set_of (map outermost (item_in (entry_view entry.now).entity).attributes))
+        based }
     ensures { result ≡ walk.chain_with (item_in (entry_view entry.now).entity) above }
 {
     Chain {
@@ -75,7 +80,8 @@ fn chained(entry: &Entry, named: Named, above: Chain) -> Chain
 
 /// A variable with POINTER or OFFSET, unsubscripted and not BASED, and one with AREA, unsubscripted.
 fn use_of(named: Named, chain: Chain) -> Nameable
-    ensures locator { result.is_locator ≡ (named.is_variable && named.is_locator && chain.is_unsubscripted && chain.is_not_based) }
+    ensures locator { result.is_locator ≡ (named.is_variable && named.is_locator && chain.is_unsubscripted
+        && chain.is_not_based) }
     ensures area { result.is_area ≡ (named.is_variable && named.is_area && chain.is_unsubscripted) }
 {
     Nameable {
@@ -90,7 +96,8 @@ fn use_of(named: Named, chain: Chain) -> Nameable
 /// Which items BASED and OFFSET may name.
 pub(crate) fn nameables(alloc: Global, entries: &[Entry]) -> Result<Vec<Nameable>, AllocError>
     requires { AreBehindOwners (entries_view entries.now) }
-    ensures { IfOk result (λ all. all.items ≡ map (walk.nameable_at (entries_view entries.now)) (numbers_from 0 (length entries.now))) }
+    ensures { IfOk result (λ all. all.items ≡ map (walk.nameable_at (entries_view entries.now))
+        (numbers_from 0 (length entries.now))) }
 {
     let mut chains = Vec::with_capacity(alloc, entries.len())?;
     let mut all = Vec::with_capacity(alloc, entries.len())?;

@@ -10,7 +10,8 @@ ghost use Rattle.pli_declare_tables.specs.Tables.{no_entry, numbers_from};
 ghost use Rattle.pli_declare_tables.specs.views.TableView.{entry_view, entries_view};
 ghost use Rattle.pli_declare_tables.specs.answers.Answers.{AreBehindOwners};
 ghost use Rattle.pli_declare_variables.specs.Places.{item_in, is_bad_level, stands_alone, is_built_in, position_of};
-ghost use Rattle.pli_declare_variables.specs.answers.Walks.{has_members_at, above_at, above_owner, placed, cut_place_in};
+ghost use Rattle.pli_declare_variables.specs.answers.Walks.{has_members_at, above_at, above_owner, placed};
+ghost use Rattle.pli_declare_variables.specs.answers.Walks.{cut_place_in};
 
 use crate::items::{self, dimensions};
 use crate::words::is_built_in;
@@ -61,7 +62,8 @@ fn above(aboves: &[LevelsAbove], entries: &[Entry], owner: Option<usize>) -> Lev
 /// What the levels above each item make.
 fn aboves(alloc: Global, entries: &[Entry]) -> Result<Vec<LevelsAbove>, AllocError>
     requires { AreBehindOwners (entries_view entries.now) }
-    ensures { IfOk result (λ aboves. aboves.items ≡ map (above_at (entries_view entries.now)) (numbers_from 0 (length entries.now))) }
+    ensures { IfOk result (λ aboves. aboves.items ≡ map (above_at (entries_view entries.now))
+        (numbers_from 0 (length entries.now))) }
 {
     let mut aboves = Vec::with_capacity(alloc, entries.len())?;
     for entry in entries {
@@ -74,7 +76,8 @@ fn aboves(alloc: Global, entries: &[Entry]) -> Result<Vec<LevelsAbove>, AllocErr
 /// Which items have members.
 fn with_members(alloc: Global, entries: &[Entry]) -> Result<Vec<bool>, AllocError>
     requires { AreBehindOwners (entries_view entries.now) }
-    ensures { IfOk result (λ marks. marks.items ≡ map (has_members_at (entries_view entries.now)) (numbers_from 0 (length entries.now))) }
+    ensures { IfOk result (λ marks. marks.items ≡ map (has_members_at (entries_view entries.now))
+        (numbers_from 0 (length entries.now))) }
 {
     let mut marks = vec![in alloc; false; entries.len()]?;
     for entry in entries {
@@ -87,7 +90,8 @@ fn with_members(alloc: Global, entries: &[Entry]) -> Result<Vec<bool>, AllocErro
 
 /// Names, to be looked up.
 fn set_of(alloc: Global, names: &[Name]) -> Result<IndexSet<Name>, AllocError>
-    ensures { IfOk result (λ set. (name : Name) → list_any (same_name name) set.keys ≡ list_any (same_name name) names.now) }
+    ensures { IfOk result (λ set. (name : Name) → list_any (same_name name) set.keys
+        ≡ list_any (same_name name) names.now) }
 {
     let mut set = IndexSet::new(alloc);
     for name in names {
@@ -98,7 +102,8 @@ fn set_of(alloc: Global, names: &[Name]) -> Result<IndexSet<Name>, AllocError>
 
 /// Which rules hold for an entry, whose name is a parameter's or not.
 fn position(entry: &Entry, is_named: bool) -> Position
-    ensures { result ≡ position_of (stands_alone (entry_view entry.now)) is_named (is_bad_level (entry_view entry.now).entity) }
+    ensures { result ≡ position_of (stands_alone (entry_view entry.now)) is_named
+        (is_bad_level (entry_view entry.now).entity) }
 {
     let stands_alone = entry.owner.is_none();
     if stands_alone && is_named {
@@ -129,15 +134,16 @@ fn place(
     }
 }
 
-/// Where each item stands, with its elements above up to a limit, where the parameters are those of the procedure that is the
-/// block.
+/// Where each item stands, with its elements above up to a limit, where the parameters are those of the procedure that
+/// is the block.
 pub(crate) fn places(
     alloc: Global,
     entries: &[Entry],
     parameters: &[Name],
 ) -> Result<Vec<ItemPlace>, AllocError>
     requires { AreBehindOwners (entries_view entries.now) }
-    ensures { IfOk result (λ places. places.items ≡ map (cut_place_in (entries_view entries.now) parameters.now) (numbers_from 0 (length entries.now))) }
+    ensures { IfOk result (λ places. places.items ≡ map (cut_place_in (entries_view entries.now) parameters.now)
+        (numbers_from 0 (length entries.now))) }
 {
     let aboves = aboves(alloc, entries)?;
     let marks = with_members(alloc, entries)?;

@@ -46,7 +46,8 @@ pub fn options_of(procedure: &Procedure) -> &[ProcedureOption]
 /// What a procedure returns, if it does, where no RETURNS of it has a fault.
 pub(crate) fn returned(procedure: &Procedure) -> Option<Description>
     requires { AreSound (returned_by (unit_view procedure.now).heading.options) }
-    ensures { option_map description_view result ≡ described_result (returned_by (unit_view procedure.now).heading.options) }
+    ensures { option_map description_view result ≡ described_result
+        (returned_by (unit_view procedure.now).heading.options) }
 {
     first_returned(options_of(procedure))
 }

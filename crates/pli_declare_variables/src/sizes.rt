@@ -1,6 +1,7 @@
-//! Which variables are too large. What the items take goes from the last to the first, so that no tree is built, and nothing
-//! recurs as deep as structures nest.
-ghost use Rattle.std.specs.Prelude.{◌≡◌, ◌<◌, ◌+◌, ◌++◌, ◌∷◌, [], ◌&&◌, false, map, length, get_or, set, Some, Option, option_map, OnOk, IfOk, ℕ};
+//! Which variables are too large. What the items take goes from the last to the first, so that no tree is built, and
+//! nothing recurs as deep as structures nest.
+ghost use Rattle.std.specs.Prelude.{◌≡◌, ◌<◌, ◌+◌, ◌++◌, ◌∷◌, [], ◌&&◌, false, map, length, get_or, set, Some, Option};
+ghost use Rattle.std.specs.Prelude.{option_map, OnOk, IfOk, ℕ};
 ghost use Rattle.std.specs.Option.{is_none};
 ghost use Rattle.pli_base.specs.views.DeclarationView.{attribute_view};
 ghost use Rattle.pli_map.specs.Description.{Description, Structure, Members};
@@ -10,7 +11,8 @@ ghost use Rattle.pli_declare_attributes.specs.Sets.{outermost};
 ghost use Rattle.pli_declare_tables.specs.answers.Answers.{AreBehindOwners};
 ghost use Rattle.pli_declare_tables.specs.Tables.{numbers_from};
 ghost use Rattle.pli_declare_tables.specs.views.TableView.{entry_view, entries_view};
-ghost use Rattle.pli_declare_variables.specs.Descriptions.{is_of_shape, described, inside, members_made, member_then, is_large, is_large_at, ShapesAreSound};
+ghost use Rattle.pli_declare_variables.specs.Descriptions.{is_of_shape, described, inside, members_made, member_then};
+ghost use Rattle.pli_declare_variables.specs.Descriptions.{is_large, is_large_at, ShapesAreSound};
 ghost use Rattle.pli_declare_variables.specs.answers.Measures.{of_layout, IsMeasured, AreMeasured, IsFront};
 ghost use Rattle.pli_declare_variables.specs.Places as places;
 ghost use Rattle.pli_declare_variables.specs.Places.{item_in, members_of};
@@ -47,7 +49,8 @@ impl Measured {
 
     /// Members up to here and one more.
     fn and(self, member: Measured) -> Measured
-        ensures { (d : Option Description) (others whole : Option Members) → IsMeasured member d → IsFront self (member_then d others) whole
+        ensures { (d : Option Description) (others whole : Option Members) → IsMeasured member d →
+            IsFront self (member_then d others) whole
             → IsFront result others whole }
     {
         match (self, member) {
@@ -60,7 +63,8 @@ impl Measured {
     /// An array of these dimensions, which are good, or the element itself where there are none.
     fn with_dimensions(self, dimensions: &[WrittenBounds]) -> Measured
         requires { are_bad_bounds dimensions.now ≡ false }
-        ensures { (d : Option Description) → IsMeasured self d → IsMeasured result (option_map (with_bounds (all_bounds dimensions.now)) d) }
+        ensures { (d : Option Description) → IsMeasured self d →
+            IsMeasured result (option_map (with_bounds (all_bounds dimensions.now)) d) }
     {
         if dimensions.is_empty() {
             return self;
@@ -106,7 +110,8 @@ fn measure(entry: &Entry, members: &[usize], measured: &[Measured]) -> Measured
     requires { are_bad_bounds (item_in (entry_view entry.now).entity).dimensions ≡ false }
     ensures { let item = item_in (entry_view entry.now).entity in
         (describe : ℕ → Option Description) → AreMeasured describe measured.now members.now
-        → IsMeasured result (option_map (with_bounds (all_bounds item.dimensions)) (inside describe (described_scalar (map outermost item.attributes)) members.now)) }
+        → IsMeasured result (option_map (with_bounds (all_bounds item.dimensions))
+        (inside describe (described_scalar (map outermost item.attributes)) members.now)) }
 {
     let inside = if members.is_empty() {
         Measured::of(scalar_layout(attributes(entry)))
@@ -130,7 +135,8 @@ pub(crate) fn has_bad_shape(codes: &[Option<Code>], number: usize) -> bool
 fn add(members: &mut Vec<Vec<usize>>, owner: usize, number: usize) -> Result<(), AllocError>
     requires { owner < length members.old.items }
     ensures { OnOk result (map (λ v. v.items) members.new.items
-        ≡ set (map (λ v. v.items) members.old.items) owner (get_or (map (λ v. v.items) members.old.items) owner [] ++ number ∷ [])) }
+        ≡ set (map (λ v. v.items) members.old.items) owner (get_or (map (λ v. v.items) members.old.items) owner []
+        ++ number ∷ [])) }
 {
     members[owner].push(number)?;
     Ok(())
@@ -142,7 +148,8 @@ pub(crate) fn members_by_owner(
     entries: &[Entry],
 ) -> Result<Vec<Vec<usize>>, AllocError>
     requires { AreBehindOwners (entries_view entries.now) }
-    ensures { IfOk result (λ members. map (λ v. v.items) members.items ≡ map (members_of (entries_view entries.now)) (numbers_from 0 (length entries.now))) }
+    ensures { IfOk result (λ members. map (λ v. v.items) members.items
+        ≡ map (members_of (entries_view entries.now)) (numbers_from 0 (length entries.now))) }
 {
     let mut members = Vec::with_capacity(alloc, entries.len())?;
     for _ in 0..entries.len() {
@@ -166,7 +173,8 @@ fn measure_all(
     requires owners { AreBehindOwners (entries_view entries.now) }
     requires sound { ShapesAreSound (entries_view entries.now) codes.now }
     ensures { IfOk result (λ measured. (n : ℕ) → n < length entries.now
-        → IsMeasured (get_or measured.items n variants.Unknown) (described (length entries.now) (entries_view entries.now) codes.now n)) }
+        → IsMeasured (get_or measured.items n variants.Unknown)
+        (described (length entries.now) (entries_view entries.now) codes.now n)) }
 {
     let members = members_by_owner(alloc, entries)?;
     let mut measured = vec![in alloc; Measured::Unknown; entries.len()]?;
@@ -184,7 +192,8 @@ fn measure_all(
 
 /// Whether an entry is a variable of its own, and over the limit.
 fn is_large_variable(entry: &Entry, is_over: bool) -> bool
-    ensures { result ≡ (is_none (entry_view entry.now).owner && places.is_variable (entry_view entry.now).entity && is_over) }
+    ensures { result ≡ (is_none (entry_view entry.now).owner && places.is_variable (entry_view entry.now).entity
+        && is_over) }
 {
     entry.owner.is_none() && is_variable(entry) && is_over
 }
@@ -197,7 +206,8 @@ pub(crate) fn too_large(
 ) -> Result<Vec<bool>, AllocError>
     requires owners { AreBehindOwners (entries_view entries.now) }
     requires sound { ShapesAreSound (entries_view entries.now) codes.now }
-    ensures { IfOk result (λ large. large.items ≡ map (is_large_at (entries_view entries.now) codes.now) (numbers_from 0 (length entries.now))) }
+    ensures { IfOk result (λ large. large.items ≡ map (is_large_at (entries_view entries.now) codes.now)
+        (numbers_from 0 (length entries.now))) }
 {
     let measured = measure_all(alloc, entries, codes)?;
     let mut large = Vec::with_capacity(alloc, entries.len())?;

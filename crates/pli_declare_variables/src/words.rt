@@ -6,7 +6,8 @@ ghost use Rattle.pli_declare_variables.specs.Places.{is_built_in};
 
 use pli_base::Name;
 
-/// The names: of arithmetic; of what tells of a string, an array or a controlled variable; SUBSTR, and those of storage.
+/// The names: of arithmetic; of what tells of a string, an array or a controlled variable; SUBSTR, and those of
+/// storage.
 const BUILT_IN: [&[u8]; 17] = [
     b"ABS",
     b"MAX",

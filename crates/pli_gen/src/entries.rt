@@ -23,7 +23,8 @@ pub(crate) fn copy_descriptions(
     copied: &mut Vec<Description>,
 ) -> Result<(), AllocError>
     ensures { OnOk result
-        (map description_view copied.new.items ≡ map description_view copied.old.items ++ (tables_view tables.now).descriptions) }
+        (map description_view copied.new.items ≡ map description_view copied.old.items
+        ++ (tables_view tables.now).descriptions) }
 {
     for key in tables.descriptions.as_slice() {
         copied.push(key.description.copy(alloc)?)?;
@@ -69,7 +70,8 @@ pub(crate) fn encode_templates(
 ) -> Result<(), AllocError>
     ensures { let tables = tables_view numbers.entry.tables.now in
         OnOk result
-        (map coded_template_view coded.new.items ≡ map coded_template_view coded.old.items ++ map (template_code tables) tables.templates) }
+        (map coded_template_view coded.new.items ≡ map coded_template_view coded.old.items
+        ++ map (template_code tables) tables.templates) }
 {
     for key in numbers.tables.templates.as_slice() {
         let initial = copy_initial(alloc, key.initial)?;

@@ -5,7 +5,8 @@ ghost use Rattle.pli_gen.specs.examples.TranslationExamples.{JumpsAndBlocks, Who
 ghost use Rattle.pli_gen.specs.examples.TranslationExamples.{TablesNumbered, InstructionsNumbered, LimitsKept};
 ghost use Rattle.pli_gen.specs.examples.TranslationExamples.{GlobalsNumbered, EntriesCalled, EntriesLinked};
 ghost use Rattle.pli_gen.specs.examples.TranslationExamples.{GenerationsStacked, ControlledLinked};
-ghost use Rattle.pli_gen.specs.examples.TranslationExamples.{PointersFollowed, AreasUsed, UnitsEstablished, UnitsNumbered};
+ghost use Rattle.pli_gen.specs.examples.TranslationExamples.{PointersFollowed, AreasUsed, UnitsEstablished};
+ghost use Rattle.pli_gen.specs.examples.TranslationExamples.{UnitsNumbered};
 
 /// Worked examples: an assignment and PUT; a reference with subscripts; a call; an aggregate; a group with a control
 /// variable; jumps between blocks; tables; globals and calls of entries; ALLOCATE, FREE and ALLOCATION; what

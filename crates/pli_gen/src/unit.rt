@@ -67,7 +67,8 @@ fn encode_blocks<'a>(
     requires each { length entries.now ≡ length blocks.now }
     requires near { (k : ℕ) → k < length entries.now → slice_index entries.now k ≤ 65535 }
     requires narrow { list_all block_fits (block_trees blocks.now) ≡ true }
-    ensures { let placed = blocks_with_entries (tables_view numbers.entry.tables.now) (block_trees blocks.now) entries.now in
+    ensures { let placed = blocks_with_entries (tables_view numbers.entry.tables.now)
+        (block_trees blocks.now) entries.now in
         OnOk result (map block_view coded.new.items ≡ map block_view coded.old.items ++ placed) }
 {
     for i in 0..blocks.len() {

@@ -185,7 +185,8 @@ fn flattened<'a>(
     lists: &[Vec<BlockSource<'a>>],
 ) -> Result<Vec<BlockSource<'a>>, AllocError>
     ensures { IfOk result
-        (λ blocks. block_trees blocks.items ≡ flat_map (λ trees. trees) (map (λ list. block_trees list.items) lists.now)) }
+        (λ blocks. block_trees blocks.items ≡ flat_map (λ trees. trees)
+        (map (λ list. block_trees list.items) lists.now)) }
 {
     let mut blocks = Vec::new(alloc);
     for list in lists {
@@ -214,7 +215,8 @@ pub(crate) fn blocks_by_number(
     procedures: &[TypedProcedure],
 ) -> Result<Vec<BlockSource<'_>>, AllocError>
     ensures { IfOk result
-        (λ blocks. block_trees blocks.items ≡ by_number (flat_map blocks_of_procedure (map procedure_view procedures.now))) }
+        (λ blocks. block_trees blocks.items ≡ by_number (flat_map blocks_of_procedure
+        (map procedure_view procedures.now))) }
 {
     let blocks = collect_all(alloc, procedures)?;
     in_order(alloc, blocks.as_slice())

@@ -5,7 +5,8 @@ ghost use Rattle.pli_type_tree.specs.views.TypedView.{expression_view, reference
 ghost use Rattle.pli_type_tree.specs.views.TypedView.{argument_before};
 ghost use Rattle.pli_type_tree.specs.views.TypedView.{operands_view, subscripts_view, arguments_view};
 ghost use Rattle.pli_type_tree.specs.TypedTree.{NoArgument};
-ghost use Rattle.pli_gen_emit.specs.TreeTranslation.{value_code, root_code, place_code, operands_code, subscripts_code, arguments_code};
+ghost use Rattle.pli_gen_emit.specs.TreeTranslation.{value_code, root_code, place_code, operands_code, subscripts_code};
+ghost use Rattle.pli_gen_emit.specs.TreeTranslation.{arguments_code};
 ghost use Rattle.pli_gen_emit.specs.answers.Emitting.{Emits};
 
 use crate::emitter::Emitter;

@@ -3,8 +3,10 @@
 
 ghost use Rattle.std.specs.Prelude.{◌++◌, ◌∷◌, [], length, map};
 ghost use Rattle.pli_program.specs.Program as op;
-ghost use Rattle.pli_type_tree.specs.views.TypedView.{expression_view, reference_view, form_view, allocated_view, freed_view};
-ghost use Rattle.pli_gen_emit.specs.TreeTranslation.{place_code, skip_code, items_code, allocation_code, allocations_code};
+ghost use Rattle.pli_type_tree.specs.views.TypedView.{expression_view, reference_view, form_view, allocated_view};
+ghost use Rattle.pli_type_tree.specs.views.TypedView.{freed_view};
+ghost use Rattle.pli_gen_emit.specs.TreeTranslation.{place_code, skip_code, items_code, allocation_code};
+ghost use Rattle.pli_gen_emit.specs.TreeTranslation.{allocations_code};
 ghost use Rattle.pli_gen_emit.specs.TreeTranslation.{freeing_code, freeings_code};
 ghost use Rattle.pli_gen_emit.specs.answers.Emitting.{Emits};
 ghost use Rattle.pli_gen_emit.specs.answers.Pieces.{simple_code};
@@ -17,7 +19,8 @@ use pli_type_tree::{AllocatedItem, Form, FreedItem, TypedExpression, TypedRefere
 
 /// Emits the code of a target's place and of a source's.
 fn emit_places<'a>(target: &'a TypedReference, source: &'a TypedReference, code: &mut Emitter<'a>)
-    ensures { Emits code.old code.new (place_code (reference_view target.now) ++ place_code (reference_view source.now)) }
+    ensures { Emits code.old code.new (place_code (reference_view target.now)
+        ++ place_code (reference_view source.now)) }
 {
     emit_place(target, code);
     emit_place(source, code);

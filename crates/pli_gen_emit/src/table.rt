@@ -208,7 +208,8 @@ pub(crate) fn number_unit<'a>(
     ensures { let u = unit_view unit.now in
         let variables = block_templates (block_trees blocks.now) in
         Numbers tables.old tables.new
-        (signature_descriptions u.signature ++ flat_map global_descriptions u.globals ++ map (λ t. t.description) variables)
+        (signature_descriptions u.signature ++ flat_map global_descriptions u.globals
+        ++ map (λ t. t.description) variables)
         (flat_map global_templates u.globals ++ variables) [] }
 {
     number_signature(tables, &unit.signature);

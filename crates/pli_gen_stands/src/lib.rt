@@ -10,8 +10,8 @@ pub fn code_stands()
     ensures { CodeStands }
 {}
 
-/// For a well-typed program whose units are numbered well, and every number of steps: the program has a meaning, and the
-/// run of its module, with the code of each unit and the links of its globals, gives that, and nothing else.
+/// For a well-typed program whose units are numbered well, and every number of steps: the program has a meaning, and
+/// the run of its module, with the code of each unit and the links of its globals, gives that, and nothing else.
 pub fn programs_run_as_meant()
     ensures { ProgramsRunAsMeant }
 {}

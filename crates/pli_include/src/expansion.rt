@@ -50,7 +50,12 @@ impl Expansion {
     pub(crate) fn whole(trace: Vec<TraceEntry>, texts: Texts) -> Expansion
         requires origins { length texts.origins ≡ length texts.texts.items }
         requires few { length texts.texts.items ≤ 200000 }
-        ensures { result ≡ record { trace = trace.items; texts = texts.texts.items; origins = texts.origins; fault = None } }
+        ensures { result ≡ record {
+          trace = trace.items;
+          texts = texts.texts.items;
+          origins = texts.origins;
+          fault = None;
+        } }
     {
         Expansion {
             trace,

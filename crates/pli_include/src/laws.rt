@@ -1,5 +1,7 @@
 //! Laws of expansion.
-ghost use Rattle.pli_include.specs.examples.Examples.{Included, IncludedQuoted, LastTokenTooMany, DirectiveTooLong, AbsentMember, Recursive, TooManyBeforeRecursive, NotEndedInMember, QuotedNoName, FaultyMember, Twice};
+ghost use Rattle.pli_include.specs.examples.Examples.{Included, IncludedQuoted, LastTokenTooMany, DirectiveTooLong};
+ghost use Rattle.pli_include.specs.examples.Examples.{AbsentMember, Recursive, TooManyBeforeRecursive};
+ghost use Rattle.pli_include.specs.examples.Examples.{NotEndedInMember, QuotedNoName, FaultyMember, Twice};
 ghost use Rattle.pli_include.specs.laws.Laws.{LevelIsNeverMet, TextsHaveOrigins, TraceDecides, ExpansionStays};
 
 /// A law: an expansion's recursion is founded on the tokens that may still be read, so that its level is never met.

@@ -66,7 +66,8 @@ pub fn look(
     requires kept { IsKept members.now }
     requires held { HoldsTexts (look_in members.now.entries) progress.old.looked texts.old.items }
     ensures looked { OnOk result (progress.new ≡ looking name progress.old) }
-    ensures found { IfOk result (λ found. Finds (look_in members.now.entries) name found progress.new.looked texts.new.items) }
+    ensures found { IfOk result (λ found. Finds (look_in members.now.entries) name found progress.new.looked
+        texts.new.items) }
     ensures within { progress.old.read ≤ 200000 }
 {
     let (slot, is_first) = progress.look(name)?;

@@ -35,8 +35,8 @@ impl Model for Origins {
     ghost invariant = { λ o. All (IsOfRun o.members.items) o.places.items };
 }
 
-/// The run of one more token of a member: the last one, if it is of that member, or else a new one. An error comes where
-/// memory runs out, as it does at 2^32 runs.
+/// The run of one more token of a member: the last one, if it is of that member, or else a new one. An error comes
+/// where memory runs out, as it does at 2^32 runs.
 fn run_of(members: &mut Vec<Name>, member: Name) -> Result<u32, AllocError>
     ensures run { IfOk result (λ run. slice_get members.new.items run ≡ Some member) }
     ensures kept { (more : List base.Name) × (members.new.items ≡ members.old.items ++ more) }

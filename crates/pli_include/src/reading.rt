@@ -30,7 +30,13 @@ pub enum Pause {
 
 /// A fault at a token of a member.
 fn fault_at(code: Code, member: Name, token: &Token) -> Pause
-    ensures { result ≡ Pause.Fault (record { code = code; origin = record { member = member; line = token.now.line } }) }
+    ensures { result ≡ Pause.Fault (record {
+      code = code;
+      origin = record {
+        member = member;
+        line = token.now.line;
+      };
+    }) }
 {
     Pause::Fault(ExpansionFault {
         code,

@@ -4,7 +4,8 @@ ghost use Rattle.std.specs.Prelude.{◌≡◌, ◌<◌, ◌≤◌, ◌+◌, [], 
 ghost use Rattle.pli_members.specs.answers.Kept.{IsKept};
 ghost use Rattle.pli_include.specs.Expanded.{look_in, outcome_of};
 ghost use Rattle.pli_include.specs.Expansion.{◌then◌};
-ghost use Rattle.pli_include.specs.answers.Walking.{IsUnderWay, IsFresh, going, goes_on, ended, include_from, work_left};
+ghost use Rattle.pli_include.specs.answers.Walking.{IsUnderWay, IsFresh, going, goes_on, ended, include_from};
+ghost use Rattle.pli_include.specs.answers.Walking.{work_left};
 
 use crate::expansion::ExpansionFault;
 use crate::library::{MemberTokens, Membership, look};
@@ -54,12 +55,15 @@ impl ExpansionWalk {
         at: Origin,
     ) -> Result<Option<ExpansionFault>, AllocError>
         requires kept { IsKept members.now }
-        requires under_way { IsUnderWay (look_in members.now.entries) self.old.progress.looked self.old.texts.items self.old.path.keys self.old.frames.items }
+        requires under_way { IsUnderWay (look_in members.now.entries) self.old.progress.looked self.old.texts.items
+            self.old.path.keys self.old.frames.items }
         ensures same { IfOk result (λ fault.
             goes_on 200000 (look_in members.now.entries) fault self.new.progress self.new.frames.items
-            ≡ (include_from 200000 (look_in members.now.entries) self.old.path.keys at name self.old.progress then going 200000 (look_in members.now.entries) [] self.old.frames.items)) }
+            ≡ (include_from 200000 (look_in members.now.entries) self.old.path.keys at name self.old.progress then going
+            200000 (look_in members.now.entries) [] self.old.frames.items)) }
         ensures under_way { IfOk result (λ fault. fault ≡ None →
-            IsUnderWay (look_in members.now.entries) self.new.progress.looked self.new.texts.items self.new.path.keys self.new.frames.items) }
+            IsUnderWay (look_in members.now.entries) self.new.progress.looked self.new.texts.items
+            self.new.path.keys self.new.frames.items) }
         ensures read { IfOk result (λ fault. self.new.progress.read ≡ self.old.progress.read) }
         ensures frames { IfOk result (λ fault. length self.new.frames.items ≤ length self.old.frames.items + 1) }
     {
@@ -101,13 +105,16 @@ impl ExpansionWalk {
         frame: OpenMember,
     ) -> Result<Option<ExpansionFault>, AllocError>
         requires kept { IsKept members.now }
-        requires under_way { IsUnderWay (look_in members.now.entries) self.old.progress.looked self.old.texts.items self.old.path.keys (self.old.frames.items ++ frame ∷ []) }
+        requires under_way { IsUnderWay (look_in members.now.entries) self.old.progress.looked self.old.texts.items
+            self.old.path.keys (self.old.frames.items ++ frame ∷ []) }
         ensures same { IfOk result (λ fault.
             goes_on 200000 (look_in members.now.entries) fault self.new.progress self.new.frames.items
             ≡ going 200000 (look_in members.now.entries) [] (self.old.frames.items ++ frame ∷ []) self.old.progress) }
         ensures under_way { IfOk result (λ fault. fault ≡ None →
-            IsUnderWay (look_in members.now.entries) self.new.progress.looked self.new.texts.items self.new.path.keys self.new.frames.items) }
-        ensures less { IfOk result (λ fault. work_left self.new.progress self.new.frames.items < work_left self.old.progress (self.old.frames.items ++ frame ∷ [])) }
+            IsUnderWay (look_in members.now.entries) self.new.progress.looked self.new.texts.items
+            self.new.path.keys self.new.frames.items) }
+        ensures less { IfOk result (λ fault. work_left self.new.progress self.new.frames.items
+            < work_left self.old.progress (self.old.frames.items ++ frame ∷ [])) }
     {
         let tokens = self.texts[frame.slot].tokens();
         match read_tokens(alloc, &mut self.progress, frame.name, tokens, frame.next)? {
@@ -134,8 +141,10 @@ impl ExpansionWalk {
         members: &Members,
     ) -> Result<Option<ExpansionFault>, AllocError>
         requires kept { IsKept members.now }
-        requires under_way { IsUnderWay (look_in members.now.entries) self.old.progress.looked self.old.texts.items self.old.path.keys self.old.frames.items }
-        ensures { IfOk result (λ fault. ended fault self.new.progress ≡ going 200000 (look_in members.now.entries) [] self.old.frames.items self.old.progress) }
+        requires under_way { IsUnderWay (look_in members.now.entries) self.old.progress.looked self.old.texts.items
+            self.old.path.keys self.old.frames.items }
+        ensures { IfOk result (λ fault. ended fault self.new.progress
+            ≡ going 200000 (look_in members.now.entries) [] self.old.frames.items self.old.progress) }
     {
         while let Some(frame) = self.frames.pop() {
             if let Some(fault) = self.step(alloc, members, frame)? {

@@ -1,5 +1,6 @@
 //! The units of a build, in the order of their names, with what is kept of them.
-ghost use Rattle.std.specs.Prelude.{◌≡◌, ◌≢◌, ◌+◌, ◌<◌, ◌≤◌, ◌++◌, ◌∷◌, [], true, map, IfOk, IfSome, OnErr, vec_len, vec_capacity};
+ghost use Rattle.std.specs.Prelude.{◌≡◌, ◌≢◌, ◌+◌, ◌<◌, ◌≤◌, ◌++◌, ◌∷◌, [], true, map, IfOk, IfSome, OnErr, vec_len};
+ghost use Rattle.std.specs.Prelude.{vec_capacity};
 ghost use Rattle.std.specs.Option.{option_copied};
 ghost use Rattle.pli_base.specs.Name as base;
 ghost use Rattle.pli_ledger.specs.Kept.{kept_of};
@@ -54,7 +55,8 @@ fn move_kept(from: &mut [KeptUnit], to: &mut Vec<KeptUnit>, entry: &NamedMember)
 
 /// What is left of units behind that of a member, if it is a source: none, where the first unit is another one.
 fn behind_source<'a>(left: &'a [KeptUnit], entry: &NamedMember) -> Option<&'a [KeptUnit]>
-    ensures { IfSome (option_copied result) (λ behind. map unit_name left.now ≡ source_in entry.now.0 entry.now.1.kind ++ map unit_name behind) }
+    ensures { IfSome (option_copied result) (λ behind. map unit_name left.now
+        ≡ source_in entry.now.0 entry.now.1.kind ++ map unit_name behind) }
 {
     match entry.kind() {
         MemberKind::Source => {

@@ -5,7 +5,8 @@ ghost use Rattle.pli_include.specs.Expanded.{Expanded};
 ghost use Rattle.pli_ledger.specs.Kept.{nothing_kept};
 ghost use Rattle.pli_ledger.specs.Refused.{Rises};
 ghost use Rattle.pli_ledger.specs.Work.{is_compiled};
-ghost use Rattle.pli_ledger.specs.answers.Compiling.{IsFresh, IsRecalled, one_if, recompiled, refreshed, unit_is_due, unit_is_stale};
+ghost use Rattle.pli_ledger.specs.answers.Compiling.{IsFresh, IsRecalled, one_if, recompiled, refreshed, unit_is_due};
+ghost use Rattle.pli_ledger.specs.answers.Compiling.{unit_is_stale};
 ghost use Rattle.pli_ledger.specs.views.KeptView.{HaveResult, texts_of};
 
 use crate::texts::same_texts;

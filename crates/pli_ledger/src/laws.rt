@@ -1,5 +1,6 @@
 //! Laws of ledgers.
-ghost use Rattle.pli_ledger.specs.laws.Laws.{AdditionsKeepFits, AfterFits, BuildsKeepFits, ChangesKeepFits, DeletionsKeepFits, NothingFits, WhatHoldsIsFresh};
+ghost use Rattle.pli_ledger.specs.laws.Laws.{AdditionsKeepFits, AfterFits, BuildsKeepFits, ChangesKeepFits};
+ghost use Rattle.pli_ledger.specs.laws.Laws.{DeletionsKeepFits, NothingFits, WhatHoldsIsFresh};
 
 use pli_members::{deletion_keeps_others, deletion_takes, edit_gives_next, edit_keeps_others};
 

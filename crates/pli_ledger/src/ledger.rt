@@ -48,9 +48,9 @@ impl Ledger {
     }
 
     /// Builds all source members: those that are due are expanded, those that are stale are compiled, and what is kept
-    /// serves for the others. It answers what a build from scratch of the members gives, and keeps what was expanded and
-    /// compiled. A module of the members that stands still is answered as it is. Refused for want of memory alone; then
-    /// what was done before is kept, so that the next build does not do it again.
+    /// serves for the others. It answers what a build from scratch of the members gives, and keeps what was expanded
+    /// and compiled. A module of the members that stands still is answered as it is. Refused for want of memory alone;
+    /// then what was done before is kept, so that the next build does not do it again.
     pub fn build(
         &mut self,
         alloc: Global,
@@ -66,8 +66,10 @@ impl Ledger {
         ensures expansions { OnOk result (Rises expander.old (due_count self.old.units members.now) expander.new) }
         ensures compilations { OnOk result (Rises compiler.old (stale_count self.old.units members.now) compiler.new) }
         ensures refused { OnErr result (IsRefused members.now self.old self.new) }
-        ensures expansions_refused { OnErr result (Rises expander.old (expanded_count self.old.units self.new.units members.now) expander.new) }
-        ensures compilations_refused { OnErr result (Rises compiler.old (compiled_count self.old.units self.new.units members.now) compiler.new) }
+        ensures expansions_refused { OnErr result (Rises expander.old
+            (expanded_count self.old.units self.new.units members.now) expander.new) }
+        ensures compilations_refused { OnErr result (Rises compiler.old
+            (compiled_count self.old.units self.new.units members.now) compiler.new) }
         ensures fits { Fits self.new.units members.now }
     {
         let _ = members.entries();

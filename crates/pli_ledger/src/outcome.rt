@@ -82,8 +82,8 @@ fn lent_decks(alloc: Global, units: &[KeptUnit]) -> Result<Vec<&[u8]>, AllocErro
     Ok(all)
 }
 
-/// The module of units that have no diagnostics, or the lines of the faults of linking. Of units that did not change the
-/// bytes of their decks are there, and are copied.
+/// The module of units that have no diagnostics, or the lines of the faults of linking. Of units that did not change
+/// the bytes of their decks are there, and are copied.
 #[tactic(auto, unfolding(pli_meaning::specs::Scratch::scratch), using(crate::proofs::ModulesStored::is_of_members))]
 fn linked(alloc: Global, units: &[KeptUnit], members: &Members) -> Result<Outcome, AllocError>
     requires text { all_text members.now.entries members.now.entries ≡ [] }

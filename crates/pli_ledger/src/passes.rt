@@ -1,7 +1,8 @@
 //! The two passes over the units of a build: those that are due are expanded, then those that are stale are compiled.
 ghost use Rattle.std.specs.Prelude.{◌≡◌, All, IfOk, OnOk, length};
 ghost use Rattle.std.specs.List.{count_by};
-ghost use Rattle.pli_ledger.specs.answers.Compiling.{IsRecalled, one_if, recompiled, refreshed, unit_is_due, unit_is_stale};
+ghost use Rattle.pli_ledger.specs.answers.Compiling.{IsRecalled, one_if, recompiled, refreshed, unit_is_due};
+ghost use Rattle.pli_ledger.specs.answers.Compiling.{unit_is_stale};
 ghost use Rattle.pli_ledger.specs.answers.Passing.{PassedUpTo, Passes};
 
 use crate::kept::KeptUnit;
@@ -26,8 +27,10 @@ pub fn expand_due(
 ) -> Result<u64, AllocError>
     requires { All (IsRecalled members.now) units.old }
     ensures number { IfOk result (λ number. number ≡ count_by (unit_is_due members.now) units.old) }
-    ensures all { OnOk result (PassedUpTo (refreshed members.now) (unit_is_due members.now) (length units.old) units.old units.new expander.old expander.new) }
-    ensures some { Passes (refreshed members.now) (unit_is_due members.now) units.old units.new expander.old expander.new }
+    ensures all { OnOk result (PassedUpTo (refreshed members.now) (unit_is_due members.now)
+        (length units.old) units.old units.new expander.old expander.new) }
+    ensures some { Passes (refreshed members.now) (unit_is_due members.now) units.old units.new expander.old
+        expander.new }
 {
     let mut number = 0;
     for unit in units.iter_mut() {
@@ -40,7 +43,8 @@ pub fn expand_due(
 /// compiled.
 pub fn compile_stale(units: &mut [KeptUnit], compiler: &mut Compiler) -> Result<u64, AllocError>
     ensures number { IfOk result (λ number. number ≡ count_by unit_is_stale units.old) }
-    ensures all { OnOk result (PassedUpTo recompiled unit_is_stale (length units.old) units.old units.new compiler.old compiler.new) }
+    ensures all { OnOk result (PassedUpTo recompiled unit_is_stale
+        (length units.old) units.old units.new compiler.old compiler.new) }
     ensures some { Passes recompiled unit_is_stale units.old units.new compiler.old compiler.new }
 {
     let mut number = 0;

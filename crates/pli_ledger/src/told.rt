@@ -2,7 +2,8 @@
 ghost use Rattle.std.specs.Prelude.{◌≡◌, ◌++◌, map, slice_get, IfOk, OnOk};
 ghost use Rattle.std.specs.List.{flat_map};
 ghost use Rattle.pli_ledger.specs.Told.{kept_text, told};
-ghost use Rattle.pli_meaning.specs.Scratch.{code_line, diagnostic_line, diagnostics_in, link_line, located, name_line, origin_of};
+ghost use Rattle.pli_meaning.specs.Scratch.{code_line, diagnostic_line, diagnostics_in, link_line, located, name_line};
+ghost use Rattle.pli_meaning.specs.Scratch.{origin_of};
 
 use crate::kept::KeptUnit;
 use pli_base::{Code, Fault, Name, Origin};
@@ -18,7 +19,8 @@ fn write_diagnostic(
     origin: Origin,
     code: Code,
 ) -> Result<(), AllocError>
-    ensures { OnOk result (text.new.bytes.items ≡ text.old.bytes.items ++ diagnostic_line unit (record { origin = origin; code = code })) }
+    ensures { OnOk result (text.new.bytes.items ≡ text.old.bytes.items
+        ++ diagnostic_line unit (record { origin = origin; code = code })) }
 {
     writeln!(text, "{unit} {}:{} {code}", origin.member, origin.line)
 }
@@ -43,7 +45,8 @@ fn write_faults(
     origins: &Origins,
     faults: &[Fault],
 ) -> Result<(), AllocError>
-    ensures { OnOk result (text.new.bytes.items ≡ text.old.bytes.items ++ flat_map (diagnostic_line unit) (map (located unit origins.now) faults.now)) }
+    ensures { OnOk result (text.new.bytes.items ≡ text.old.bytes.items
+        ++ flat_map (diagnostic_line unit) (map (located unit origins.now) faults.now)) }
 {
     for fault in faults {
         let origin = origin_at(unit, origins, fault.at as usize);

@@ -1,7 +1,8 @@
 //! The kinds of characters.
 ghost use Rattle.std.specs.Prelude.{◌≡◌};
 ghost use Rattle.pli_base.specs.Name.{is_name_character};
-ghost use Rattle.pli_lex.specs.Characters.{is_blank, is_b, is_binary_digit, is_width_digit, digit_value, continues_number, begins_with, begins_comment};
+ghost use Rattle.pli_lex.specs.Characters.{is_blank, is_b, is_binary_digit, is_width_digit, digit_value};
+ghost use Rattle.pli_lex.specs.Characters.{continues_number, begins_with, begins_comment};
 
 use pli_base::is_name_character;
 

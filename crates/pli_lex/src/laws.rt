@@ -3,7 +3,11 @@ ghost use Rattle.std.specs.Prelude.{◌≡◌, ◌≢◌, ℕ, List, [], ◌++�
 ghost use Rattle.pli_base.specs.declared.token.Token.{Token};
 ghost use Rattle.pli_base.specs.declared.token.TokenText.{TokenText};
 ghost use Rattle.pli_lex.specs.declared.answer.LexFault.{LexFault};
-ghost use Rattle.pli_lex.specs.examples.Examples.{ProcedureLine, LowerCaseLine, TabLine, BinaryConstants, CharacterConstants, BitConstants, Signs, CommentLine, CommentLines, CommentOnOneLine, TwoLines, UnendedComments, UnendedStrings, BadNumbers, TooManyDigits, GreatestNumbers, BadBitConstants, CharactersThenName, BadCharacters, LongestName};
+ghost use Rattle.pli_lex.specs.examples.Examples.{ProcedureLine, LowerCaseLine, TabLine, BinaryConstants};
+ghost use Rattle.pli_lex.specs.examples.Examples.{CharacterConstants, BitConstants, Signs, CommentLine, CommentLines};
+ghost use Rattle.pli_lex.specs.examples.Examples.{CommentOnOneLine, TwoLines, UnendedComments, UnendedStrings};
+ghost use Rattle.pli_lex.specs.examples.Examples.{BadNumbers, TooManyDigits, GreatestNumbers, BadBitConstants};
+ghost use Rattle.pli_lex.specs.examples.Examples.{CharactersThenName, BadCharacters, LongestName};
 ghost use Rattle.pli_lex.specs.Tokens.{IsToken, EndsAt, Spells, SpellsLines};
 ghost use Rattle.pli_lex.specs.Faults.{HasFault, HasLineFault};
 ghost use Rattle.pli_lex.specs.Reading.{tokens_of, lexed};
@@ -27,8 +31,8 @@ pub fn texts_have_their_faults()
     ensures { (text : List ℕ) (fault : LexFault) → tokens_of text ≡ Err fault → HasFault text fault }
 {}
 
-/// A law: the fault of the first place where nothing can stand is the one that is met, so that a text has one fault at most, and none where it spells
-/// tokens.
+/// A law: the fault of the first place where nothing can stand is the one that is met, so that a text has one fault at
+/// most, and none where it spells tokens.
 pub fn texts_faults_are_met()
     ensures { (text : List ℕ) (fault : LexFault) → HasFault text fault → tokens_of text ≡ Err fault }
 {}
@@ -60,7 +64,8 @@ pub fn lines_faults_are_met()
 /// A law: where a token ends, it is the longest that can stand there.
 pub fn tokens_are_longest()
     ensures { (run rest : List ℕ) (token : TokenText) → IsToken run token → EndsAt run token rest →
-        (more behind : List ℕ) (other : TokenText) → rest ≡ more ++ behind → more ≢ [] → IsToken (run ++ more) other → ⊥ }
+        (more behind : List ℕ) (other : TokenText) → rest ≡ more ++ behind → more ≢ [] → IsToken (run ++ more) other →
+        ⊥ }
 {}
 
 /// Worked examples of what lines spell and of their faults.

@@ -1,5 +1,6 @@
 //! Character and bit constants.
-ghost use Rattle.std.specs.Prelude.{◌≡◌, ◌<◌, ◌≤◌, ◌^◌, ◌++◌, IsTrue, Some, None, false, IfOk, OnOk, length, take, if◌then◌else◌};
+ghost use Rattle.std.specs.Prelude.{◌≡◌, ◌<◌, ◌≤◌, ◌^◌, ◌++◌, IsTrue, Some, None, false, IfOk, OnOk, length, take};
+ghost use Rattle.std.specs.Prelude.{if◌then◌else◌};
 ghost use Rattle.std.specs.Option.{option_map};
 ghost use Rattle.pli_lex.specs.Characters.{is_quote, is_b, begins_with};
 ghost use Rattle.pli_lex.specs.Tokens.{width_of, bits_of, are_digits, bits_in};
@@ -12,10 +13,11 @@ use std::alloc::{AllocError, Global};
 /// The places of the bits of a digit.
 const PLACES: [u8; 4] = [8, 4, 2, 1];
 
-/// The characters of a string behind its opening quote, a doubled quote being one, and how many bytes these and the closing quote take; None where
-/// no quote closes it.
+/// The characters of a string behind its opening quote, a doubled quote being one, and how many bytes these and the
+/// closing quote take; None where no quote closes it.
 fn characters_of(alloc: Global, text: &[u8]) -> Result<Option<(Vec<u8>, usize)>, AllocError>
-    ensures { IfOk result (λ found. option_map (λ string. (string.0.items, string.1)) found ≡ string_from false text.now) }
+    ensures { IfOk result (λ found. option_map (λ string. (string.0.items, string.1)) found
+        ≡ string_from false text.now) }
 {
     let mut characters = Vec::new(alloc);
     let mut at = 0;
@@ -33,7 +35,8 @@ fn characters_of(alloc: Global, text: &[u8]) -> Result<Option<(Vec<u8>, usize)>,
     Ok(None)
 }
 
-/// How many bits a digit has where the closing quote is followed by a text that begins with `B` (X3.74), and how many bytes say so.
+/// How many bits a digit has where the closing quote is followed by a text that begins with `B` (X3.74), and how many
+/// bytes say so.
 fn suffix(text: &[u8]) -> (u8, usize)
     requires { IsTrue (begins_with is_b text.now) }
     ensures width { width_of (take result.1 text.now) ≡ Some result.0 }
@@ -64,7 +67,8 @@ fn push_bits(bits: &mut Vec<bool>, width: u8, value: u8) -> Result<(), AllocErro
 /// The bits of digits that have `width` bits each; None where one has more.
 fn bits_in(alloc: Global, width: u8, digits: &[u8]) -> Result<Option<Vec<bool>>, AllocError>
     requires { width ≤ 4 }
-    ensures { IfOk result (λ bits. option_map (λ bits. bits.items) bits ≡ (if are_digits width digits.now then Some (bits_in width digits.now) else None)) }
+    ensures { IfOk result (λ bits. option_map (λ bits. bits.items) bits
+        ≡ (if are_digits width digits.now then Some (bits_in width digits.now) else None)) }
 {
     let mut bits = Vec::new(alloc);
     for digit in digits {
@@ -77,7 +81,8 @@ fn bits_in(alloc: Global, width: u8, digits: &[u8]) -> Result<Option<Vec<bool>>,
     Ok(Some(bits))
 }
 
-/// The bit constant of these digits, where `rest`, which begins with `B`, comes directly behind the closing quote; it takes `taken` bytes up to there.
+/// The bit constant of these digits, where `rest`, which begins with `B`, comes directly behind the closing quote; it
+/// takes `taken` bytes up to there.
 fn bits(
     alloc: Global,
     digits: &[u8],

@@ -9,8 +9,8 @@ use crate::piece::{closing_width, token_at};
 use pli_base::{Code, Line, Token};
 use std::alloc::Global;
 
-/// Passes over what a line has at the front: a separator, the rest of a comment that began on the line `began`, or a token, which is added. Answers
-/// the line where the comment began that is open then, and how many bytes were passed.
+/// Passes over what a line has at the front: a separator, the rest of a comment that began on the line `began`, or a
+/// token, which is added. Answers the line where the comment began that is open then, and how many bytes were passed.
 fn pass(
     alloc: Global,
     tokens: &mut Vec<Token>,
@@ -43,8 +43,8 @@ fn pass(
     }
 }
 
-/// Adds the tokens of the line with this number, where a comment may be open that began on the line `began`. Answers the line where the comment began
-/// that is open at its end.
+/// Adds the tokens of the line with this number, where a comment may be open that began on the line `began`. Answers
+/// the line where the comment began that is open at its end.
 fn push_line(
     alloc: Global,
     tokens: &mut Vec<Token>,
@@ -64,8 +64,8 @@ fn push_line(
     Ok(began)
 }
 
-/// The tokens of a member's lines, which are numbered from 1, or the fault of the first place where neither a separator nor a token can stand
-/// (X3.74). Room for one token a line is taken at the start.
+/// The tokens of a member's lines, which are numbered from 1, or the fault of the first place where neither a separator
+/// nor a token can stand (X3.74). Room for one token a line is taken at the start.
 pub fn lex(alloc: Global, lines: &[Line]) -> Result<Vec<Token>, LexError>
     requires { length lines.now ≤ 9999 }
     ensures { Gives result (lexed lines.now) }

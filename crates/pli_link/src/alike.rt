@@ -34,7 +34,8 @@ pub(crate) fn description_at(code: &Code, number: u16) -> Option<&Description>
 
 /// A template of a unit, if the tables have its description.
 fn found_template<'a>(code: &'a Code, template: &'a CodedTemplate) -> Option<TemplateKey<'a>>
-    ensures { option_map templated result ≡ tables.with_description (code_view code.now) (Some (coded_template_view template.now)) }
+    ensures { option_map templated result ≡ tables.with_description (code_view code.now)
+        (Some (coded_template_view template.now)) }
 {
     Some(TemplateKey {
         description: description_at(code, template.description)?,
@@ -52,7 +53,8 @@ pub(crate) fn template_at(code: &Code, number: u16) -> Option<TemplateKey<'_>>
 
 /// Whether descriptions of these numbers are equal.
 fn is_same_description(left: &Code, left_number: u16, right: &Code, right_number: u16) -> bool
-    ensures { result ≡ spec.same_found (spec.description_at (code_view left.now) left_number) (spec.description_at (code_view right.now) right_number) }
+    ensures { result ≡ spec.same_found (spec.description_at (code_view left.now) left_number)
+        (spec.description_at (code_view right.now) right_number) }
 {
     match (
         description_at(left, left_number),
@@ -71,7 +73,8 @@ fn are_same_descriptions(
     right: &Code,
     right_numbers: &[u16],
 ) -> bool
-    ensures { result ≡ pointwise spec.same_found (map (spec.description_at (code_view left.now)) left_numbers.now) (map (spec.description_at (code_view right.now)) right_numbers.now) }
+    ensures { result ≡ pointwise spec.same_found (map (spec.description_at (code_view left.now)) left_numbers.now)
+        (map (spec.description_at (code_view right.now)) right_numbers.now) }
 {
     if left_numbers.len() != right_numbers.len() {
         return false;
@@ -91,7 +94,8 @@ fn is_same_result(
     right: &Code,
     right_result: Option<u16>,
 ) -> bool
-    ensures { result ≡ option_eq spec.same_found (option_map (spec.description_at (code_view left.now)) left_result) (option_map (spec.description_at (code_view right.now)) right_result) }
+    ensures { result ≡ option_eq spec.same_found (option_map (spec.description_at (code_view left.now)) left_result)
+        (option_map (spec.description_at (code_view right.now)) right_result) }
 {
     match (left_result, right_result) {
         (None, None) => true,
@@ -109,7 +113,8 @@ pub(crate) fn is_same_signature(
     right: &Code,
     right_signature: &CodedSignature,
 ) -> bool
-    ensures { result ≡ spec.same_signature (spec.signature_at (code_view left.now) (signature_view left_signature.now)) (spec.signature_at (code_view right.now) (signature_view right_signature.now)) }
+    ensures { result ≡ spec.same_signature (spec.signature_at (code_view left.now) (signature_view left_signature.now))
+        (spec.signature_at (code_view right.now) (signature_view right_signature.now)) }
 {
     are_same_descriptions(
         left,

@@ -16,7 +16,8 @@ pub(crate) fn class_of<'a>(
     known: &mut IndexSet<TemplateKey<'a>>,
     template: Option<TemplateKey<'a>>,
 ) -> Result<Option<usize>, AllocError>
-    ensures class { IfOk result (λ class. spec.IsClass (spec.known_in known.new.keys) (option_map templated template.entry) class) }
+    ensures class { IfOk result (λ class. spec.IsClass (spec.known_in known.new.keys)
+        (option_map templated template.entry) class) }
     ensures grows { spec.Grows known.old.keys known.new.keys }
 {
     let Some(template) = template else {
@@ -35,7 +36,8 @@ pub(crate) fn class_for<'a>(
     code: &'a Code,
     global: &CodedGlobal,
 ) -> Result<Option<usize>, AllocError>
-    ensures class { IfOk result (spec.IsClassFor fault (spec.known_in known.new.keys) (code_view code.now) (global_view global.now)) }
+    ensures class { IfOk result (spec.IsClassFor fault (spec.known_in known.new.keys) (code_view code.now)
+        (global_view global.now)) }
     ensures grows { spec.Grows known.old.keys known.new.keys }
 {
     match (fault, global) {

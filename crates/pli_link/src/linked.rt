@@ -68,7 +68,8 @@ fn linked_units<'a>(
 ) -> Result<Vec<LentMember<'a>>, AllocError>
     requires { AreSmall procedures.now.entries }
     ensures { IfOk result (λ linked. (names : List base.Name) → AreNumbered numbers.now.entries names
-        → map lent_member_view linked.items ≡ map (spec.linked_unit names procedures.now.entries) (map compiled_view units.now)) }
+        → map lent_member_view linked.items ≡ map (spec.linked_unit names procedures.now.entries)
+        (map compiled_view units.now)) }
 {
     let mut linked = Vec::with_capacity(alloc, units.len())?;
     for unit in units {

@@ -41,8 +41,8 @@ pub enum LinkFault {
 /// Why units are not linked: all faults, by code, name and unit, or want of memory.
 pub type LinkError = Failure<Vec<LinkFault>>;
 
-/// The module of units, whose decks are lent and of the version in which modules are written, and which come in the order
-/// of their names; or all faults.
+/// The module of units, whose decks are lent and of the version in which modules are written, and which come in the
+/// order of their names; or all faults.
 pub fn link<'a>(alloc: Global, units: &[NamedUnit<'a>]) -> Result<Linked<'a>, LinkError>
     requires { AreWritten (map compiled_view units.now) }
     ensures { Links result (link.link_of (map compiled_view units.now)) }

@@ -39,7 +39,8 @@ pub(crate) fn externals_in(
     alloc: Global,
     externals: &BTreeMap<Name, KnownExternal<'_>>,
 ) -> Result<Vec<External>, AllocError>
-    ensures { IfOk result (λ made. map external_view made.items ≡ map spec.external_of (externals_view externals.now.entries)) }
+    ensures { IfOk result (λ made. map external_view made.items
+        ≡ map spec.external_of (externals_view externals.now.entries)) }
 {
     let mut made = Vec::with_capacity(alloc, externals.len())?;
     for (name, external) in externals {
@@ -64,7 +65,8 @@ pub(crate) fn numbers_of(
 
 /// The number of an external variable; each one of a module has one.
 fn number_in(numbers: &IndexMap<Name, u16>, name: &Name) -> u16
-    ensures { (names : List base.Name) → AreNumbered numbers.now.entries names → result ≡ spec.number_in names name.now }
+    ensures { (names : List base.Name) → AreNumbered numbers.now.entries names →
+        result ≡ spec.number_in names name.now }
 {
     match numbers.get(name) {
         None => 0,

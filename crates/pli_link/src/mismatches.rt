@@ -42,7 +42,8 @@ fn is_unlike_procedure(
     signature: &CodedSignature,
     procedure: Option<&NamedUnit<'_>>,
 ) -> bool
-    ensures { result ≡ spec.is_unlike_procedure (signature_at (code_view code.now) (signature_view signature.now)) (option_map (λ u. compiled_view u.now) procedure.entry) }
+    ensures { result ≡ spec.is_unlike_procedure (signature_at (code_view code.now) (signature_view signature.now))
+        (option_map (λ u. compiled_view u.now) procedure.entry) }
 {
     match procedure {
         None => false,
@@ -72,7 +73,8 @@ fn is_unlike(
     first: Option<&KnownExternal<'_>>,
 ) -> bool
     ensures { (known : List Template) (t : Option Template) → IsClass known t class → IsFirstClassed known first.entry
-        → result ≡ spec.is_unlike kind t (option_map (λ u. compiled_view u.now) procedure.entry) (option_map (λ e. declaration_view e.now) first.entry) }
+        → result ≡ spec.is_unlike kind t (option_map (λ u. compiled_view u.now) procedure.entry)
+        (option_map (λ e. declaration_view e.now) first.entry) }
 {
     match (procedure, first) {
         (Some(_), _) | (None, None) => true,
@@ -89,8 +91,10 @@ fn is_unlike_variable(
     class: Option<usize>,
 ) -> bool
     requires { AreNames names.now }
-    ensures { (code : plain.Code) (template : ℕ) (known : List TemplateKey) → HaveClasses known names.now → IsClass (known_in known) (template_at code template) class
-        → result ≡ spec.has_fault (units_in names.now) faults.Mismatch code (plain.ExternalVariable name.now kind template) }
+    ensures { (code : plain.Code) (template : ℕ) (known : List TemplateKey) → HaveClasses known names.now →
+        IsClass (known_in known) (template_at code template) class
+        → result ≡ spec.has_fault (units_in names.now) faults.Mismatch code
+        (plain.ExternalVariable name.now kind template) }
 {
     is_unlike(
         kind,
@@ -109,7 +113,8 @@ fn has_fault(
     global: &CodedGlobal,
 ) -> bool
     requires { AreNames names.now }
-    ensures { (known : List TemplateKey) → HaveClasses known names.now → IsClassFor fault (known_in known) (code_view code.now) (global_view global.now) class
+    ensures { (known : List TemplateKey) → HaveClasses known names.now →
+        IsClassFor fault (known_in known) (code_view code.now) (global_view global.now) class
         → result ≡ spec.has_fault (units_in names.now) fault (code_view code.now) (global_view global.now) }
 {
     match (fault, global) {
@@ -147,7 +152,8 @@ fn faulty_name(
     global: &CodedGlobal,
 ) -> Option<Name>
     requires { AreNames names.now }
-    ensures { (known : List TemplateKey) → HaveClasses known names.now → IsClassFor fault (known_in known) (code_view code.now) (global_view global.now) class
+    ensures { (known : List TemplateKey) → HaveClasses known names.now →
+        IsClassFor fault (known_in known) (code_view code.now) (global_view global.now) class
         → there result ≡ spec.faulty_in (units_in names.now) fault (code_view code.now) (global_view global.now) }
 {
     if has_fault(names, fault, class, code, global) {
@@ -168,7 +174,8 @@ fn names_with_fault<'a>(
 ) -> Result<IndexSet<Name>, AllocError>
     requires names { AreNames names.now }
     requires classes { HaveClasses known.old.keys names.now }
-    ensures found { IfOk result (λ found. found.keys ≡ spec.each_once [] (spec.faulty_names (units_in names.now) fault (code_view code.now) (map global_view globals.now))) }
+    ensures found { IfOk result (λ found. found.keys ≡ spec.each_once []
+        (spec.faulty_names (units_in names.now) fault (code_view code.now) (map global_view globals.now))) }
     ensures grows { Grows known.old.keys known.new.keys }
 {
     let mut found = IndexSet::new(alloc);
@@ -205,7 +212,8 @@ pub(crate) fn faulty_names<'a>(
 ) -> Result<Vec<LinkedName>, AllocError>
     requires names { AreNames names.now }
     requires classes { HaveClasses known.old.keys names.now }
-    ensures linked { IfOk result (λ linked. linked.items ≡ spec.faulty_linked (units_in names.now) fault (map compiled_view units.now)) }
+    ensures linked { IfOk result (λ linked. linked.items ≡ spec.faulty_linked (units_in names.now) fault
+        (map compiled_view units.now)) }
     ensures grows { Grows known.old.keys known.new.keys }
 {
     let mut linked = Vec::new(alloc);

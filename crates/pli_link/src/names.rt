@@ -73,8 +73,10 @@ fn note_external<'a>(
     name: Name,
     external: KnownExternal<'a>,
 ) -> Result<(), AllocError>
-    ensures first { OnOk result (externals_view externals.new.entries ≡ spec.with_declaration (externals_view externals.old.entries) (name, declaration_view external.entry)) }
-    ensures classed { OnOk result (AreClassed (known_in known.old.keys) externals.old.entries → AreClassed (known_in known.new.keys) externals.new.entries) }
+    ensures first { OnOk result (externals_view externals.new.entries
+        ≡ spec.with_declaration (externals_view externals.old.entries) (name, declaration_view external.entry)) }
+    ensures classed { OnOk result (AreClassed (known_in known.old.keys) externals.old.entries →
+        AreClassed (known_in known.new.keys) externals.new.entries) }
 {
     if externals.contains_key(&name) {
         return Ok(());
@@ -95,8 +97,11 @@ fn note_shared<'a>(
     unit: usize,
     globals: &'a [CodedGlobal],
 ) -> Result<(), AllocError>
-    ensures first { OnOk result (externals_view externals.new.entries ≡ spec.first_declared (externals_view externals.old.entries) (spec.shared_from (code_view code.now) unit 0 (map global_view globals.now))) }
-    ensures classed { OnOk result (AreClassed (known_in known.old.keys) externals.old.entries → AreClassed (known_in known.new.keys) externals.new.entries) }
+    ensures first { OnOk result (externals_view externals.new.entries
+        ≡ spec.first_declared (externals_view externals.old.entries)
+        (spec.shared_from (code_view code.now) unit 0 (map global_view globals.now))) }
+    ensures classed { OnOk result (AreClassed (known_in known.old.keys) externals.old.entries →
+        AreClassed (known_in known.new.keys) externals.new.entries) }
 {
     for (number, global) in globals.iter().enumerate() {
         if let CodedGlobal::ExternalVariable {

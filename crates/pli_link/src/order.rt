@@ -36,7 +36,8 @@ fn add_unless(
     unit: &NamedUnit<'_>,
     is_left_out: bool,
 ) -> Result<(), AllocError>
-    ensures { OnOk result (names.new.items ≡ names.old.items ++ (if is_left_out then [] else procedure_of (compiled_view unit.now) ∷ [])) }
+    ensures { OnOk result (names.new.items ≡ names.old.items
+        ++ (if is_left_out then [] else procedure_of (compiled_view unit.now) ∷ [])) }
 {
     if !is_left_out {
         names.push(procedure_of(unit))?;

@@ -106,7 +106,8 @@ fn with_all_own(units: &[NamedUnit<'_>]) -> Option<u32>
 /// Bytes with those of the external variables that are STATIC, unless they are too many.
 fn with_externals(bytes: u32, externals: &BTreeMap<Name, KnownExternal<'_>>) -> Option<u32>
     requires { bytes ≤ 16777216 }
-    ensures counts { result ≡ counted bytes (flat_map spec.shared_in (values_of (externals_view externals.now.entries))) }
+    ensures counts { result ≡ counted bytes (flat_map spec.shared_in
+        (values_of (externals_view externals.now.entries))) }
     ensures within { IfSome result (λ more. more ≤ 16777216) }
 {
     let mut bytes = bytes;

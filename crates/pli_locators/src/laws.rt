@@ -1,15 +1,21 @@
 //! Laws and worked examples of storage by locators.
-ghost use Rattle.pli_locators.specs.laws.Operations.{LocatingStays, BasedStays, AllocatingStays, FreeingStays, AddressStays};
+ghost use Rattle.pli_locators.specs.laws.Operations.{LocatingStays, BasedStays, AllocatingStays, FreeingStays};
+ghost use Rattle.pli_locators.specs.laws.Operations.{AddressStays};
 ghost use Rattle.pli_locators.specs.laws.Operations.{NumberIsNew, EndedIsDead, FreedIsDead};
 ghost use Rattle.pli_locators.specs.laws.Operations.{EndedBehindAllocating, EndedBehindFreeing};
 ghost use Rattle.pli_locators.specs.laws.Operations.{BesideAllocated, BesideFreed, StacksBeside};
 ghost use Rattle.pli_locators.specs.laws.AreaLaws as area;
-ghost use Rattle.pli_locators.specs.laws.AreaLaws.{LeastIsTaken, BeginsApart, AllocatedApart, FreedApart, AssignedApart};
-ghost use Rattle.pli_locators.specs.laws.AreaLaws.{OtherBlocksStay, OtherAreasStay, FreedBlockIsDead, EndsWithGeneration, OffsetsKeepTheirMeaning};
+ghost use Rattle.pli_locators.specs.laws.AreaLaws.{LeastIsTaken, BeginsApart, AllocatedApart, FreedApart};
+ghost use Rattle.pli_locators.specs.laws.AreaLaws.{AssignedApart};
+ghost use Rattle.pli_locators.specs.laws.AreaLaws.{OtherBlocksStay, OtherAreasStay, FreedBlockIsDead};
+ghost use Rattle.pli_locators.specs.laws.AreaLaws.{EndsWithGeneration, OffsetsKeepTheirMeaning};
 ghost use Rattle.pli_locators.specs.examples.AreaExamples as example;
-ghost use Rattle.pli_locators.specs.examples.LocatorExamples.{AllocatedBegins, AllocatedAgain, FreedTwice, NullIsRefused};
-ghost use Rattle.pli_locators.specs.examples.LocatorExamples.{OtherIsRefused, DeadBeforeOther, InsideIsDead, OffsetAlone};
-ghost use Rattle.pli_locators.specs.examples.LocatorExamples.{AddressLeads, AddressIsNotFreed, AddressOfBased, AddressOfPart};
+ghost use Rattle.pli_locators.specs.examples.LocatorExamples.{AllocatedBegins, AllocatedAgain, FreedTwice};
+ghost use Rattle.pli_locators.specs.examples.LocatorExamples.{NullIsRefused};
+ghost use Rattle.pli_locators.specs.examples.LocatorExamples.{OtherIsRefused, DeadBeforeOther, InsideIsDead};
+ghost use Rattle.pli_locators.specs.examples.LocatorExamples.{OffsetAlone};
+ghost use Rattle.pli_locators.specs.examples.LocatorExamples.{AddressLeads, AddressIsNotFreed, AddressOfBased};
+ghost use Rattle.pli_locators.specs.examples.LocatorExamples.{AddressOfPart};
 ghost use Rattle.pli_locators.specs.examples.LocatorExamples.{ControlledIsNotFreed};
 
 /// A law: an operation by locators changes storage alone: not what is printed, the column, steps or activations. Where

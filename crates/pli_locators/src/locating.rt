@@ -4,9 +4,11 @@ ghost use Rattle.pli_map.specs.views.DescriptionView.{description_view};
 ghost use Rattle.pli_world.specs.World.{World};
 ghost use Rattle.pli_stacks.specs.answers.LaidBytes.{IsLaid};
 ghost use Rattle.pli_store.specs.answers.Answered.{Answered};
-ghost use Rattle.pli_store.specs.views.StorageView.{SameStorage, made_count, place_view, storage_view, target_view, with_storage};
+ghost use Rattle.pli_store.specs.views.StorageView.{SameStorage, made_count, place_view, storage_view, target_view};
+ghost use Rattle.pli_store.specs.views.StorageView.{with_storage};
 ghost use Rattle.pli_world.specs.Areas.{allocated_in};
-ghost use Rattle.pli_world.specs.Locating.{addressed, based_allocated, based_freed, located, pointer_to, unless_ended, unless_other, without_whole};
+ghost use Rattle.pli_world.specs.Locating.{addressed, based_allocated, based_freed, located, pointer_to, unless_ended};
+ghost use Rattle.pli_world.specs.Locating.{unless_other, without_whole};
 ghost use Rattle.pli_world.specs.Locating as plain;
 ghost use Rattle.pli_world.specs.Targets.{target_at};
 ghost use Rattle.pli_type_tree.specs.Templates.{variable_of};
@@ -29,7 +31,8 @@ fn living_at<'m>(
     generation: u32,
     position: u32,
 ) -> Result<Target<'m>, StoreFault>
-    ensures { (w : World) → Answered target_view result w w (unless_ended (target_at generation position (storage_view storage.now)) w) }
+    ensures { (w : World) → Answered target_view result w w (unless_ended
+        (target_at generation position (storage_view storage.now)) w) }
 {
     match storage.living(generation, position) {
         Some(living) => Ok(living),
@@ -42,7 +45,8 @@ fn of_description<'m>(
     living: Target<'m>,
     description: &Description,
 ) -> Result<Target<'m>, StoreFault>
-    ensures { (w : World) → Answered target_view result w w (unless_other (description_view description.now) (target_view living.entry) w) }
+    ensures { (w : World) → Answered target_view result w w (unless_other (description_view description.now)
+        (target_view living.entry) w) }
 {
     if living.place.description.equals(description) {
         Ok(living)
@@ -108,9 +112,16 @@ pub fn allocate_based<'m>(
     scalars: &[InitialScalar],
     laid: Option<&[u8]>,
 ) -> Result<Locator, StoreFault>
-    requires { IfSome laid (λ bytes. IsLaid (record { description = description_view description.now; initial = map initial_view scalars.now }) bytes.now) }
-    ensures answer { (w : World) → Answered (λ locator. locator) result (with_storage storage.old w) (with_storage storage.new w)
-        (based_allocated (variable_of (record { description = description_view description.now; initial = map initial_view scalars.now }))
+    requires { IfSome laid (λ bytes. IsLaid (record {
+      description = description_view description.now;
+      initial = map initial_view scalars.now;
+    }) bytes.now) }
+    ensures answer { (w : World) → Answered (λ locator. locator) result (with_storage storage.old w)
+        (with_storage storage.new w)
+        (based_allocated (variable_of (record {
+          description = description_view description.now;
+          initial = map initial_view scalars.now;
+        }))
         (with_storage storage.old w)) }
     ensures err { OnErr result (SameStorage storage.old storage.new) }
 {
@@ -131,10 +142,17 @@ pub fn allocate_in<'m>(
     scalars: &[InitialScalar],
     laid: Option<&[u8]>,
 ) -> Result<Locator, StoreFault>
-    requires { IfSome laid (λ bytes. IsLaid (record { description = description_view description.now; initial = map initial_view scalars.now }) bytes.now) }
-    ensures answer { (w : World) → Answered (λ locator. locator) result (with_storage storage.old w) (with_storage storage.new w)
+    requires { IfSome laid (λ bytes. IsLaid (record {
+      description = description_view description.now;
+      initial = map initial_view scalars.now;
+    }) bytes.now) }
+    ensures answer { (w : World) → Answered (λ locator. locator) result (with_storage storage.old w)
+        (with_storage storage.new w)
         (allocated_in (place_view area.entry)
-        (variable_of (record { description = description_view description.now; initial = map initial_view scalars.now }))
+        (variable_of (record {
+          description = description_view description.now;
+          initial = map initial_view scalars.now;
+        }))
         (with_storage storage.old w)) }
     ensures err { OnErr result (SameStorage storage.old storage.new) }
 {
@@ -184,7 +202,8 @@ pub fn free_based(
 /// ended, `DescriptionMismatch` where a block of another whole description stands there, `NoRule` where the place is
 /// that of a part.
 pub fn address(storage: &Storage<'_>, place: Place<'_>) -> Result<Locator, StoreFault>
-    ensures { (w : World) → Answered (λ locator. locator) result (with_storage storage.now w) (with_storage storage.now w)
+    ensures { (w : World) → Answered (λ locator. locator) result (with_storage storage.now w)
+        (with_storage storage.now w)
         (addressed (place_view place.entry) (with_storage storage.now w)) }
 {
     let whole = storage.whole_of(place)?;

@@ -8,15 +8,17 @@ use pli_run::RunError;
 use pli_store::{Place, Storage, StoreFault};
 use pli_value::Locator;
 
-/// A pointer as an offset of an area: its position, whether or not a block lives there; the null pointer as a null offset.
-/// `NoRule` for an offset; else `DeadLocator` where the generation of the area has ended, `NoRule` where the place is no whole
-/// area, and `OutsideArea` for a pointer that does not lead into it.
+/// A pointer as an offset of an area: its position, whether or not a block lives there; the null pointer as a null
+/// offset.
+/// `NoRule` for an offset; else `DeadLocator` where the generation of the area has ended, `NoRule` where the place is
+/// no whole area, and `OutsideArea` for a pointer that does not lead into it.
 pub fn offset_in(
     storage: &Storage<'_>,
     area: Place<'_>,
     locator: Locator,
 ) -> Result<Locator, StoreFault>
-    ensures { (w : World) → Answered (λ locator. locator) result (with_storage storage.now w) (with_storage storage.now w)
+    ensures { (w : World) → Answered (λ locator. locator) result (with_storage storage.now w)
+        (with_storage storage.now w)
         (plain.offset_in (place_view area.entry) locator (with_storage storage.now w)) }
 {
     match locator {
@@ -41,14 +43,15 @@ pub fn offset_in(
     }
 }
 
-/// An offset as a pointer into an area; a null offset as the null pointer. `NoRule` for a pointer; else `DeadLocator` where
-/// the generation of the area has ended, and `NoRule` where the place is no whole area.
+/// An offset as a pointer into an area; a null offset as the null pointer. `NoRule` for a pointer; else `DeadLocator`
+/// where the generation of the area has ended, and `NoRule` where the place is no whole area.
 pub fn pointer_in(
     storage: &Storage<'_>,
     area: Place<'_>,
     locator: Locator,
 ) -> Result<Locator, StoreFault>
-    ensures { (w : World) → Answered (λ locator. locator) result (with_storage storage.now w) (with_storage storage.now w)
+    ensures { (w : World) → Answered (λ locator. locator) result (with_storage storage.now w)
+        (with_storage storage.now w)
         (plain.pointer_in (place_view area.entry) locator (with_storage storage.now w)) }
 {
     match locator {

@@ -20,7 +20,8 @@ pub fn pop_places<'m>(
 ) -> Result<Option<Vec<Place<'m>>>, AllocError>
     requires { places.items ≡ [] }
     ensures { IfOk result (λ o. MatchOption o (places_off count [] (stack operands.old.items) ≡ None)
-        (λ places. places_off count [] (stack operands.old.items) ≡ Some (map place_view places.items, stack operands.new.items))) }
+        (λ places. places_off count [] (stack operands.old.items)
+        ≡ Some (map place_view places.items, stack operands.new.items))) }
 {
     for _taken in 0..count {
         let Some(taken) = take_place(operands) else {

@@ -83,7 +83,8 @@ fn establish_block(
     block: &Block,
 ) -> Option<Stop>
     ensures { (code : plain.Code) (image : Image) →
-        Moves image (establishes condition number (Some (block_looked_up code (block_view block.now)))) machine.old machine.new result }
+        Moves image (establishes condition number (Some (block_looked_up code (block_view block.now)))) machine.old
+        machine.new result }
 {
     if !is_establishable(block) {
         return Some(Stop::Fault);
@@ -107,7 +108,8 @@ pub fn establish<'m>(
     number: u16,
 ) -> Option<Stop>
     ensures { (image : Image) → Moves image
-        (establishes condition number (slice_get (map (block_looked_up (code_view unit.now.linked.now.deck.code)) (code_view unit.now.linked.now.deck.code).blocks) number))
+        (establishes condition number (slice_get (map (block_looked_up (code_view unit.now.linked.now.deck.code))
+        (code_view unit.now.linked.now.deck.code).blocks) number))
         machine.old machine.new result }
 {
     match block_at(&unit.linked.deck.code, number) {
@@ -170,7 +172,8 @@ fn run_block<'m>(
 ) -> Result<Option<Stop>, AllocError>
     ensures { IfOk result (λ stop. (image : Image) → Moves image
         (λ here frames w. runs_block (handler_view handler)
-        (slice_get (map (block_looked_up (code_view ready.now.code.now)) (code_view ready.now.code.now).blocks) handler.block) (record here { again = again }) frames w)
+        (slice_get (map (block_looked_up (code_view ready.now.code.now)) (code_view ready.now.code.now).blocks)
+        handler.block) (record here { again = again }) frames w)
         machine.old machine.new stop) }
 {
     match block_at(ready.code, handler.block) {
@@ -202,7 +205,8 @@ fn run_unit<'m>(
 ) -> Result<Option<Stop>, AllocError>
     ensures { IfOk result (λ stop. (image : Image) → Moves image
         (λ here frames w. runs_unit (handler_view handler)
-        (slice_get (program_of (module_view loaded.now.«module».now)).units handler.unit) (record here { again = again }) frames w)
+        (slice_get (program_of (module_view loaded.now.«module».now)).units handler.unit)
+        (record here { again = again }) frames w)
         machine.old machine.new stop) }
 {
     match linked_at(loaded.module, handler.unit) {
@@ -228,7 +232,8 @@ pub fn raise<'m>(
     again: bool,
 ) -> Result<Option<Stop>, AllocError>
     ensures { IfOk result (Moves (image_of loaded.now)
-        (λ here frames w. raises (program_of (image_of loaded.now).linked) condition (handler condition w.activations) (record here { again = again }) frames w)
+        (λ here frames w. raises (program_of (image_of loaded.now).linked) condition (handler condition w.activations)
+        (record here { again = again }) frames w)
         machine.old machine.new) }
 {
     match find_handler(machine, condition) {

@@ -56,7 +56,8 @@ pub fn dummy_with<'m>(
     value: Value,
 ) -> Result<Option<Stop>, AllocError>
     ensures { IfOk result (λ stop. (image : Image) → Moves image
-        (λ here frames w. dummied (description_view description.now) (OfValue (value_view value) ∷ here.operands) here frames w) machine.old machine.new stop) }
+        (λ here frames w. dummied (description_view description.now)
+        (OfValue (value_view value) ∷ here.operands) here frames w) machine.old machine.new stop) }
 {
     match machine.storage.make_dummy(alloc, description, value) {
         Ok(place) => {

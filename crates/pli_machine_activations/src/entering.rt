@@ -49,7 +49,13 @@ pub fn activation<'m>(
     requires operands { room.operands.items ≡ [] }
     requires pending { room.pending.items ≡ [] }
     requires temporaries { room.temporaries.items ≡ [] }
-    ensures { IfOk result (λ a. (frame_view a ≡ record { unit = unit; next = block.now.entry; operands = []; locals = fresh block.now.temporaries; again = false })
+    ensures { IfOk result (λ a. (frame_view a ≡ record {
+      unit = unit;
+      next = block.now.entry;
+      operands = [];
+      locals = fresh block.now.temporaries;
+      again = false;
+    })
         × (activation_view a ≡ record {
           unit = unit;
           block = number;
@@ -104,7 +110,8 @@ fn begin_block<'m>(
 ) -> Result<(), AllocError>
     requires { length machine.old.waiting.items < 1000 }
     ensures { OnOk result ((image : Image) (put : List ℕ) →
-        HasBegun image put unit number block.now.statement block.now.entry block.now.temporaries link (map place_view places.entry.items) again machine.old machine.new) }
+        HasBegun image put unit number block.now.statement block.now.entry block.now.temporaries link
+        (map place_view places.entry.items) again machine.old machine.new) }
 {
     let pending = mem::replace(&mut machine.here.pending, Vec::new(alloc));
     let (handed, others) = hand_over(alloc, pending, &places)?;
@@ -134,7 +141,8 @@ pub fn enter<'m>(
 ) -> Result<Option<Stop>, AllocError>
     requires { length machine.old.waiting.items < 1000 }
     ensures { IfOk result (λ stop. (image : Image) → Moves image
-        (λ here frames w. enters unit number (block_looked_up (code_view ready.now.code.now) (block_view block.now)) link (map place_view places.entry.items) (record here { again = again } ∷ frames) w)
+        (λ here frames w. enters unit number (block_looked_up (code_view ready.now.code.now) (block_view block.now))
+        link (map place_view places.entry.items) (record here { again = again } ∷ frames) w)
         machine.old machine.new stop) }
 {
     begin_block(alloc, machine, unit, number, block, link, places, again)?;

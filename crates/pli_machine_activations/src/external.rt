@@ -25,7 +25,8 @@ fn call_unit<'m>(
     arguments: u8,
 ) -> Result<Option<Stop>, AllocError>
     ensures { IfOk result (λ stop. (image : Image) → Moves image
-        (called_unit number (slice_get (program_of (module_view loaded.now.«module».now)).units number) arguments) machine.old machine.new stop) }
+        (called_unit number (slice_get (program_of (module_view loaded.now.«module».now)).units number) arguments)
+        machine.old machine.new stop) }
 {
     match linked_at(loaded.module, number as usize) {
         Some(linked) => {

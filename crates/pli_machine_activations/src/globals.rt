@@ -47,7 +47,8 @@ fn place_at<'m>(globals: &[LinkedGlobal<'m>], number: usize) -> Option<Place<'m>
 /// The place of the STATIC variable of a number among the globals of a unit.
 #[inline]
 pub fn static_place<'m>(unit: &ActiveUnit<'_, 'm>, number: usize) -> Option<Place<'m>>
-    ensures { lying_at (static_in (image_of unit.now.loaded.now).statics unit.now.number number) ≡ option_map place_view result }
+    ensures { lying_at (static_in (image_of unit.now.loaded.now).statics unit.now.number number)
+        ≡ option_map place_view result }
 {
     place_at(unit.globals, number)
 }

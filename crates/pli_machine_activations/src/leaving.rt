@@ -47,7 +47,8 @@ pub fn leave(machine: &mut Machine) -> bool
 #[inline(always)]
 fn resume(machine: &mut Machine) -> Option<Stop>
     ensures { (image : Image) →
-        Moves image (λ here frames w. goes_on machine.old.here.again (record here { again = machine.old.here.again }) frames w) machine.old machine.new result }
+        Moves image (λ here frames w. goes_on machine.old.here.again
+        (record here { again = machine.old.here.again }) frames w) machine.old machine.new result }
 {
     if !machine.here.again {
         return None;
@@ -97,8 +98,8 @@ pub fn give_back(
     Ok(resume(machine))
 }
 
-/// Takes a value, ends the newest activation and so many more, and gives the value to the one that goes on. A number takes
-/// the short way.
+/// Takes a value, ends the newest activation and so many more, and gives the value to the one that goes on. A number
+/// takes the short way.
 pub fn return_value(
     alloc: Global,
     machine: &mut Machine,

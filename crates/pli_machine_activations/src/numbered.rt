@@ -32,7 +32,8 @@ pub fn table_at<'l, 'm>(loaded: &'l Loaded<'m>, number: usize) -> Option<&'l [Li
 /// What is laid for the templates of the unit of a number.
 #[inline]
 pub fn laid_at<'l>(loaded: &'l Loaded<'_>, number: usize) -> &'l [Option<Vec<u8>>]
-    ensures { (u : Member) → slice_get loaded.now.«module».now.units.items number ≡ Some u → AreLaid (code_view u.deck.code) result.now }
+    ensures { (u : Member) → slice_get loaded.now.«module».now.units.items number ≡ Some u →
+        AreLaid (code_view u.deck.code) result.now }
 {
     match loaded.laid.get(number) {
         Some(table) => table,

@@ -37,7 +37,8 @@ pub fn template_of(code: &Code, number: u16) -> Option<(&Description, &[InitialS
 
 /// Gives an activation the next slot, for a variable that ends with it.
 fn add_slot<'m>(here: &mut Activation<'m>, place: Place<'m>) -> Result<(), AllocError>
-    ensures slot { OnOk result (activation_view here.new ≡ with_slot (place_view place.entry) (activation_view here.old)) }
+    ensures slot { OnOk result (activation_view here.new ≡ with_slot (place_view place.entry)
+        (activation_view here.old)) }
     ensures frame { frame_view here.new ≡ frame_view here.old }
     ensures statement { here.new.statement ≡ here.old.statement }
 {
@@ -49,7 +50,8 @@ fn add_slot<'m>(here: &mut Activation<'m>, place: Place<'m>) -> Result<(), Alloc
 /// The bytes with which variables of the template of a number begin, where they were laid as the program was loaded.
 #[inline]
 fn laid_for<'l>(ready: &ReadyCode<'l, '_>, number: u16) -> Option<&'l [u8]>
-    ensures { (t : Template) → template_at (code_view ready.now.code.now) number ≡ Some t → IfSome result (λ bytes. IsLaid t bytes.now) }
+    ensures { (t : Template) → template_at (code_view ready.now.code.now) number ≡ Some t →
+        IfSome result (λ bytes. IsLaid t bytes.now) }
 {
     match ready.laid.get(number as usize) {
         Some(Some(bytes)) => Some(bytes),
@@ -62,7 +64,8 @@ fn laid_for<'l>(ready: &ReadyCode<'l, '_>, number: u16) -> Option<&'l [u8]>
 /// program was loaded; else they are to be made of the template.
 #[inline]
 pub fn laid_in<'l>(unit: &ActiveUnit<'l, '_>, number: u16) -> Option<&'l [u8]>
-    ensures { (t : Template) → template_at (code_view unit.now.linked.now.deck.code) number ≡ Some t → IfSome result (λ bytes. IsLaid t bytes.now) }
+    ensures { (t : Template) → template_at (code_view unit.now.linked.now.deck.code) number ≡ Some t →
+        IfSome result (λ bytes. IsLaid t bytes.now) }
 {
     let ready = ReadyCode {
         code: &unit.linked.deck.code,
@@ -80,9 +83,15 @@ fn make_variable<'m>(
     scalars: &[InitialScalar],
     laid: Option<&[u8]>,
 ) -> Result<(), StoreFault>
-    requires { IfSome laid (λ bytes. IsLaid (record { description = description_view description.now; initial = map initial_view scalars.now }) bytes.now) }
+    requires { IfSome laid (λ bytes. IsLaid (record {
+      description = description_view description.now;
+      initial = map initial_view scalars.now;
+    }) bytes.now) }
     ensures made { (more : List Variable) (image : Image) (put : List ℕ) → GoesOn result
-        (made_all (variable_of (record { description = description_view description.now; initial = map initial_view scalars.now }) ∷ more)
+        (made_all (variable_of (record {
+          description = description_view description.now;
+          initial = map initial_view scalars.now;
+        }) ∷ more)
         (world_of image machine.old put))
         (made_all more (world_of image machine.new put)) (world_of image machine.new put) }
     ensures same { SameFrames machine.old machine.new }
@@ -112,7 +121,8 @@ fn make_numbered<'m>(
 ) -> Result<(), StoreFault>
     ensures made { (more : List ℕ) (image : Image) (put : List ℕ) → GoesOn result
         (made_all (variables_at (code_view ready.now.code.now) (number ∷ more)) (world_of image machine.old put))
-        (made_all (variables_at (code_view ready.now.code.now) more) (world_of image machine.new put)) (world_of image machine.new put) }
+        (made_all (variables_at (code_view ready.now.code.now) more) (world_of image machine.new put))
+        (world_of image machine.new put) }
     ensures same { SameFrames machine.old machine.new }
 {
     match template_of(ready.code, number) {

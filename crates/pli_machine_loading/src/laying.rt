@@ -18,15 +18,16 @@ const TEMPLATE_BYTES: usize = 4096;
 /// How many bytes are laid for a module at most (own).
 const MODULE_BYTES: usize = 1_048_576;
 
-/// The bytes with which variables of the template of a number begin, where it has initial values, and takes no more than so
-/// many bytes and than may be laid for one.
+/// The bytes with which variables of the template of a number begin, where it has initial values, and takes no more
+/// than so many bytes and than may be laid for one.
 fn lay_template(
     alloc: Global,
     code: &Code,
     number: u16,
     left: usize,
 ) -> Result<Option<Vec<u8>>, AllocError>
-    ensures { IfOk result (λ laid. (t : Template) → template_at (code_view code.now) number ≡ Some t → IfSome laid (λ bytes. IsLaid t bytes.items)) }
+    ensures { IfOk result (λ laid. (t : Template) → template_at (code_view code.now) number ≡ Some t →
+        IfSome laid (λ bytes. IsLaid t bytes.items)) }
 {
     match template_of(code, number) {
         Some((description, scalars)) => {

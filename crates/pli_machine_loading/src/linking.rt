@@ -1,5 +1,6 @@
 //! Globals of units, made before the program begins.
-ghost use Rattle.std.specs.Prelude.{◌≡◌, ◌<◌, ◌∷◌, ◌++◌, ℕ, List, [], None, Some, map, drop, get_or, length, option_map, OnOk};
+ghost use Rattle.std.specs.Prelude.{◌≡◌, ◌<◌, ◌∷◌, ◌++◌, ℕ, List, [], None, Some, map, drop, get_or, length};
+ghost use Rattle.std.specs.Prelude.{option_map, OnOk};
 ghost use Rattle.pli_base.specs.Name.{Name};
 ghost use Rattle.pli_map.specs.views.DescriptionView.{description_view};
 ghost use Rattle.pli_type_tree.specs.Templates.{variable_of};
@@ -11,7 +12,9 @@ ghost use Rattle.pli_code.specs.CodeTables as tables;
 ghost use Rattle.pli_code.specs.CodeTables.{globals_linked, there, variable_at};
 ghost use Rattle.pli_code.specs.Modules.{unit_of};
 ghost use Rattle.pli_code.specs.views.CodeView.{code_view, global_view, member_view};
-ghost use Rattle.pli_machine_loading.specs.answers.MadeGlobals.{MadeAs, Placed, PlacedKnown, IsNoted, LinkTaken, AreKnown, global_of, as_global, NextLinked, Links, LinksUnit, LinksAll};
+ghost use Rattle.pli_machine_loading.specs.answers.MadeGlobals.{MadeAs, Placed, PlacedKnown, IsNoted, LinkTaken};
+ghost use Rattle.pli_machine_loading.specs.answers.MadeGlobals.{AreKnown, global_of, as_global, NextLinked, Links};
+ghost use Rattle.pli_machine_loading.specs.answers.MadeGlobals.{LinksUnit, LinksAll};
 
 use crate::shared::Shared;
 use crate::standing::Standing;
@@ -32,7 +35,10 @@ fn make_static<'m>(
     scalars: &'m [InitialScalar],
 ) -> Result<Standing<'m>, StoreFault>
     ensures made { (statics : List Static) → MadeAs StaticKind
-        (variable_of (record { description = description_view description.now; initial = map initial_view scalars.now })) shared.old shared.new statics result }
+        (variable_of (record {
+          description = description_view description.now;
+          initial = map initial_view scalars.now;
+        })) shared.old shared.new statics result }
     ensures same { shared.new.externals ≡ shared.old.externals }
 {
     match make_initial(
@@ -56,7 +62,10 @@ fn make_stack<'m>(
     scalars: &'m [InitialScalar],
 ) -> Result<Standing<'m>, StoreFault>
     ensures made { (statics : List Static) → MadeAs Controlled
-        (variable_of (record { description = description_view description.now; initial = map initial_view scalars.now })) shared.old shared.new statics result }
+        (variable_of (record {
+          description = description_view description.now;
+          initial = map initial_view scalars.now;
+        })) shared.old shared.new statics result }
     ensures same { shared.new.externals ≡ shared.old.externals }
 {
     let stack = shared.stacks.add(alloc, description, scalars)?;
@@ -72,7 +81,10 @@ fn make_kind<'m>(
     scalars: &'m [InitialScalar],
 ) -> Result<Standing<'m>, StoreFault>
     ensures made { (statics : List Static) → MadeAs kind
-        (variable_of (record { description = description_view description.now; initial = map initial_view scalars.now })) shared.old shared.new statics result }
+        (variable_of (record {
+          description = description_view description.now;
+          initial = map initial_view scalars.now;
+        })) shared.old shared.new statics result }
     ensures same { shared.new.externals ≡ shared.old.externals }
 {
     match kind {
@@ -117,7 +129,8 @@ fn known_standing<'m>(externals: &[Option<Standing<'m>>], number: u16) -> Option
 /// Makes the list long enough for a number, with nothing noted there.
 fn make_room(externals: &mut Vec<Option<Standing>>, number: u16) -> Result<(), AllocError>
     ensures room { OnOk result (number < length externals.new.items) }
-    ensures same { OnOk result ((other : ℕ) → get_or externals.new.items other None ≡ get_or externals.old.items other None) }
+    ensures same { OnOk result ((other : ℕ) → get_or externals.new.items other None
+        ≡ get_or externals.old.items other None) }
 {
     for _count in externals.len()..number as usize + 1 {
         externals.push(None)?;
@@ -149,7 +162,8 @@ fn make_external<'m>(
 ) -> Result<Option<Standing<'m>>, StoreFault>
     requires { get_or shared.old.externals.items number None ≡ None }
     ensures { (statics : List Static) (externals : List (ℕ × plain.Standing)) → AreKnown shared.old externals →
-        PlacedKnown kind (variable_at (code_view code.now) template) (Some number) shared.old shared.new statics externals result }
+        PlacedKnown kind (variable_at (code_view code.now) template)
+        (Some number) shared.old shared.new statics externals result }
 {
     match make_variable(alloc, code, shared, kind, template) {
         Ok(Some(standing)) => {
@@ -181,7 +195,8 @@ fn place_external<'m>(
     template: u16,
 ) -> Result<Option<Standing<'m>>, StoreFault>
     ensures { (statics : List Static) (externals : List (ℕ × plain.Standing)) → AreKnown shared.old externals →
-        PlacedKnown kind (variable_at (code_view code.now) template) (Some number) shared.old shared.new statics externals result }
+        PlacedKnown kind (variable_at (code_view code.now) template)
+        (Some number) shared.old shared.new statics externals result }
 {
     match known_standing(&shared.externals, number) {
         Some(standing) => Ok(again(code, standing, template)),
@@ -220,9 +235,11 @@ fn link_own<'m>(
     kind: VariableKind,
     template: u16,
 ) -> Result<Option<LinkedGlobal<'m>>, StoreFault>
-    ensures { (more : List tables.CodedGlobal) (links : List ℕ) (unit number : ℕ) (statics : List Static) (externals : List (ℕ × plain.Standing))
+    ensures { (more : List tables.CodedGlobal) (links : List ℕ) (unit number : ℕ) (statics : List Static)
+        (externals : List (ℕ × plain.Standing))
         → AreKnown shared.old externals → Links unit number statics externals
-        (globals_linked (code_view code.now) (tables.OwnVariable kind template ∷ more) links) (globals_linked (code_view code.now) more links)
+        (globals_linked (code_view code.now) (tables.OwnVariable kind template ∷ more) links)
+        (globals_linked (code_view code.now) more links)
         shared.old shared.new result }
 {
     as_global(make_variable(alloc, code, shared, kind, template))
@@ -237,7 +254,8 @@ fn link_external<'m>(
     kind: VariableKind,
     template: u16,
 ) -> Result<Option<LinkedGlobal<'m>>, StoreFault>
-    ensures { (name : Name) (more : List tables.CodedGlobal) (links : List ℕ) (unit number : ℕ) (statics : List Static) (externals : List (ℕ × plain.Standing))
+    ensures { (name : Name) (more : List tables.CodedGlobal) (links : List ℕ) (unit number : ℕ) (statics : List Static)
+        (externals : List (ℕ × plain.Standing))
         → AreKnown shared.old externals → Links unit number statics externals
         (globals_linked (code_view code.now) (tables.ExternalVariable name kind template ∷ more) (external ∷ links))
         (globals_linked (code_view code.now) more links) shared.old shared.new result }
@@ -267,10 +285,13 @@ fn link_next<'m>(
     kind: VariableKind,
     template: u16,
 ) -> Result<Option<LinkedGlobal<'m>>, StoreFault>
-    ensures { (name : Name) (more : List tables.CodedGlobal) (own number : ℕ) (statics : List Static) (externals : List (ℕ × plain.Standing))
+    ensures { (name : Name) (more : List tables.CodedGlobal) (own number : ℕ) (statics : List Static)
+        (externals : List (ℕ × plain.Standing))
         → AreKnown shared.old externals → Links own number statics externals
-        (globals_linked (code_view unit.now.deck.code) (tables.ExternalVariable name kind template ∷ more) (drop taken.old unit.now.links.items))
-        (globals_linked (code_view unit.now.deck.code) more (drop taken.new unit.now.links.items)) shared.old shared.new result }
+        (globals_linked (code_view unit.now.deck.code) (tables.ExternalVariable name kind template ∷ more)
+        (drop taken.old unit.now.links.items))
+        (globals_linked (code_view unit.now.deck.code) more (drop taken.new unit.now.links.items)) shared.old
+        shared.new result }
 {
     match next_link(&unit.links, taken) {
         Some(external) => link_external(alloc, &unit.deck.code, shared, external, kind, template),
@@ -280,10 +301,14 @@ fn link_next<'m>(
 
 /// The entry of the unit that the next link stands for, if there is one.
 fn link_entry<'m>(unit: &Member, shared: &Shared, taken: &mut usize) -> Option<LinkedGlobal<'m>>
-    ensures { (name : Name) (signature : tables.CodedSignature) (more : List tables.CodedGlobal) (own number : ℕ) (statics : List Static)
-        (externals : List (ℕ × plain.Standing)) → AreKnown shared.now externals → NextLinked own number statics externals
-        (globals_linked (code_view unit.now.deck.code) (tables.EntryPoint name signature ∷ more) (drop taken.old unit.now.links.items))
-        (globals_linked (code_view unit.now.deck.code) more (drop taken.new unit.now.links.items)) shared.now shared.now result }
+    ensures { (name : Name) (signature : tables.CodedSignature) (more : List tables.CodedGlobal) (own number : ℕ)
+        (statics : List Static)
+        (externals : List (ℕ × plain.Standing)) → AreKnown shared.now externals →
+        NextLinked own number statics externals
+        (globals_linked (code_view unit.now.deck.code) (tables.EntryPoint name signature ∷ more)
+        (drop taken.old unit.now.links.items))
+        (globals_linked (code_view unit.now.deck.code) more (drop taken.new unit.now.links.items)) shared.now
+        shared.now result }
 {
     match next_link(&unit.links, taken) {
         Some(other) => Some(LinkedGlobal::EntryPoint(other)),
@@ -291,8 +316,8 @@ fn link_entry<'m>(unit: &Member, shared: &Shared, taken: &mut usize) -> Option<L
     }
 }
 
-/// Makes the next global of a unit, of whose links so many are taken. None where the tables have not what it names, or there
-/// is no link for it.
+/// Makes the next global of a unit, of whose links so many are taken. None where the tables have not what it names, or
+/// there is no link for it.
 fn link_global<'m>(
     alloc: Global,
     unit: &'m Member,
@@ -300,10 +325,13 @@ fn link_global<'m>(
     taken: &mut usize,
     global: &CodedGlobal,
 ) -> Result<Option<LinkedGlobal<'m>>, StoreFault>
-    ensures { (more : List tables.CodedGlobal) (own number : ℕ) (statics : List Static) (externals : List (ℕ × plain.Standing))
+    ensures { (more : List tables.CodedGlobal) (own number : ℕ) (statics : List Static)
+        (externals : List (ℕ × plain.Standing))
         → AreKnown shared.old externals → Links own number statics externals
-        (globals_linked (code_view unit.now.deck.code) (global_view global.now ∷ more) (drop taken.old unit.now.links.items))
-        (globals_linked (code_view unit.now.deck.code) more (drop taken.new unit.now.links.items)) shared.old shared.new result }
+        (globals_linked (code_view unit.now.deck.code) (global_view global.now ∷ more)
+        (drop taken.old unit.now.links.items))
+        (globals_linked (code_view unit.now.deck.code) more (drop taken.new unit.now.links.items)) shared.old
+        shared.new result }
 {
     match global {
         CodedGlobal::OwnVariable { kind, template } => {
@@ -337,8 +365,10 @@ fn link_unit<'m>(
     table: &mut Vec<LinkedGlobal<'m>>,
 ) -> Result<(), StoreFault>
     requires { table.old.items ≡ [] }
-    ensures { (number : ℕ) (statics : List Static) (externals : List (ℕ × plain.Standing)) → AreKnown shared.old externals →
-        LinksUnit number (unit_of (member_view unit.now)).globals statics externals shared.old shared.new table.new.items result }
+    ensures { (number : ℕ) (statics : List Static) (externals : List (ℕ × plain.Standing)) →
+        AreKnown shared.old externals →
+        LinksUnit number (unit_of (member_view unit.now)).globals statics externals shared.old shared.new
+        table.new.items result }
 {
     let mut taken = 0;
     for global in &unit.deck.code.globals {
@@ -370,7 +400,8 @@ pub fn link_units<'m>(
 ) -> Result<(), StoreFault>
     requires none { tables.old.items ≡ [] }
     requires known { AreKnown shared.old [] }
-    ensures { LinksAll (map member_view «module».now.units.items) shared.old shared.new (map (λ t. t.items) tables.new.items) result }
+    ensures { LinksAll (map member_view «module».now.units.items) shared.old shared.new
+        (map (λ t. t.items) tables.new.items) result }
 {
     for unit in &module.units {
         let mut table = Vec::new(alloc);

@@ -2,7 +2,8 @@
 ghost use Rattle.std.specs.Prelude.{◌≡◌, ◌≤◌, ◌∷◌, [], ℕ, min, pos, Result, IfOk, None, Some};
 ghost use Rattle.pli_map.specs.views.DescriptionView.{description_view};
 ghost use Rattle.pli_operation.specs.Operations as calculate;
-ghost use Rattle.pli_operation.specs.Operations.{calculated_from, calculated_with, calculated_by, are_comparable, as_number, compared, stands, fitted_to, widest};
+ghost use Rattle.pli_operation.specs.Operations.{calculated_from, calculated_with, calculated_by, are_comparable};
+ghost use Rattle.pli_operation.specs.Operations.{as_number, compared, stands, fitted_to, widest};
 ghost use Rattle.std.specs.Option.{option_copied};
 ghost use Rattle.pli_value.specs.Numbers.{within, quotient};
 ghost use Rattle.pli_value.specs.Strings.{concatenation};
@@ -19,8 +20,8 @@ use pli_value::{Locator, Value};
 use std::alloc::{AllocError, Global};
 use std::cmp::Ordering;
 
-/// The greatest precision of sums, differences and products that are found before their instruction is performed (own). No
-/// module has a lesser one, so they are the same in each; those of more binary digits are left to the instruction.
+/// The greatest precision of sums, differences and products that are found before their instruction is performed (own).
+/// No module has a lesser one, so they are the same in each; those of more binary digits are left to the instruction.
 pub const FAST_PRECISION: u8 = 31;
 
 /// How many binary digits each number of 64 bits has at most, but for the least one, which has one more.
@@ -231,7 +232,8 @@ pub fn fit_number(description: &Description, number: i64) -> Immediate
 
 /// Characters fitted to a description. Takes memory only where they are extended.
 fn fit_text(description: &Description, mut text: Vec<u8>) -> Result<Calculation, AllocError>
-    ensures { IfOk result (λ c. calculation_view c ≡ fitted_to (description_view description.now) (plain.Characters text.items)) }
+    ensures { IfOk result (λ c. calculation_view c ≡ fitted_to (description_view description.now)
+        (plain.Characters text.items)) }
 {
     match description {
         Description::Character(size) => {
@@ -254,7 +256,8 @@ fn fit_bits(
     description: &Description,
     bits: &Bits,
 ) -> Result<Calculation, AllocError>
-    ensures { IfOk result (λ c. calculation_view c ≡ fitted_to (description_view description.now) (plain.Bits bits.now)) }
+    ensures { IfOk result (λ c. calculation_view c ≡ fitted_to (description_view description.now)
+        (plain.Bits bits.now)) }
 {
     match description {
         Description::Bit(size) if *size > BIT_LIMIT => Ok(Calculation::OutOfString),
@@ -282,8 +285,8 @@ pub fn fit(
     }
 }
 
-/// An operation on two numbers. A sum, a difference or a product has at most as many binary digits as the greatest precision
-/// says, from 0 to 63. It takes no memory.
+/// An operation on two numbers. A sum, a difference or a product has at most as many binary digits as the greatest
+/// precision says, from 0 to 63. It takes no memory.
 #[inline]
 pub fn calculate_numbers(
     operation: Operation,
@@ -460,7 +463,8 @@ fn with_locator(operation: Operation, left: Locator, right: &Value) -> Calculati
     }
 }
 
-/// An operation on two values, on numbers with a greatest precision from 0 to 63. The left value is extended where it may be.
+/// An operation on two values, on numbers with a greatest precision from 0 to 63. The left value is extended where it
+/// may be.
 pub fn calculate_with(
     alloc: Global,
     operation: Operation,

@@ -55,9 +55,15 @@ fn allocate_at<'m>(
     laid: Option<&[u8]>,
     target: u16,
 ) -> Result<Option<Stop>, AllocError>
-    requires { IfSome laid (λ bytes. IsLaid (record { description = description_view description.now; initial = map initial_view scalars.now }) bytes.now) }
+    requires { IfSome laid (λ bytes. IsLaid (record {
+      description = description_view description.now;
+      initial = map initial_view scalars.now;
+    }) bytes.now) }
     ensures { IfOk result (DoesIn (image_of unit.now.loaded.now)
-        (AllocateInArea (record { description = description_view description.now; initial = map initial_view scalars.now }) target)
+        (AllocateInArea (record {
+          description = description_view description.now;
+          initial = map initial_view scalars.now;
+        }) target)
         machine.old machine.new) }
 {
     let Some(area) = take_place(&mut machine.here.operands) else {
@@ -97,7 +103,8 @@ pub fn allocate_in_area<'m>(
     target: u16,
 ) -> Result<Option<Stop>, AllocError>
     ensures { IfOk result (DoesIn (image_of unit.now.loaded.now)
-        (looked_up (code_view unit.now.linked.now.deck.code) (coded.AllocateInArea template target)) machine.old machine.new) }
+        (looked_up (code_view unit.now.linked.now.deck.code) (coded.AllocateInArea template target)) machine.old
+        machine.new) }
 {
     match template_of(&unit.linked.deck.code, template) {
         Some((description, scalars)) => {

@@ -18,7 +18,8 @@ pub fn establish<'m>(
     condition: Condition,
     block: u16,
 ) -> Option<Stop>
-    ensures { Performs (image_of unit.now.loaded.now) (member_view unit.now.linked.now) (coded.On condition block) machine.old machine.new result }
+    ensures { Performs (image_of unit.now.loaded.now) (member_view unit.now.linked.now)
+        (coded.On condition block) machine.old machine.new result }
 {
     pli_machine_activations::establish(unit, machine, condition, block)
 }

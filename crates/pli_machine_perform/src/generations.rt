@@ -38,7 +38,8 @@ pub fn allocate_controlled<'m>(
 ) -> Result<Option<Stop>, AllocError>
     requires { machine.old.here.unit ≡ unit.now.number }
     ensures { IfOk result (λ stop. (u : UnitCode) → Moves (image_of unit.now.loaded.now)
-        (act (program_of (image_of unit.now.loaded.now).linked) u (Some (AllocateControlled global))) machine.old machine.new stop) }
+        (act (program_of (image_of unit.now.loaded.now).linked) u (Some (AllocateControlled global))) machine.old
+        machine.new stop) }
 {
     let Some(stack) = named_stack(unit, machine, global) else {
         return Ok(Some(Stop::Fault));
@@ -60,7 +61,8 @@ pub fn free_controlled<'m>(
 ) -> Result<Option<Stop>, AllocError>
     requires { machine.old.here.unit ≡ unit.now.number }
     ensures { IfOk result (λ stop. (u : UnitCode) → Moves (image_of unit.now.loaded.now)
-        (act (program_of (image_of unit.now.loaded.now).linked) u (Some (FreeControlled global))) machine.old machine.new stop) }
+        (act (program_of (image_of unit.now.loaded.now).linked) u (Some (FreeControlled global))) machine.old
+        machine.new stop) }
 {
     let Some(stack) = named_stack(unit, machine, global) else {
         return Ok(Some(Stop::Fault));

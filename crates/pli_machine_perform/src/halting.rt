@@ -9,7 +9,8 @@ use pli_run::RunError;
 use pli_store::StoreFault;
 use std::alloc::{AllocError, Global};
 
-/// Why an instruction does not go on: the run stops, or a condition is raised, for which the activation is ready to wait.
+/// Why an instruction does not go on: the run stops, or a condition is raised, for which the activation is ready to
+/// wait.
 #[derive(Clone, Copy)]
 pub enum Halt {
     Stops(Stop),

@@ -27,7 +27,8 @@ pub fn to_pointer(
     storage: &Storage,
     area: Place<'_>,
 ) -> Result<Option<Stop>, AllocError>
-    ensures { IfOk result (Works (pointer_as (place_view area.entry)) operands.old.items operands.new.items storage.now storage.now) }
+    ensures { IfOk result (Works (pointer_as (place_view area.entry)) operands.old.items operands.new.items storage.now
+        storage.now) }
 {
     let Some(offset) = pop_locator(operands) else {
         return Ok(Some(Stop::Fault));
@@ -47,7 +48,8 @@ pub fn to_offset(
     storage: &Storage,
     area: Place<'_>,
 ) -> Result<Option<Stop>, AllocError>
-    ensures { IfOk result (Works (offset_as (place_view area.entry)) operands.old.items operands.new.items storage.now storage.now) }
+    ensures { IfOk result (Works (offset_as (place_view area.entry)) operands.old.items operands.new.items storage.now
+        storage.now) }
 {
     let Some(pointer) = pop_locator(operands) else {
         return Ok(Some(Stop::Fault));
@@ -71,10 +73,17 @@ pub fn make_block<'m>(
     scalars: &[InitialScalar],
     laid: Option<&[u8]>,
 ) -> Result<Locator, StoreFault>
-    requires { IfSome laid (λ bytes. IsLaid (record { description = description_view description.now; initial = map initial_view scalars.now }) bytes.now) }
-    ensures answer { (w : World) → Answered (λ locator. Located locator) result (with_storage storage.old w) (with_storage storage.new w)
+    requires { IfSome laid (λ bytes. IsLaid (record {
+      description = description_view description.now;
+      initial = map initial_view scalars.now;
+    }) bytes.now) }
+    ensures answer { (w : World) → Answered (λ locator. Located locator) result (with_storage storage.old w)
+        (with_storage storage.new w)
         (block_made (place_view area.entry)
-        (variable_of (record { description = description_view description.now; initial = map initial_view scalars.now }))
+        (variable_of (record {
+          description = description_view description.now;
+          initial = map initial_view scalars.now;
+        }))
         (with_storage storage.old w)) }
     ensures err { OnErr result (SameStorage storage.old storage.new) }
 {

@@ -69,7 +69,8 @@ pub fn field<'m>(
     offset: u32,
     description: u16,
 ) -> Result<Option<Stop>, AllocError>
-    ensures { IfOk result (Does (looked_up (code_view code.now) (coded.Field offset description)) machine.old machine.new) }
+    ensures { IfOk result (Does (looked_up (code_view code.now) (coded.Field offset description)) machine.old
+        machine.new) }
 {
     match code.descriptions.get(description as usize) {
         Some(description) => field_at(machine, offset, description),
@@ -208,7 +209,8 @@ fn fit_at<'m>(
     machine: &mut Machine<'m>,
     description: &Description,
 ) -> Result<Option<Stop>, AllocError>
-    ensures { IfOk result (DoesIn (image_of unit.now.loaded.now) (Fit (description_view description.now)) machine.old machine.new) }
+    ensures { IfOk result (DoesIn (image_of unit.now.loaded.now)
+        (Fit (description_view description.now)) machine.old machine.new) }
 {
     let halt = operate_fit(alloc, &mut machine.here.operands, description)?;
     settle(alloc, unit.loaded, machine, halt)

@@ -36,7 +36,8 @@ fn raise_zero(operands: &mut Vec<Operand>, raised: Raised) -> Result<Option<Halt
 /// Puts what an operation comes to upon the operands, raises a condition, or stops the run.
 #[inline]
 fn give(operands: &mut Vec<Operand>, calculation: Calculation) -> Result<Option<Halt>, AllocError>
-    ensures { IfOk result (Computes (calculated_as (calculation_view calculation)) operands.old.items operands.new.items) }
+    ensures { IfOk result (Computes (calculated_as (calculation_view calculation)) operands.old.items
+        operands.new.items) }
 {
     match calculation {
         Calculation::Gives(value) => {
@@ -204,7 +205,8 @@ pub fn operate_fit(
     operands: &mut Vec<Operand>,
     description: &Description,
 ) -> Result<Option<Halt>, AllocError>
-    ensures { IfOk result (Computes (λ p. fits p (description_view description.now)) operands.old.items operands.new.items) }
+    ensures { IfOk result (Computes (λ p. fits p (description_view description.now)) operands.old.items
+        operands.new.items) }
 {
     match pop_number(operands) {
         Some(number) => give_immediate(operands, fit_number(description, number)),
@@ -218,7 +220,8 @@ fn fit_to(
     operands: &mut Vec<Operand>,
     description: &Description,
 ) -> Result<Option<Halt>, AllocError>
-    ensures { IfOk result (Computes (λ p. fits p (description_view description.now)) operands.old.items operands.new.items) }
+    ensures { IfOk result (Computes (λ p. fits p (description_view description.now)) operands.old.items
+        operands.new.items) }
 {
     let Some(value) = pop_value(alloc, operands)? else {
         return Ok(Some(Halt::Stops(Stop::Fault)));

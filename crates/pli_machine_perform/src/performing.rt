@@ -32,7 +32,8 @@ pub fn perform<'m>(
     machine: &mut Machine<'m>,
 ) -> Result<Option<Stop>, AllocError>
     requires { machine.old.here.unit ≡ unit.now.number }
-    ensures { IfOk result (Performs (image_of unit.now.loaded.now) (member_view unit.now.linked.now) instruction machine.old machine.new) }
+    ensures { IfOk result (Performs (image_of unit.now.loaded.now)
+        (member_view unit.now.linked.now) instruction machine.old machine.new) }
 {
     let code = &unit.linked.deck.code;
     match instruction {

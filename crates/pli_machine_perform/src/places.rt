@@ -20,7 +20,8 @@ pub fn field<'m>(
     offset: u32,
     description: &'m Description,
 ) -> Result<Option<Stop>, AllocError>
-    ensures { IfOk result (Acts (led_on_as offset (description_view description.now) (place_view place.entry)) operands.old.items operands.new.items) }
+    ensures { IfOk result (Acts (led_on_as offset (description_view description.now) (place_view place.entry))
+        operands.old.items operands.new.items) }
 {
     match place.field(offset, description) {
         Some(part) => {
@@ -35,7 +36,8 @@ pub fn field<'m>(
 #[inline]
 pub fn bounded(low: i32, high: i32, subscript: i64) -> Option<i32>
     ensures outside { MatchOption result ((int_le low subscript && int_le subscript high) ≡ false) (λ _. Unit {0}) }
-    ensures inside { MatchOption result (Unit {0}) (λ x. (x ≡ subscript) × (low ≤ℤ x) × ((int_le low x && int_le x high) ≡ true)) }
+    ensures inside { MatchOption result (Unit {0}) (λ x. (x ≡ subscript) × (low ≤ℤ x)
+        × ((int_le low x && int_le x high) ≡ true)) }
 {
     if i64::from(low) <= subscript && subscript <= i64::from(high) {
         Some(subscript as i32)
@@ -44,8 +46,8 @@ pub fn bounded(low: i32, high: i32, subscript: i64) -> Option<i32>
     }
 }
 
-/// Tests a number and leads a place on by so many bytes for each number over the low one; no rule fits where that is more
-/// than 1,000,000 bytes behind the beginning.
+/// Tests a number and leads a place on by so many bytes for each number over the low one; no rule fits where that is
+/// more than 1,000,000 bytes behind the beginning.
 #[inline]
 pub fn subscript<'m>(
     operands: &mut Vec<Operand<'m>>,
@@ -55,7 +57,8 @@ pub fn subscript<'m>(
     high: i32,
     multiplier: u32,
 ) -> Result<Option<Stop>, AllocError>
-    ensures { IfOk result (Acts (subscripted_as low high multiplier number (place_view place.entry)) operands.old.items operands.new.items) }
+    ensures { IfOk result (Acts (subscripted_as low high multiplier number (place_view place.entry)) operands.old.items
+        operands.new.items) }
 {
     let Some(number) = bounded(low, high, number) else {
         return Ok(Some(Stop::Raised(RunError::SubscriptRange)));

@@ -62,9 +62,15 @@ fn allocate_at<'m>(
     scalars: &[InitialScalar],
     laid: Option<&[u8]>,
 ) -> Result<Option<Stop>, AllocError>
-    requires { IfSome laid (λ bytes. IsLaid (record { description = description_view description.now; initial = map initial_view scalars.now }) bytes.now) }
+    requires { IfSome laid (λ bytes. IsLaid (record {
+      description = description_view description.now;
+      initial = map initial_view scalars.now;
+    }) bytes.now) }
     ensures { IfOk result (Does
-        (AllocateBased (record { description = description_view description.now; initial = map initial_view scalars.now }))
+        (AllocateBased (record {
+          description = description_view description.now;
+          initial = map initial_view scalars.now;
+        }))
         machine.old machine.new) }
 {
     pointing::allocate(
@@ -85,7 +91,8 @@ pub fn allocate_based<'m>(
     machine: &mut Machine<'m>,
     template: u16,
 ) -> Result<Option<Stop>, AllocError>
-    ensures { IfOk result (Does (looked_up (code_view unit.now.linked.now.deck.code) (coded.AllocateBased template)) machine.old machine.new) }
+    ensures { IfOk result (Does (looked_up (code_view unit.now.linked.now.deck.code) (coded.AllocateBased template))
+        machine.old machine.new) }
 {
     match template_of(&unit.linked.deck.code, template) {
         Some((description, scalars)) => {
@@ -113,7 +120,8 @@ pub fn free_based(
     machine: &mut Machine,
     description: u16,
 ) -> Result<Option<Stop>, AllocError>
-    ensures { IfOk result (Does (looked_up (code_view code.now) (coded.FreeBased description)) machine.old machine.new) }
+    ensures { IfOk result (Does (looked_up (code_view code.now) (coded.FreeBased description)) machine.old
+        machine.new) }
 {
     match code.descriptions.get(description as usize) {
         Some(description) => free_at(machine, description),

@@ -24,7 +24,8 @@ pub fn lead_to<'m>(
     storage: &Storage<'m>,
     description: &Description,
 ) -> Result<Option<Stop>, AllocError>
-    ensures { IfOk result (Works (leads_to (description_view description.now)) operands.old.items operands.new.items storage.now storage.now) }
+    ensures { IfOk result (Works (leads_to (description_view description.now)) operands.old.items operands.new.items
+        storage.now storage.now) }
 {
     let Some(locator) = pop_locator(operands) else {
         return Ok(Some(Stop::Fault));
@@ -44,7 +45,8 @@ pub fn address_of(
     storage: &Storage,
     place: Place<'_>,
 ) -> Result<Option<Stop>, AllocError>
-    ensures { IfOk result (Works (addressed_as (place_view place.entry)) operands.old.items operands.new.items storage.now storage.now) }
+    ensures { IfOk result (Works (addressed_as (place_view place.entry)) operands.old.items operands.new.items
+        storage.now storage.now) }
 {
     match address(storage, place) {
         Ok(locator) => {
@@ -65,9 +67,15 @@ pub fn allocate<'m>(
     scalars: &[InitialScalar],
     laid: Option<&[u8]>,
 ) -> Result<Option<Stop>, AllocError>
-    requires { IfSome laid (λ bytes. IsLaid (record { description = description_view description.now; initial = map initial_view scalars.now }) bytes.now) }
+    requires { IfSome laid (λ bytes. IsLaid (record {
+      description = description_view description.now;
+      initial = map initial_view scalars.now;
+    }) bytes.now) }
     ensures { IfOk result (Works
-        (allocates (variable_of (record { description = description_view description.now; initial = map initial_view scalars.now })))
+        (allocates (variable_of (record {
+          description = description_view description.now;
+          initial = map initial_view scalars.now;
+        })))
         operands.old.items operands.new.items storage.old storage.new) }
 {
     match allocate_based(alloc, storage, description, scalars, laid) {
@@ -85,7 +93,8 @@ pub fn free(
     storage: &mut Storage,
     description: &Description,
 ) -> Result<Option<Stop>, AllocError>
-    ensures { IfOk result (Works (frees (description_view description.now)) operands.old.items operands.new.items storage.old storage.new) }
+    ensures { IfOk result (Works (frees (description_view description.now)) operands.old.items operands.new.items
+        storage.old storage.new) }
 {
     let Some(locator) = pop_locator(operands) else {
         return Ok(Some(Stop::Fault));

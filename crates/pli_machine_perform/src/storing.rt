@@ -19,7 +19,8 @@ pub fn load(
     storage: &Storage,
     place: Place<'_>,
 ) -> Result<Option<Stop>, AllocError>
-    ensures { IfOk result (Works (held_as (place_view place.entry)) operands.old.items operands.new.items storage.now storage.now) }
+    ensures { IfOk result (Works (held_as (place_view place.entry)) operands.old.items operands.new.items storage.now
+        storage.now) }
 {
     match storage.number_at(place) {
         Some(number) => {
@@ -37,7 +38,8 @@ fn load_value(
     storage: &Storage,
     place: Place<'_>,
 ) -> Result<Option<Stop>, AllocError>
-    ensures { IfOk result (Works (held_as (place_view place.entry)) operands.old.items operands.new.items storage.now storage.now) }
+    ensures { IfOk result (Works (held_as (place_view place.entry)) operands.old.items operands.new.items storage.now
+        storage.now) }
 {
     match storage.held(alloc, place) {
         Ok(value) => {
@@ -69,7 +71,8 @@ pub fn copy(
     source: Place<'_>,
     target: Place<'_>,
 ) -> Result<Option<Stop>, AllocError>
-    ensures { IfOk result (Touches (copied_at (place_view source.entry) (place_view target.entry)) storage.old storage.new) }
+    ensures { IfOk result (Touches (copied_at (place_view source.entry) (place_view target.entry)) storage.old
+        storage.new) }
 {
     match storage.copied(source, target) {
         Ok(()) => Ok(None),

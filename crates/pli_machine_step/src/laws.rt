@@ -40,12 +40,12 @@ pub fn every_run_ends()
     ensures { EveryRunEnds }
 {}
 
-/// Worked examples: steps, a GOTO out of a call, jumps without a step, the limit of activations, the kinds of blocks, the
-/// code's end, an argument by place, dummy arguments that end, a function's value, a loop, an element and a part of a
-/// string that are there and that are not, how far a place is led on, a comparison, a sum of 32 binary digits, bits
-/// printed, a line ended, a variable that is made once, a call of another unit's procedure and a variable that both units
-/// have, the generations of a CONTROLLED one, BASED ones by their pointers, blocks of areas and offsets, and places that
-/// have ended and are copied.
+/// Worked examples: steps, a GOTO out of a call, jumps without a step, the limit of activations, the kinds of blocks,
+/// the code's end, an argument by place, dummy arguments that end, a function's value, a loop, an element and a part of
+/// a string that are there and that are not, how far a place is led on, a comparison, a sum of 32 binary digits, bits
+/// printed, a line ended, a variable that is made once, a call of another unit's procedure and a variable that both
+/// units have, the generations of a CONTROLLED one, BASED ones by their pointers, blocks of areas and offsets, and
+/// places that have ended and are copied.
 pub fn worked_examples()
     ensures smallest_stops { SmallestStops }
     ensures smallest_ends { SmallestEnds }

@@ -1,5 +1,6 @@
 -- The bytes of a value under the description of a scalar, and which value bytes hold (own).
-use Rattle.std.specs.Prelude.{ℕ, zero, suc, ◌-◌, nat_le, Bool, true, false, Option, Some, None, List, [], ◌++◌, length, take}
+use Rattle.std.specs.Prelude.{ℕ, zero, suc, ◌-◌, nat_le, Bool, true, false, Option, Some, None, List, []}
+use Rattle.std.specs.Prelude.{◌++◌, length, take}
 use Rattle.std.specs.Prelude.{drop, replicate, if◌then◌else◌}
 use Rattle.std.specs.Int.{Width, w16, w32, w64, cast_signed, cast_unsigned}
 use Rattle.byteorder.specs.Endian.{big_bytes, big_number}

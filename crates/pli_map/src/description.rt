@@ -6,7 +6,8 @@ ghost use Rattle.pli_map.specs.views.DescriptionView.{description_view, members_
 
 use std::alloc::{AllocError, Global};
 
-/// The bounds of one dimension of an array, each from -32,767 to 32,767. Where `high` is below `low` there are no subscripts.
+/// The bounds of one dimension of an array, each from -32,767 to 32,767. Where `high` is below `low` there are no
+/// subscripts.
 #[derive(Clone, Copy, PartialEq, Eq)]
 pub struct Bounds {
     pub low: i16,
@@ -53,7 +54,8 @@ pub enum Description {
     Bit(u16),
     Pointer,
     Offset,
-    /// AREA of 1 to 1,000,000 bytes. AREA(n) is the same description as AREA(m), where m is n rounded up to a multiple of 8 (own).
+    /// AREA of 1 to 1,000,000 bytes. AREA(n) is the same description as AREA(m), where m is n rounded up to a multiple
+    /// of 8 (own).
     Area(u32),
     /// One to 8 dimensions, the last varying fastest (X3.74), of an element.
     Array {
@@ -185,8 +187,8 @@ impl Eq for Description {
     ghost laws = { on_equiv description_view same_equivalence };
 }
 
-/// Whether both are the same scalar: numbers of one precision, strings of one kind and length, pointers or offsets. What
-/// is no scalar is left open.
+/// Whether both are the same scalar: numbers of one precision, strings of one kind and length, pointers or offsets.
+/// What is no scalar is left open.
 #[inline(always)]
 pub fn are_same_scalars(left: &Description, right: &Description) -> bool
     ensures { result ≡ true → description_view left.now ≡ description_view right.now }

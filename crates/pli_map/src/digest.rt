@@ -63,7 +63,8 @@ fn digest_of_members(members: &[Description]) -> u64
 impl Hash for Description {
     ghost hash_input = { λ d. fed.u64 (digest_of (description_view d)) };
 
-    ghost respects_eq = { λ d e h. ap (λ f. fed.u64 (digest_of f)) ((same_decides (description_view d) (description_view e)).0 h) };
+    ghost respects_eq = { λ d e h. ap (λ f. fed.u64 (digest_of f))
+        ((same_decides (description_view d) (description_view e)).0 h) };
 
     fn hash<H: Hasher>(&self, state: &mut H) {
         state.write_u64(digest_of(self));

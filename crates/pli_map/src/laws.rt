@@ -1,8 +1,12 @@
 //! Laws and worked examples of sizes and places, of scalars, of subscripts and of stored values.
-ghost use Rattle.pli_map.specs.examples.Examples.{ScalarSizes, MixedMembers, WideMembers, RowMajorOrder, StridesAreAligned, NoElements};
-ghost use Rattle.pli_map.specs.laws.Laws.{PartsDoNotMeet, PartsLieWithin, PartsStandAligned, FourAlignments, AreasAreRounded, ElementsAreWithinBounds, ElementsAreInRowMajorOrder, ElementsAreCounted, SameIsEqual};
+ghost use Rattle.pli_map.specs.examples.Examples.{ScalarSizes, MixedMembers, WideMembers, RowMajorOrder};
+ghost use Rattle.pli_map.specs.examples.Examples.{StridesAreAligned, NoElements};
+ghost use Rattle.pli_map.specs.laws.Laws.{PartsDoNotMeet, PartsLieWithin, PartsStandAligned, FourAlignments};
+ghost use Rattle.pli_map.specs.laws.Laws.{AreasAreRounded, ElementsAreWithinBounds, ElementsAreInRowMajorOrder};
+ghost use Rattle.pli_map.specs.laws.Laws.{ElementsAreCounted, SameIsEqual};
 ghost use Rattle.pli_map.specs.examples.ScalarExamples.{CountedScalars, FoundScalars, NamedSubscripts};
-ghost use Rattle.pli_map.specs.laws.ScalarLaws.{PartsAreFound, PartsAreDetermined, FoundIsPlaced, ScalarsLieWithin, PartsOfParts, FilledPartsTakeBytes};
+ghost use Rattle.pli_map.specs.laws.ScalarLaws.{PartsAreFound, PartsAreDetermined, FoundIsPlaced, ScalarsLieWithin};
+ghost use Rattle.pli_map.specs.laws.ScalarLaws.{PartsOfParts, FilledPartsTakeBytes};
 ghost use Rattle.pli_map.specs.examples.StoredExamples.{StoredNumbers, StoredStrings, StoredLocators};
 ghost use Rattle.pli_map.specs.laws.StoredLaws.{StoredBytesFill, StoredIsLoaded, BytesAreOfOneValue};
 ghost use Rattle.pli_map.specs.laws.SubscriptLaws.{OffsetsAreSums, SubscriptsWithinLead};

@@ -1,5 +1,5 @@
-//! Descriptions of storage, and what they take: sizes, alignments, where the parts of an array or a structure stand, and the bytes
-//! of values.
+//! Descriptions of storage, and what they take: sizes, alignments, where the parts of an array or a structure stand,
+//! and the bytes of values.
 #![tactic(auto)]
 
 mod description;

@@ -25,8 +25,9 @@ pub struct PlacedPart<'a> {
     pub description: &'a Description,
 }
 
-/// The part that a path of steps leads to, in a description whose size is in SIZE_LIMIT. A path that does not fit is answered
-/// by `None`: a step is of the wrong kind, a member is not there, or the subscripts are not one for each dimension, within its bounds.
+/// The part that a path of steps leads to, in a description whose size is in SIZE_LIMIT. A path that does not fit is
+/// answered by `None`: a step is of the wrong kind, a member is not there, or the subscripts are not one for each
+/// dimension, within its bounds.
 pub fn place<'a>(description: &'a Description, path: &[PathStep]) -> Option<PlacedPart<'a>>
     requires { size_of (description_view description.now) ≤ 1000000 }
     ensures { option_map part_view result ≡ place_of (description_view description.now) (map step_view path.now) }

@@ -1,8 +1,10 @@
 //! The scalars of a description, and which of them are those of a part.
-ghost use Rattle.std.specs.Prelude.{◌≡◌, ◌+◌, ◌*◌, ◌/◌, ◌%◌, ◌≤◌, ◌<◌, min, nat_lt, true, if◌then◌else◌, IfSome, None, option_map};
+ghost use Rattle.std.specs.Prelude.{◌≡◌, ◌+◌, ◌*◌, ◌/◌, ◌%◌, ◌≤◌, ◌<◌, min, nat_lt, true, if◌then◌else◌, IfSome, None};
+ghost use Rattle.std.specs.Prelude.{option_map};
 ghost use Rattle.std.specs.Option.{is_some};
 ghost use Rattle.pli_map.specs.Description.{Structure};
-ghost use Rattle.pli_map.specs.Scalars.{is_aggregate, is_area, is_scalar, scalars_in, scalars_among, stands_here, first_scalar, scalar_behind};
+ghost use Rattle.pli_map.specs.Scalars.{is_aggregate, is_area, is_scalar, scalars_in, scalars_among, stands_here};
+ghost use Rattle.pli_map.specs.Scalars.{first_scalar, scalar_behind};
 ghost use Rattle.pli_map.specs.Sizes.{alignment_of, count_of, size_of, stride_of};
 ghost use Rattle.pli_map.specs.views.DescriptionView.{description_view, members_view};
 
@@ -97,10 +99,12 @@ fn stands_here(whole: &Description, offset: u32, part: &Description) -> bool
     offset == 0 && whole == part
 }
 
-/// Whether a scalar stands so many bytes behind the beginning of a structure of these members, behind other scalars alone;
+/// Whether a scalar stands so many bytes behind the beginning of a structure of these members, behind other scalars
+/// alone;
 /// `false` leaves it open. Takes no memory, and time for the members that stand before it.
 pub fn stands_among(members: &[Description], offset: u32, part: &Description) -> bool
-    ensures { result ≡ true → is_some (first_scalar (Structure (members_view members.now)) offset (description_view part.now)) ≡ true }
+    ensures { result ≡ true → is_some (first_scalar (Structure (members_view members.now)) offset
+        (description_view part.now)) ≡ true }
 {
     let wanted = u64::from(offset);
     let mut at: u64 = 0;

@@ -1,7 +1,8 @@
 //! How many bytes a description takes, and on which bytes it may stand (own).
 ghost use Rattle.std.specs.Prelude.{◌≡◌, ◌<◌, ◌≤◌, ◌+◌, ◌*◌, min, max, SomeIff};
 ghost use Rattle.std.specs.Int.{next_multiple_of};
-ghost use Rattle.pli_map.specs.Sizes.{count_of, alignment_of, greatest_alignment, size_of, end_behind, stride_of, number_bytes};
+ghost use Rattle.pli_map.specs.Sizes.{count_of, alignment_of, greatest_alignment, size_of, end_behind, stride_of};
+ghost use Rattle.pli_map.specs.Sizes.{number_bytes};
 ghost use Rattle.pli_map.specs.views.DescriptionView.{description_view, members_view};
 ghost use Rattle.pli_map.specs.Layouts.{IsLayout};
 
@@ -10,7 +11,8 @@ use crate::layout::{Layout, OVER_LIMIT};
 
 /// The size in bytes, or `None` where it is over SIZE_LIMIT.
 pub fn size(description: &Description) -> Option<u32>
-    ensures { SomeIff result (size_of (description_view description.now) ≤ 1000000) (size_of (description_view description.now)) }
+    ensures { SomeIff result (size_of (description_view description.now) ≤ 1000000)
+        (size_of (description_view description.now)) }
 {
     Some(measure(description)?.bytes)
 }

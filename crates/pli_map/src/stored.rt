@@ -1,5 +1,6 @@
 //! Values in bytes (own): as many bytes as the description of a scalar takes.
-ghost use Rattle.std.specs.Prelude.{◌≡◌, ◌≤◌, ◌+◌, ◌-◌, ◌/◌, ◌^◌, ◌<◌, ◌++◌, unsigned_abs, length, take, drop, replicate, IfOk, IsTrue, Some};
+ghost use Rattle.std.specs.Prelude.{◌≡◌, ◌≤◌, ◌+◌, ◌-◌, ◌/◌, ◌^◌, ◌<◌, ◌++◌, unsigned_abs, length, take, drop};
+ghost use Rattle.std.specs.Prelude.{replicate, IfOk, IsTrue, Some};
 ghost use Rattle.std.specs.Int.{cast_signed, cast_unsigned};
 ghost use Rattle.byteorder.specs.Endian.{big_bytes, big_number};
 ghost use Rattle.pli_map.specs.Sizes.{number_bytes, size_of};
@@ -107,7 +108,8 @@ pub fn load_value(
 ) -> Result<Value, AllocError>
     requires storable { IsTrue (is_storable (description_view description.now)) }
     requires size { length bytes.now ≡ size_of (description_view description.now) }
-    ensures { IfOk result (λ value. loaded_value (description_view description.now) bytes.now ≡ Some (value_view value)) }
+    ensures { IfOk result (λ value. loaded_value (description_view description.now) bytes.now
+        ≡ Some (value_view value)) }
 {
     match description {
         Description::FixedBinary(precision) => Ok(Value::Number(load_number(*precision, bytes))),

@@ -36,12 +36,14 @@ impl Table {
         }
     }
 
-    /// The number of a description: the one that it has, else the next, and then it is put in. A table that answers a number
-    /// has fewer than 4,294,967,295 descriptions.
+    /// The number of a description: the one that it has, else the next, and then it is put in. A table that answers a
+    /// number has fewer than 4,294,967,295 descriptions.
     pub fn number(&mut self, description: Description) -> Result<u32, AllocError>
         requires { length (table_view self.old) < 4294967295 }
-        ensures number { IfOk result (λ number. number ≡ number_in (table_view self.old) (description_view description)) }
-        ensures table { OnOk result (table_view self.new ≡ with_description (table_view self.old) (description_view description)) }
+        ensures number { IfOk result (λ number. number ≡ number_in (table_view self.old)
+            (description_view description)) }
+        ensures table { OnOk result (table_view self.new ≡ with_description (table_view self.old)
+            (description_view description)) }
         ensures count { OnOk result (length (table_view self.new) ≤ length (table_view self.old) + 1) }
         ensures unchanged { OnErr result (table_view self.new ≡ table_view self.old) }
     {

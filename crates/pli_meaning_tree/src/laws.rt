@@ -13,7 +13,8 @@ ghost use Rattle.pli_meaning_tree.specs.examples.TreeExamples.{LoopEnds, LoopSto
 ghost use Rattle.pli_meaning_tree.specs.examples.TreeExamples.{AggregateIsCopied, BitsArePrinted, ItemBeforeIsWritten};
 ghost use Rattle.pli_meaning_tree.specs.examples.TreeExamples.{FunctionCallsItself, FunctionStops, ByReferenceChanges};
 ghost use Rattle.pli_meaning_tree.specs.examples.TreeExamples.{NoValueIsReturned, GotoLeavesBlock, GotoLeavesCall};
-ghost use Rattle.pli_meaning_tree.specs.examples.TreeExamples.{GotoGroupBeginsAnew, LabelsAreOfUnits, ReturnLeavesBlock};
+ghost use Rattle.pli_meaning_tree.specs.examples.TreeExamples.{GotoGroupBeginsAnew, LabelsAreOfUnits};
+ghost use Rattle.pli_meaning_tree.specs.examples.TreeExamples.{ReturnLeavesBlock};
 ghost use Rattle.pli_meaning_tree.specs.examples.TreeExamples.{TurnsAreSteps, NoTurnAndOne, StartMustFit};
 ghost use Rattle.pli_meaning_tree.specs.examples.TreeExamples.{StepMayBeNegative, StepOverflows};
 ghost use Rattle.pli_meaning_tree.specs.examples.TreeExamples.{VariableIsLookedAtAnew, RepeatGoesOn};

@@ -1,7 +1,8 @@
 //! Laws of well-typed programs.
 ghost use Rattle.pli_meaning_typed.specs.TypedPrograms.{EveryRunIsMeant};
 ghost use Rattle.pli_meaning_typed.specs.examples.TypedExamples.{ExampleIsWellTyped, GroupsAreWellTyped};
-ghost use Rattle.pli_meaning_typed.specs.examples.TypedExamples.{StackIsWellTyped, PointersAreWellTyped, AreasAreWellTyped};
+ghost use Rattle.pli_meaning_typed.specs.examples.TypedExamples.{StackIsWellTyped, PointersAreWellTyped};
+ghost use Rattle.pli_meaning_typed.specs.examples.TypedExamples.{AreasAreWellTyped};
 ghost use Rattle.pli_meaning_typed.specs.examples.TypedExamples.{ConditionsAreWellTyped, UnitsAreWellTyped};
 
 /// A law: each run of a well-typed program, with any number of steps, has a meaning. No operation asks for what is not

@@ -73,7 +73,14 @@ impl NamedMember {
         version: u64,
     ) -> Result<(), AllocError>
         requires { after ≤ length self.old.1.lines }
-        ensures ok { OnOk result (self.new ≡ (self.old.0, record { kind = self.old.1.kind; lines = insert self.old.1.lines after line; version = version })) }
+        ensures ok { OnOk result (self.new ≡ (
+          self.old.0,
+          record {
+            kind = self.old.1.kind;
+            lines = insert self.old.1.lines after line;
+            version = version;
+          },
+        )) }
         ensures err { OnErr result (self.new ≡ self.old) }
     {
         self.lines.insert(after, line)?;
@@ -84,7 +91,14 @@ impl NamedMember {
     // Gives a line another text, under a new version. The first line stands at 0.
     pub(crate) fn set_line(&mut self, at: usize, line: Line, version: u64)
         requires { at < length self.old.1.lines }
-        ensures { self.new ≡ (self.old.0, record { kind = self.old.1.kind; lines = slice_set self.old.1.lines at line; version = version }) }
+        ensures { self.new ≡ (
+          self.old.0,
+          record {
+            kind = self.old.1.kind;
+            lines = slice_set self.old.1.lines at line;
+            version = version;
+          },
+        ) }
     {
         self.lines[at] = line;
         self.version = version;
@@ -94,7 +108,14 @@ impl NamedMember {
     pub(crate) fn take_lines(&mut self, start: usize, end: usize, version: u64)
         requires order { start ≤ end }
         requires in_range { end ≤ length self.old.1.lines }
-        ensures { self.new ≡ (self.old.0, record { kind = self.old.1.kind; lines = take start self.old.1.lines ++ drop end self.old.1.lines; version = version }) }
+        ensures { self.new ≡ (
+          self.old.0,
+          record {
+            kind = self.old.1.kind;
+            lines = take start self.old.1.lines ++ drop end self.old.1.lines;
+            version = version;
+          },
+        ) }
     {
         drop(self.lines.drain(start..end));
         self.version = version;

@@ -1,6 +1,8 @@
 //! Laws of the members.
-ghost use Rattle.pli_members.specs.examples.Examples.{LinePut, FirstLineReplaced, LastLinesRemoved, OneLineRemoved, NoLineZero, RemovalsInRange, RefusedInOrder};
-ghost use Rattle.pli_members.specs.Versions.{NextIsNew, EditGivesNext, EditKeepsOthers, DeletionTakes, DeletionKeepsOthers, RunsKeep};
+ghost use Rattle.pli_members.specs.examples.Examples.{LinePut, FirstLineReplaced, LastLinesRemoved, OneLineRemoved};
+ghost use Rattle.pli_members.specs.examples.Examples.{NoLineZero, RemovalsInRange, RefusedInOrder};
+ghost use Rattle.pli_members.specs.Versions.{NextIsNew, EditGivesNext, EditKeepsOthers, DeletionTakes};
+ghost use Rattle.pli_members.specs.Versions.{DeletionKeepsOthers, RunsKeep};
 
 /// The version that an accepted edit gives was never given before.
 pub fn next_is_new()

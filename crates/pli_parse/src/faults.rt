@@ -9,7 +9,8 @@ ghost use Rattle.pli_parse_statement.specs.StatementReading.{has_semicolon, stat
 ghost use Rattle.pli_parse_statement.specs.StatementWords.{Context};
 ghost use Rattle.pli_parse.specs.UnitFaults.{HasNoProcedure, HasTextBehind};
 
-/// A law: P1 is answered exactly where the text is empty or one of its first three tokens cannot stand, at the first such.
+/// A law: P1 is answered exactly where the text is empty or one of its first three tokens cannot stand, at the first
+/// such.
 #[tactic(auto, using(crate::proofs::UnitFaults::no_procedure_told, crate::proofs::UnitFaults::no_procedure_met))]
 pub fn no_procedure_begins()
     ensures told { (ts : Tokens) (p : ℕ) → HasNoProcedure ts p → unit_of ts ≡ at_fault NoProcedure p }
@@ -26,15 +27,18 @@ pub fn texts_end_too_early()
         has_semicolon ts ≡ false → statement_at levels c p k ts ≡ at_fault EndMissing (p + length ts - 1) }
 {}
 
-/// A law: P10 is answered exactly where a front of the tokens spells a unit and something stands behind it, at its first token.
+/// A law: P10 is answered exactly where a front of the tokens spells a unit and something stands behind it, at its
+/// first token.
 #[tactic(auto, using(crate::proofs::UnitFaults::text_behind_told, crate::proofs::UnitFaults::text_behind_met))]
 pub fn text_stands_behind()
     ensures told { (ts : Tokens) (p : ℕ) → HasTextBehind ts p → unit_of ts ≡ at_fault TextAfterEnd p }
     ensures met { (ts : Tokens) (f : Fault) → unit_of ts ≡ Err f → f.code ≡ TextAfterEnd → HasTextBehind ts f.at }
 {}
 
-/// A law: a fault of a statement is never P1 or P10; it stands at one of its tokens, or the text ends too early, and it is P9.
+/// A law: a fault of a statement is never P1 or P10; it stands at one of its tokens, or the text ends too early, and it
+/// is P9.
 #[tactic(auto, using(crate::proofs::StatementFaultPlaces::statement_told))]
 pub fn statements_have_codes_of_parts()
-    ensures { (c : Context) (levels p k : ℕ) (ts : Tokens) (f : Fault) → statement_at levels c p k ts ≡ Err f → IsToldOf p ts f }
+    ensures { (c : Context) (levels p k : ℕ) (ts : Tokens) (f : Fault) → statement_at levels c p k ts ≡ Err f →
+        IsToldOf p ts f }
 {}

@@ -3,11 +3,15 @@ ghost use Rattle.std.specs.Prelude.{◌≡◌, ◌≤◌, ◌<◌, ◌+◌, ◌-
 ghost use Rattle.pli_base.specs.Statements.{count, body_count, list_count, alternative_count};
 ghost use Rattle.pli_base.specs.laws.StatementLaws.{boxed_view};
 ghost use Rattle.pli_base.specs.views.StatementView.{body_view, statement_view, statements_view};
-ghost use Rattle.pli_parse_statement.specs.StatementReading.{is_label, stopped, ending_at, list_in, begin_at, do_at, procedure_at, alternative_from, if_at, on_at, keyed_at, body_from, statement_at, inside_of};
+ghost use Rattle.pli_parse_statement.specs.StatementReading.{is_label, stopped, ending_at, list_in, begin_at, do_at};
+ghost use Rattle.pli_parse_statement.specs.StatementReading.{procedure_at, alternative_from, if_at, on_at, keyed_at};
+ghost use Rattle.pli_parse_statement.specs.StatementReading.{body_from, statement_at, inside_of};
 ghost use Rattle.pli_parse_statement.specs.StatementReading as reading;
 ghost use Rattle.pli_base.specs.Statements as tree;
 ghost use Rattle.pli_parse_statement.specs.StatementWords as grammar;
-ghost use Rattle.pli_parse_statement.specs.answers.StatementAnswers.{heading_view, tree_view, Counts, inside_at, listing_view, context_view, kind_view, BehindKind, IsBeginning, words};
+ghost use Rattle.pli_parse_statement.specs.answers.StatementAnswers.{heading_view, tree_view, Counts, inside_at};
+ghost use Rattle.pli_parse_statement.specs.answers.StatementAnswers.{listing_view, context_view, kind_view, BehindKind};
+ghost use Rattle.pli_parse_statement.specs.answers.StatementAnswers.{IsBeginning, words};
 ghost use Rattle.pli_base.specs.answers.FailureAnswers.{Gives};
 ghost use Rattle.pli_base.specs.answers.ReadingAnswers.{Advances, front_view};
 
@@ -25,7 +29,11 @@ use std::alloc::Global;
 /// What was read where no statement is inside: only the statement itself is counted.
 fn alone(read: Front<'_, Body>, number: u32) -> Front<'_, Counted<Body>>
     requires { number ≤ 200000 }
-    ensures { result ≡ record { value = record { tree = read.entry.value; count = number + 1 }; next = read.entry.next; rest = read.entry.rest } }
+    ensures { result ≡ record {
+      value = record { tree = read.entry.value; count = number + 1 };
+      next = read.entry.next;
+      rest = read.entry.rest;
+    } }
 {
     Counted::front(read.value, number + 1, read.next, read.rest)
 }
@@ -96,8 +104,10 @@ pub fn list_in<'a>(
 ) -> Result<Front<'a, Counted<Listing>>, ParseError>
     requires place { at + length texts.now ≤ 200000 }
     requires number { number ≤ at }
-    ensures value { Gives (front_view (tree_view listing_view)) result (list_in (inside_at levels) (context_view context) label.now at number texts.now) }
-    ensures numbers { IfOk result (λ x. x.value.count ≡ number + list_count (statements_view x.value.tree.statements.items) + 1) }
+    ensures value { Gives (front_view (tree_view listing_view)) result
+        (list_in (inside_at levels) (context_view context) label.now at number texts.now) }
+    ensures numbers { IfOk result (λ x. x.value.count ≡ number
+        + list_count (statements_view x.value.tree.statements.items) + 1) }
     ensures place { IfOk result (Counts at number texts.now) }
 {
     let mut statements = Vec::new(alloc);
@@ -140,7 +150,8 @@ fn begin_at<'a>(
 ) -> Result<Front<'a, Counted<Body>>, ParseError>
     requires place { at + length texts.now ≤ 200000 }
     requires number { number ≤ at }
-    ensures value { Gives (front_view (tree_view body_view)) result (begin_at (inside_at levels) (context_view context) label.now at number texts.now) }
+    ensures value { Gives (front_view (tree_view body_view)) result
+        (begin_at (inside_at levels) (context_view context) label.now at number texts.now) }
     ensures numbers { IfOk result (λ x. x.value.count ≡ number + body_count (body_view x.value.tree)) }
     ensures place { IfOk result (Counts at number texts.now) }
 {
@@ -169,7 +180,8 @@ fn do_at<'a>(
 ) -> Result<Front<'a, Counted<Body>>, ParseError>
     requires place { at + length texts.now ≤ 200000 }
     requires number { number ≤ at }
-    ensures value { Gives (front_view (tree_view body_view)) result (do_at (inside_at levels) (context_view context) label.now at number texts.now) }
+    ensures value { Gives (front_view (tree_view body_view)) result
+        (do_at (inside_at levels) (context_view context) label.now at number texts.now) }
     ensures numbers { IfOk result (λ x. x.value.count ≡ number + body_count (body_view x.value.tree)) }
     ensures place { IfOk result (Counts at number texts.now) }
 {
@@ -205,7 +217,8 @@ fn do_at<'a>(
 /// A procedure inside a unit, of its parts.
 #[tactic(auto, using(pli_base::specs::laws::StatementLaws::procedure_made))]
 fn procedure_of(name: Identifier, number: u32, heading: Heading, list: Listing) -> Body
-    ensures { body_view result ≡ tree.Procedure (heading_view name number heading) (statements_view list.statements.items) list.end }
+    ensures { body_view result ≡ tree.Procedure (heading_view name number heading)
+        (statements_view list.statements.items) list.end }
 {
     let procedure = Procedure {
         name,
@@ -231,7 +244,8 @@ fn procedure_at<'a>(
 ) -> Result<Front<'a, Counted<Body>>, ParseError>
     requires place { at + length texts.now ≤ 200000 }
     requires number { number < at }
-    ensures value { Gives (front_view (tree_view body_view)) result (procedure_at (inside_at levels) label.now number at texts.now) }
+    ensures value { Gives (front_view (tree_view body_view)) result
+        (procedure_at (inside_at levels) label.now number at texts.now) }
     ensures numbers { IfOk result (λ x. x.value.count ≡ number + 1 + body_count (body_view x.value.tree)) }
     ensures place { IfOk result (Counts at (number + 1) texts.now) }
 {
@@ -270,9 +284,12 @@ fn alternative_at<'a>(
 ) -> Result<Front<'a, Counted<Option<Box<Statement>>>>, ParseError>
     requires place { at + length texts.now ≤ 200000 }
     requires number { number ≤ at }
-    ensures value { Gives (front_view (tree_view boxed_view)) result (alternative_from (inside_at levels) (context_view context) at number texts.now (reading.else_first texts.now)) }
+    ensures value { Gives (front_view (tree_view boxed_view)) result
+        (alternative_from (inside_at levels) (context_view context) at number texts.now
+        (reading.else_first texts.now)) }
     ensures numbers { IfOk result (λ x. x.value.count ≡ number + alternative_count (boxed_view x.value.tree)) }
-    ensures place { IfOk result (λ x. (x.value.count + at ≤ x.next + number) × (x.next + length x.rest.now ≡ at + length texts.now)) }
+    ensures place { IfOk result (λ x. (x.value.count + at ≤ x.next + number)
+        × (x.next + length x.rest.now ≡ at + length texts.now)) }
 {
     let Some(behind) = else_first(alloc, texts)? else {
         return Ok(Counted::front(None, number, at, texts));
@@ -300,7 +317,8 @@ fn if_at<'a>(
 ) -> Result<Front<'a, Counted<Body>>, ParseError>
     requires place { at + length texts.now ≤ 200000 }
     requires number { number ≤ at }
-    ensures value { Gives (front_view (tree_view body_view)) result (if_at (inside_at levels) (context_view context) at number texts.now) }
+    ensures value { Gives (front_view (tree_view body_view)) result
+        (if_at (inside_at levels) (context_view context) at number texts.now) }
     ensures numbers { IfOk result (λ x. x.value.count ≡ number + body_count (body_view x.value.tree)) }
     ensures place { IfOk result (Counts at number texts.now) }
 {
@@ -389,9 +407,11 @@ fn keyed_at<'a>(
 ) -> Result<Front<'a, Counted<Body>>, ParseError>
     requires place { at + words keyword + length rest.now ≤ 200000 }
     requires number { number ≤ at }
-    ensures value { Gives (front_view (tree_view body_view)) result (keyed_at levels (inside_of levels) (context_view context) label.now at number rest.now keyword) }
+    ensures value { Gives (front_view (tree_view body_view)) result
+        (keyed_at levels (inside_of levels) (context_view context) label.now at number rest.now keyword) }
     ensures numbers { IfOk result (λ x. x.value.count ≡ number + 1 + body_count (body_view x.value.tree)) }
-    ensures place { IfOk result (λ x. (x.value.count + at ≤ x.next + number) × (x.next + length x.rest.now ≡ at + words keyword + length rest.now)) }
+    ensures place { IfOk result (λ x. (x.value.count + at ≤ x.next + number)
+        × (x.next + length x.rest.now ≡ at + words keyword + length rest.now)) }
 {
     if levels == 0 {
         return Ok(alone(simple_at(alloc, levels, keyword, at, rest)?, number));
@@ -424,9 +444,12 @@ fn body_at<'a>(
     requires number { number ≤ at }
     requires kind { kind_view kind ≡ grammar.kind_of texts.now }
     requires behind { BehindKind (length texts.now) kind }
-    ensures value { Gives (front_view (tree_view body_view)) result (body_from levels (inside_of levels) (context_view context) label.now at number texts.now (grammar.kind_of texts.now)) }
+    ensures value { Gives (front_view (tree_view body_view)) result
+        (body_from levels (inside_of levels) (context_view context) label.now at number texts.now
+        (grammar.kind_of texts.now)) }
     ensures numbers { IfOk result (λ x. x.value.count ≡ number + 1 + body_count (body_view x.value.tree)) }
-    ensures place { IfOk result (λ x. (x.value.count + at ≤ x.next + number) × (x.next + length x.rest.now ≡ at + length texts.now)) }
+    ensures place { IfOk result (λ x. (x.value.count + at ≤ x.next + number)
+        × (x.next + length x.rest.now ≡ at + length texts.now)) }
 {
     match kind {
         StatementKind::Assigns => Ok(alone(assignment_at(alloc, levels, at, texts)?, number)),
@@ -460,7 +483,8 @@ pub fn statement_at<'a>(
 ) -> Result<Front<'a, Counted<Statement>>, ParseError>
     requires place { at + length texts.now ≤ 200000 }
     requires number { number ≤ at }
-    ensures value { Gives (front_view (tree_view statement_view)) result (statement_at levels (context_view context) at number texts.now) }
+    ensures value { Gives (front_view (tree_view statement_view)) result
+        (statement_at levels (context_view context) at number texts.now) }
     ensures numbers { IfOk result (λ x. x.value.count ≡ number + count (statement_view x.value.tree)) }
     ensures place { IfOk result (Counts at number texts.now) }
 {
@@ -483,7 +507,8 @@ fn statement_begun<'a>(
     requires place { at + length texts.now ≤ 200000 }
     requires number { number ≤ at }
     requires begins { IsBeginning texts.now beginning }
-    ensures value { Gives (front_view (tree_view statement_view)) result (statement_at levels (context_view context) at number texts.now) }
+    ensures value { Gives (front_view (tree_view statement_view)) result
+        (statement_at levels (context_view context) at number texts.now) }
     ensures numbers { IfOk result (λ x. x.value.count ≡ number + count (statement_view x.value.tree)) }
     ensures place { IfOk result (Counts at number texts.now) }
 {

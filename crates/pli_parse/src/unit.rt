@@ -83,8 +83,9 @@ fn external_at(
     })
 }
 
-/// Reads the tokens of a unit, which must be one external procedure: its tree, or its one fault. First of all, `name : PROCEDURE`
-/// must stand. The time is linear in the number of tokens, and calls nest only as statements and parentheses do, at most 64 deep.
+/// Reads the tokens of a unit, which must be one external procedure: its tree, or its one fault. First of all, `name :
+/// PROCEDURE` must stand. The time is linear in the number of tokens, and calls nest only as statements and parentheses
+/// do, at most 64 deep.
 #[tactic(auto, unfolding(pli_parse_statement::specs::StatementReading::unit_of))]
 pub fn parse(alloc: Global, texts: &[TokenText]) -> Result<Procedure, ParseError>
     requires { length texts.now ≤ 200000 }

@@ -1,7 +1,8 @@
 //! Descriptions of parameters and of results.
 ghost use Rattle.std.specs.Prelude.{◌≡◌, ◌≤◌, ◌+◌, length, map, IfOk};
 ghost use Rattle.pli_base.specs.views.DeclarationView.{described_view, parameter_view};
-ghost use Rattle.pli_parse_declaration.specs.DeclarationReading.{list_at, described_at, parameter_at, parameters_at, returned_at};
+ghost use Rattle.pli_parse_declaration.specs.DeclarationReading.{list_at, described_at, parameter_at, parameters_at};
+ghost use Rattle.pli_parse_declaration.specs.DeclarationReading.{returned_at};
 ghost use Rattle.pli_base.specs.answers.FailureAnswers.{Gives};
 ghost use Rattle.pli_base.specs.answers.ReadingAnswers.{Advances, front_view};
 ghost use Rattle.pli_parse_declaration.specs.declared.list.Separator.TheVariants.{Commas, Nothing};

@@ -1,6 +1,7 @@
 //! Dimensions, lengths and precisions.
 ghost use Rattle.std.specs.Prelude.{◌≡◌, ◌≤◌, ◌+◌, length, IfOk};
-ghost use Rattle.pli_parse_declaration.specs.DeclarationReading.{list_at, number_at, signed, integer_at, bounds_at, dimensions_at, scaled_at};
+ghost use Rattle.pli_parse_declaration.specs.DeclarationReading.{list_at, number_at, signed, integer_at, bounds_at};
+ghost use Rattle.pli_parse_declaration.specs.DeclarationReading.{dimensions_at, scaled_at};
 ghost use Rattle.pli_parse_declaration.specs.answers.DeclarationAnswers.{measured_at};
 ghost use Rattle.pli_base.specs.Words.{is_open, behind};
 ghost use Rattle.pli_base.specs.Reading.{if_open};
@@ -162,7 +163,8 @@ pub fn measure_at(
     texts: &[TokenText],
 ) -> Result<Front<'_, Option<u64>>, ParseError>
     requires { at + length texts.now ≤ 200000 }
-    ensures value { Gives (front_view (λ n. n)) result (if_open (measured_at measure) at texts.now (behind is_open texts.now)) }
+    ensures value { Gives (front_view (λ n. n)) result (if_open (measured_at measure) at texts.now
+        (behind is_open texts.now)) }
     ensures place { IfOk result (Continues at texts.now) }
 {
     match behind_open(texts) {

@@ -4,7 +4,8 @@ ghost use Rattle.std.specs.Prelude.{◌≡◌, ℕ, option_map, ◌≤◌, ◌+�
 ghost use Rattle.pli_base.specs.Reading.{taken};
 ghost use Rattle.pli_base.specs.answers.FailureAnswers.{Gives};
 ghost use Rattle.pli_base.specs.answers.ReadingAnswers.{Advances, Continues, front_view};
-ghost use Rattle.pli_parse_declaration.specs.DeclarationWords.{attribute_first, with_attribute, begins_description, is_zero};
+ghost use Rattle.pli_parse_declaration.specs.DeclarationWords.{attribute_first, with_attribute, begins_description};
+ghost use Rattle.pli_parse_declaration.specs.DeclarationWords.{is_zero};
 ghost use Rattle.pli_parse_declaration.specs.DeclarationReading.{number_at, level_at};
 ghost use Rattle.pli_parse_declaration.specs.answers.DeclarationAnswers.{number_from, level_from};
 
@@ -62,8 +63,10 @@ pub fn begins_description(texts: &[TokenText]) -> bool
 /// The value of the decimal or binary constant that the tokens begin with, and the tokens behind it.
 #[tactic(auto, unfolding(crate::specs::DeclarationReading::number_at, crate::specs::DeclarationReading::level_at))]
 fn number_first(texts: &[TokenText]) -> Option<(u64, &[TokenText])>
-    ensures number { (at : ℕ) → number_at at texts.now ≡ number_from at texts.now (option_map (λ x. (x.0, x.1.now)) result) }
-    ensures level { (at : ℕ) → level_at at texts.now ≡ level_from at texts.now (option_map (λ x. (x.0, x.1.now)) result) }
+    ensures number { (at : ℕ) → number_at at texts.now ≡ number_from at texts.now
+        (option_map (λ x. (x.0, x.1.now)) result) }
+    ensures level { (at : ℕ) → level_at at texts.now ≡ level_from at texts.now
+        (option_map (λ x. (x.0, x.1.now)) result) }
     ensures place { IfSome result (λ x. length x.1.now + 1 ≡ length texts.now) }
 {
     match texts {

@@ -2,7 +2,8 @@
 ghost use Rattle.std.specs.Prelude.{◌≡◌, ◌≤◌, ◌+◌, length, map, IfOk};
 ghost use Rattle.pli_base.specs.Declarations as tree;
 ghost use Rattle.pli_base.specs.views.DeclarationView.{attribute_view, item_view};
-ghost use Rattle.pli_parse_declaration.specs.DeclarationReading.{list_at, entry_at, attribute_at, attributes_at, identifier_at, names_at, item_at, declaration_at};
+ghost use Rattle.pli_parse_declaration.specs.DeclarationReading.{list_at, entry_at, attribute_at, attributes_at};
+ghost use Rattle.pli_parse_declaration.specs.DeclarationReading.{identifier_at, names_at, item_at, declaration_at};
 ghost use Rattle.pli_base.specs.Reading.{mapped};
 ghost use Rattle.pli_base.specs.answers.FailureAnswers.{Gives};
 ghost use Rattle.pli_base.specs.answers.ReadingAnswers.{Advances, Continues, front_view};

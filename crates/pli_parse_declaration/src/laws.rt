@@ -7,9 +7,14 @@ ghost use Rattle.pli_base.specs.Reading.{Front, read_as};
 ghost use Rattle.pli_base.specs.Declarations as tree;
 ghost use Rattle.pli_base.specs.declared.token.Fault.{Fault};
 ghost use Rattle.pli_parse_declaration.specs.DeclarationReading.{items_at, declaration_at, returned_at};
-ghost use Rattle.pli_parse_declaration.specs.DeclarationGrammar.{SpellsFront, SpellsItems, SpellsDeclaration, SpellsReturned, Anywhere, EndsItems};
+ghost use Rattle.pli_parse_declaration.specs.DeclarationGrammar.{SpellsFront, SpellsItems, SpellsDeclaration};
+ghost use Rattle.pli_parse_declaration.specs.DeclarationGrammar.{SpellsReturned, Anywhere, EndsItems};
 ghost use Rattle.pli_parse_declaration.specs.ItemEnds.{ItemsEnd};
-ghost use Rattle.pli_parse_declaration.specs.examples.DeclarationExamples.{NameThatIsKeyword, Levels, Nest, Values, WrongWord, NoLevelInParentheses, NoScaleButZero, NoFactorOfString, NoDescription, NoDescriptionBehindComma, NoAttributeInNest, TextEnds};
+ghost use Rattle.pli_parse_declaration.specs.examples.DeclarationExamples.{NameThatIsKeyword, Levels, Nest, Values};
+ghost use Rattle.pli_parse_declaration.specs.examples.DeclarationExamples.{WrongWord, NoLevelInParentheses};
+ghost use Rattle.pli_parse_declaration.specs.examples.DeclarationExamples.{NoScaleButZero, NoFactorOfString};
+ghost use Rattle.pli_parse_declaration.specs.examples.DeclarationExamples.{NoDescription, NoDescriptionBehindComma};
+ghost use Rattle.pli_parse_declaration.specs.examples.DeclarationExamples.{NoAttributeInNest, TextEnds};
 
 /// Worked examples of what is read behind DECLARE, and of faults.
 pub fn worked_examples()
@@ -37,8 +42,8 @@ pub fn declarations_read_are_spelled()
         returned_at p ts ≡ Ok x → SpellsFront (Anywhere SpellsReturned) p ts x }
 {}
 
-/// A law: what is spelled so is read, in front of any tokens; of items alone, in front of tokens that continue none. So a list
-/// of tokens spells at most one tree.
+/// A law: what is spelled so is read, in front of any tokens; of items alone, in front of tokens that continue none. So
+/// a list of tokens spells at most one tree.
 pub fn declarations_spelled_are_read()
     ensures items { (p : ℕ) (ts more : Tokens) (items : List tree.Item) →
         SpellsItems p ts items → EndsItems more → items_at p (ts ++ more) ≡ read_as items (p + length ts) more }
@@ -71,13 +76,14 @@ pub fn tokens_of_items_rise()
         declaration_at p ts ≡ Ok x → Rises p (tokens_of_each item_tokens x.value) x.next }
 {}
 
-/// A law: items that are spelled are read exactly before tokens that do not continue them, which the last of them tells; and no
-/// longer front of the tokens spells any.
+/// A law: items that are spelled are read exactly before tokens that do not continue them, which the last of them
+/// tells; and no longer front of the tokens spells any.
 #[tactic(auto, using(crate::proofs::DeclarationItemsAgain::items_before, crate::proofs::DeclarationEnds::items_end, crate::proofs::DeclarationEnds::items_longest))]
 pub fn longest_items()
     ensures ended { (p : ℕ) (ts more : Tokens) (items : List tree.Item) →
         SpellsItems p ts items → ItemsEnd items more → items_at p (ts ++ more) ≡ read_as items (p + length ts) more }
     ensures left { (p : ℕ) (ts : Tokens) (x : Front (List tree.Item)) → items_at p ts ≡ Ok x → ItemsEnd x.value x.rest }
     ensures longest { (p : ℕ) (ts : Tokens) (x : Front (List tree.Item)) → items_at p ts ≡ Ok x →
-        (longer more : Tokens) (items : List tree.Item) → ts ≡ longer ++ more → SpellsItems p longer items → p + length longer ≤ x.next }
+        (longer more : Tokens) (items : List tree.Item) → ts ≡ longer ++ more → SpellsItems p longer items →
+        p + length longer ≤ x.next }
 {}

@@ -58,7 +58,8 @@ pub fn list_at<'a, R: ListReader>(
     texts: &'a [TokenText],
 ) -> Result<Front<'a, Vec<R::Value>>, ParseError>
     requires { at + length texts.now ≤ 200000 }
-    ensures value { Gives (front_view (λ v. R.trees v.items)) result (list_at separator (R.one reader.now) at texts.now) }
+    ensures value { Gives (front_view (λ v. R.trees v.items)) result
+        (list_at separator (R.one reader.now) at texts.now) }
     ensures place { IfOk result (Advances at texts.now) }
 {
     let mut values = Vec::new(alloc);

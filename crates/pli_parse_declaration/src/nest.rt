@@ -1,8 +1,9 @@
-//! An ENTRY or RETURNS in a description. Nothing is kept of it, and it may be as deep as a text is long: so it is walked by a
-//! loop, with a list of the parentheses that are open.
+//! An ENTRY or RETURNS in a description. Nothing is kept of it, and it may be as deep as a text is long: so it is
+//! walked by a loop, with a list of the parentheses that are open.
 ghost use Rattle.std.specs.Prelude.{◌≡◌, ◌≤◌, ◌+◌, ◌<◌, [], ◌∷◌, List, Some, length, nat_eq, IfOk, MatchOption};
 ghost use Rattle.pli_base.specs.Words.{is_close, behind};
-ghost use Rattle.pli_parse_declaration.specs.DeclarationReading.{description_walk, parameters_walk, word_walk, closed_walk, behind_walk, step_at, is_over, nest_at};
+ghost use Rattle.pli_parse_declaration.specs.DeclarationReading.{description_walk, parameters_walk, word_walk};
+ghost use Rattle.pli_parse_declaration.specs.DeclarationReading.{closed_walk, behind_walk, step_at, is_over, nest_at};
 ghost use Rattle.pli_parse_declaration.specs.answers.DeclarationAnswers.{walk_view};
 ghost use Rattle.pli_base.specs.answers.FailureAnswers.{Gives};
 ghost use Rattle.pli_base.specs.answers.ReadingAnswers.{Advances, Continues, front_view};
@@ -108,7 +109,8 @@ fn parameters_step<'a>(
     texts: &'a [TokenText],
 ) -> Result<Front<'a, Expects>, ParseError>
     requires { at + length texts.now ≤ 200000 }
-    ensures value { Gives (walk_view nest.new) result (parameters_walk nest.old at texts.now (behind is_close texts.now)) }
+    ensures value { Gives (walk_view nest.new) result (parameters_walk nest.old at texts.now
+        (behind is_close texts.now)) }
     ensures place { IfOk result (Continues at texts.now) }
 {
     match behind_close(texts) {
@@ -156,7 +158,8 @@ fn word_step<'a>(
 /// A step over the `)` of a parenthesis that is taken off the nest.
 fn closing_step(at: u32, texts: &[TokenText]) -> Result<Front<'_, Expects>, ParseError>
     requires { at + length texts.now ≤ 200000 }
-    ensures value { (opens : List Open) → Gives (walk_view opens) result (closed_walk opens at texts.now (behind is_close texts.now)) }
+    ensures value { (opens : List Open) → Gives (walk_view opens) result
+        (closed_walk opens at texts.now (behind is_close texts.now)) }
     ensures place { IfOk result (Advances at texts.now) }
 {
     match behind_close(texts) {
@@ -165,8 +168,8 @@ fn closing_step(at: u32, texts: &[TokenText]) -> Result<Front<'_, Expects>, Pars
     }
 }
 
-/// A step behind an attribute where no other begins: the innermost parenthesis closes, or in an ENTRY another description
-/// follows.
+/// A step behind an attribute where no other begins: the innermost parenthesis closes, or in an ENTRY another
+/// description follows.
 #[tactic(auto, unfolding(crate::specs::DeclarationReading::behind_walk))]
 fn behind_step<'a>(
     alloc: Global,

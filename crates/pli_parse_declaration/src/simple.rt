@@ -2,7 +2,8 @@
 ghost use Rattle.std.specs.Prelude.{◌≡◌, ◌≤◌, ◌+◌, length, IfOk};
 ghost use Rattle.pli_base.specs.Declarations as tree;
 ghost use Rattle.pli_base.specs.views.DeclarationView.{simple_view};
-ghost use Rattle.pli_parse_declaration.specs.DeclarationReading.{list_at, name_at, area_at, locator_at, repeated_at, null_from, value_at, values_at, simple_of};
+ghost use Rattle.pli_parse_declaration.specs.DeclarationReading.{list_at, name_at, area_at, locator_at, repeated_at};
+ghost use Rattle.pli_parse_declaration.specs.DeclarationReading.{null_from, value_at, values_at, simple_of};
 ghost use Rattle.pli_base.specs.Words.{is_open, behind};
 ghost use Rattle.pli_base.specs.Reading.{mapped};
 ghost use Rattle.pli_base.specs.answers.FailureAnswers.{Gives};
@@ -228,7 +229,11 @@ fn numbered<'a>(
     attribute: SimpleAttribute,
     read: &Front<'a, Option<u64>>,
 ) -> Front<'a, SimpleAttribute>
-    ensures { front_view (λ a. a) result ≡ record { value = attribute; next = read.now.next; rest = read.now.rest.now } }
+    ensures { front_view (λ a. a) result ≡ record {
+      value = attribute;
+      next = read.now.next;
+      rest = read.now.rest.now;
+    } }
 {
     Front::new(attribute, read.next, read.rest)
 }

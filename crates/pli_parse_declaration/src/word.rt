@@ -1,6 +1,7 @@
 //! The keywords of attributes. No word is reserved: they are keywords only where an attribute may stand.
 ghost use Rattle.std.specs.Prelude.{◌≡◌};
-ghost use Rattle.pli_parse_declaration.specs.DeclarationWords.{is_either, data_word, storage_word, nesting_word, attribute_word};
+ghost use Rattle.pli_parse_declaration.specs.DeclarationWords.{is_either, data_word, storage_word, nesting_word};
+ghost use Rattle.pli_parse_declaration.specs.DeclarationWords.{attribute_word};
 ghost use Rattle.pli_base.specs.Words.{same_name};
 
 use pli_base::Name;

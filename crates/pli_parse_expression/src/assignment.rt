@@ -1,7 +1,8 @@
 //! The test for an assignment: a reference, `=` and one expression. It is one pass over the tokens, with a stack of the
 //! parentheses that are open, so that no number of them is a depth of calls.
 ghost use Rattle.std.specs.Prelude.{◌≡◌, IfOk, List, [], Bool};
-ghost use Rattle.pli_parse_expression.specs.Assignments.{kind_of, move, operand_move, behind_move, behind_frame, may_end, moved, is_assignment};
+ghost use Rattle.pli_parse_expression.specs.Assignments.{kind_of, move, operand_move, behind_move, behind_frame};
+ghost use Rattle.pli_parse_expression.specs.Assignments.{may_end, moved, is_assignment};
 ghost use Rattle.pli_parse_expression.specs.declared.assignment.Frame as frames;
 ghost use Rattle.pli_parse_expression.specs.declared.assignment.State as states;
 ghost use Rattle.pli_parse_expression.specs.answers.Tests.{onto, answered};

@@ -3,8 +3,8 @@ ghost use Rattle.std.specs.Prelude.{◌≡◌};
 
 use pli_base::{Front, TokenText};
 
-/// A tree that was read, with a count: the operators of the outermost expression so far, or the number of the statement that
-/// comes next.
+/// A tree that was read, with a count: the operators of the outermost expression so far, or the number of the statement
+/// that comes next.
 #[derive(Drop)]
 pub struct Counted<T> {
     pub tree: T,

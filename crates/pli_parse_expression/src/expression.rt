@@ -3,7 +3,10 @@ ghost use Rattle.std.specs.Prelude.{◌≡◌, ℕ, ◌+◌, ◌<◌, ◌≤◌,
 ghost use Rattle.pli_base.specs.Syntax.{Infix};
 ghost use Rattle.pli_base.specs.views.SyntaxView.{expression_view, reference_view};
 ghost use Rattle.pli_parse_expression.specs.Operators.{infix_of, level_of, operator_at, joining_at, begins_expression};
-ghost use Rattle.pli_parse_expression.specs.Reading.{infix_from, right_of, operand_at, inside, expression_at, expression_of, argument_of, listed_at, list_at, arguments_at, joined_from, reference_of, reference_at, prefix_of, parenthesis_of, constant_at};
+ghost use Rattle.pli_parse_expression.specs.Reading.{infix_from, right_of, operand_at, inside, expression_at};
+ghost use Rattle.pli_parse_expression.specs.Reading.{expression_of, argument_of, listed_at, list_at, arguments_at};
+ghost use Rattle.pli_parse_expression.specs.Reading.{joined_from, reference_of, reference_at, prefix_of};
+ghost use Rattle.pli_parse_expression.specs.Reading.{parenthesis_of, constant_at};
 ghost use Rattle.pli_base.specs.answers.FailureAnswers.{Gives};
 ghost use Rattle.pli_base.specs.answers.ReadingAnswers.{front_view, Advances, Continues};
 ghost use Rattle.pli_parse_expression.specs.answers.Answers.{counted_view};
@@ -119,7 +122,8 @@ fn expression_at<'a>(
     texts: &'a [TokenText],
 ) -> Result<Front<'a, Counted<Expression>>, ParseError>
     requires { at + length texts.now ≤ 200000 }
-    ensures value { Gives (front_view (counted_view expression_view)) result (expression_of (operand_at levels) operators at texts.now) }
+    ensures value { Gives (front_view (counted_view expression_view)) result
+        (expression_of (operand_at levels) operators at texts.now) }
     ensures place { IfOk result (Advances at texts.now) }
 {
     let first = operand_at(alloc, levels, operators, at, texts)?;
@@ -134,8 +138,8 @@ fn expression_at<'a>(
     )
 }
 
-/// Goes on behind the expression `left` as long as infix operators of level `min` or more come. It is a loop, so that the
-/// number of operators is no depth of calls; a right operand is read with a greater `min`.
+/// Goes on behind the expression `left` as long as infix operators of level `min` or more come. It is a loop, so that
+/// the number of operators is no depth of calls; a right operand is read with a greater `min`.
 #[cycle(expression)]
 #[tactic(auto)]
 fn infix_from<'a>(
@@ -150,7 +154,8 @@ fn infix_from<'a>(
     requires place { at + length texts.now ≤ 200000 }
     requires low { min < 8 }
     ensures value { (bound : ℕ) → length texts.now < bound →
-        Gives (front_view (counted_view expression_view)) result (infix_from (operand_at levels) bound min operators (expression_view left) at texts.now) }
+        Gives (front_view (counted_view expression_view)) result
+        (infix_from (operand_at levels) bound min operators (expression_view left) at texts.now) }
     ensures place { IfOk result (Continues at texts.now) }
 {
     let mut sum = left;
@@ -179,7 +184,9 @@ fn right_of<'a>(
     behind: &'a [TokenText],
 ) -> Result<Front<'a, Counted<Expression>>, ParseError>
     requires { at + 1 + length behind.now ≤ 200000 }
-    ensures value { (bound : ℕ) → length behind.now < bound → Gives (front_view (counted_view expression_view)) result (right_of (operand_at levels) bound operator operators at behind.now) }
+    ensures value { (bound : ℕ) → length behind.now < bound →
+        Gives (front_view (counted_view expression_view)) result
+        (right_of (operand_at levels) bound operator operators at behind.now) }
     ensures place { IfOk result (Advances (at + 1) behind.now) }
 {
     if operators >= OPERATOR_LIMIT {
@@ -227,7 +234,8 @@ fn operand_at<'a>(
     texts: &'a [TokenText],
 ) -> Result<Front<'a, Counted<Expression>>, ParseError>
     requires { at + length texts.now ≤ 200000 }
-    ensures value { Gives (front_view (counted_view expression_view)) result (operand_at levels operators at texts.now) }
+    ensures value { Gives (front_view (counted_view expression_view)) result
+        (operand_at levels operators at texts.now) }
     ensures place { IfOk result (Advances at texts.now) }
 {
     match texts {
@@ -299,7 +307,8 @@ fn prefix_of<'a>(
     rest: &'a [TokenText],
 ) -> Result<Front<'a, Counted<Expression>>, ParseError>
     requires { at + 1 + length rest.now ≤ 200000 }
-    ensures value { Gives (front_view (counted_view expression_view)) result (prefix_of (inside levels) operator operators at rest.now) }
+    ensures value { Gives (front_view (counted_view expression_view)) result
+        (prefix_of (inside levels) operator operators at rest.now) }
     ensures place { IfOk result (Advances (at + 1) rest.now) }
 {
     if operators >= OPERATOR_LIMIT || levels == 0 {
@@ -331,7 +340,8 @@ fn parenthesis_of<'a>(
     rest: &'a [TokenText],
 ) -> Result<Front<'a, Counted<Expression>>, ParseError>
     requires { at + 1 + length rest.now ≤ 200000 }
-    ensures value { Gives (front_view (counted_view expression_view)) result (parenthesis_of (inside levels) operators at rest.now) }
+    ensures value { Gives (front_view (counted_view expression_view)) result
+        (parenthesis_of (inside levels) operators at rest.now) }
     ensures place { IfOk result (Advances (at + 1) rest.now) }
 {
     if levels == 0 {
@@ -367,7 +377,8 @@ fn reference_of<'a>(
     texts: &'a [TokenText],
 ) -> Result<Front<'a, Counted<Reference>>, ParseError>
     requires { at + length texts.now ≤ 200000 }
-    ensures value { Gives (front_view (counted_view reference_view)) result (reference_of (option_map (argument_of outermost) (inside levels)) operators at texts.now) }
+    ensures value { Gives (front_view (counted_view reference_view)) result
+        (reference_of (option_map (argument_of outermost) (inside levels)) operators at texts.now) }
     ensures place { IfOk result (Advances at texts.now) }
 {
     let Some(named) = name_first(texts) else {
@@ -411,7 +422,9 @@ fn joined_from<'a>(
     texts: &'a [TokenText],
 ) -> Result<Front<'a, Counted<Vec<JoinedPart>>>, ParseError>
     requires { at + length texts.now ≤ 200000 }
-    ensures value { (bound : ℕ) → length texts.now < bound → Gives (front_view (counted_view (λ v. joined_view v.items))) result (joined_from (option_map (argument_of outermost) (inside levels)) bound operators at texts.now) }
+    ensures value { (bound : ℕ) → length texts.now < bound →
+        Gives (front_view (counted_view (λ v. joined_view v.items))) result
+        (joined_from (option_map (argument_of outermost) (inside levels)) bound operators at texts.now) }
     ensures place { IfOk result (Continues at texts.now) }
 {
     let mut parts = Vec::new(alloc);
@@ -450,7 +463,8 @@ fn arguments_at<'a>(
     texts: &'a [TokenText],
 ) -> Result<Front<'a, Counted<Option<Vec<Expression>>>>, ParseError>
     requires { at + length texts.now ≤ 200000 }
-    ensures value { Gives (front_view (counted_view arguments_view)) result (arguments_at (option_map (argument_of outermost) (inside levels)) operators at texts.now) }
+    ensures value { Gives (front_view (counted_view arguments_view)) result
+        (arguments_at (option_map (argument_of outermost) (inside levels)) operators at texts.now) }
     ensures place { IfOk result (Continues at texts.now) }
 {
     let [TokenText::Sign(Sign::OpenParenthesis), rest @ ..] = texts else {
@@ -480,7 +494,8 @@ fn list_at<'a>(
     texts: &'a [TokenText],
 ) -> Result<Front<'a, Counted<Vec<Expression>>>, ParseError>
     requires { at + length texts.now ≤ 200000 }
-    ensures value { Gives (front_view (counted_view (λ v. expressions_view v.items))) result (list_at (argument_of outermost (operand_at levels)) operators at texts.now) }
+    ensures value { Gives (front_view (counted_view (λ v. expressions_view v.items))) result
+        (list_at (argument_of outermost (operand_at levels)) operators at texts.now) }
     ensures place { IfOk result (Advances at texts.now) }
 {
     if begins_expression(texts) {
@@ -502,7 +517,8 @@ fn listed_at<'a>(
     texts: &'a [TokenText],
 ) -> Result<Front<'a, Counted<Vec<Expression>>>, ParseError>
     requires { at + length texts.now ≤ 200000 }
-    ensures value { Gives (front_view (counted_view (λ v. expressions_view v.items))) result (listed_at (argument_of outermost (operand_at levels)) operators at texts.now) }
+    ensures value { Gives (front_view (counted_view (λ v. expressions_view v.items))) result
+        (listed_at (argument_of outermost (operand_at levels)) operators at texts.now) }
     ensures place { IfOk result (Advances at texts.now) }
 {
     let first = argument_at(alloc, outermost, levels, operators, at, texts)?;
@@ -534,7 +550,8 @@ fn argument_at<'a>(
     texts: &'a [TokenText],
 ) -> Result<Front<'a, Counted<Expression>>, ParseError>
     requires { at + length texts.now ≤ 200000 }
-    ensures value { Gives (front_view (counted_view expression_view)) result (argument_of outermost (operand_at levels) operators at texts.now) }
+    ensures value { Gives (front_view (counted_view expression_view)) result
+        (argument_of outermost (operand_at levels) operators at texts.now) }
     ensures place { IfOk result (Advances at texts.now) }
 {
     if !outermost {
@@ -544,9 +561,10 @@ fn argument_at<'a>(
     Ok(Counted::front(argument.value.tree, operators, argument.next, argument.rest))
 }
 
-/// An outermost expression: the longest at the front. The tokens are counted from 0, of which `at` is the first here; so many
-/// levels of nesting may still be opened. P3, P4 and P6 stand at the first token that cannot continue, P9 at the last token of
-/// a text that ends, and P16 at the token that opens one level too many or is one operator too many (own).
+/// An outermost expression: the longest at the front. The tokens are counted from 0, of which `at` is the first here;
+/// so many levels of nesting may still be opened. P3, P4 and P6 stand at the first token that cannot continue, P9 at
+/// the last token of a text that ends, and P16 at the token that opens one level too many or is one operator too many
+/// (own).
 #[tactic(auto, unfolding(crate::specs::Reading::expression_at))]
 pub fn outermost_expression_at<'a>(
     alloc: Global,
@@ -561,7 +579,8 @@ pub fn outermost_expression_at<'a>(
     expression_at(alloc, levels, 0, at, texts)
 }
 
-/// A reference that is no part of an expression: the longest at the front. Each of its arguments is an outermost expression.
+/// A reference that is no part of an expression: the longest at the front. Each of its arguments is an outermost
+/// expression.
 #[tactic(auto, unfolding(crate::specs::Reading::reference_at))]
 pub fn reference_at<'a>(
     alloc: Global,
@@ -576,8 +595,8 @@ pub fn reference_at<'a>(
     reference_of(alloc, true, levels, 0, at, texts)
 }
 
-/// What stands in parentheses behind a name that is no part of an expression, if there are some: each argument is an outermost
-/// expression. `F()` has an empty list, `F` has none.
+/// What stands in parentheses behind a name that is no part of an expression, if there are some: each argument is an
+/// outermost expression. `F()` has an empty list, `F` has none.
 #[tactic(auto)]
 pub fn outermost_arguments_at<'a>(
     alloc: Global,
@@ -586,7 +605,8 @@ pub fn outermost_arguments_at<'a>(
     texts: &'a [TokenText],
 ) -> Result<Front<'a, Counted<Option<Vec<Expression>>>>, ParseError>
     requires { at + length texts.now ≤ 200000 }
-    ensures value { Gives (front_view (counted_view arguments_view)) result (arguments_at (option_map (argument_of true) (inside levels)) 0 at texts.now) }
+    ensures value { Gives (front_view (counted_view arguments_view)) result
+        (arguments_at (option_map (argument_of true) (inside levels)) 0 at texts.now) }
     ensures place { IfOk result (Continues at texts.now) }
 {
     arguments_at(alloc, true, levels, 0, at, texts)

@@ -5,14 +5,20 @@ ghost use Rattle.pli_base.specs.Syntax.{Expression, Reference};
 ghost use Rattle.pli_base.specs.TreeTokens.{Rises, expression_tokens, reference_tokens};
 ghost use Rattle.pli_base.specs.declared.token.Fault.{Fault};
 ghost use Rattle.pli_parse_fault.specs.FirstFaults.{IsFirstFault};
-ghost use Rattle.pli_parse_expression.specs.Expressions.{operators, SpellsOutermost, SpellsReferenceAlone, EndsExpression, EndsReference};
+ghost use Rattle.pli_parse_expression.specs.Expressions.{operators, SpellsOutermost, SpellsReferenceAlone};
+ghost use Rattle.pli_parse_expression.specs.Expressions.{EndsExpression, EndsReference};
 ghost use Rattle.pli_parse_expression.specs.Ends.{ExpressionEnds, ReferenceEnds};
 ghost use Rattle.pli_base.specs.Reading.{Front};
 ghost use Rattle.pli_parse_expression.specs.declared.counted.Counted.{Counted};
 ghost use Rattle.pli_parse_expression.specs.Reading.{counted, expression_at, reference_at};
 ghost use Rattle.pli_parse_expression.specs.laws.Laws.{FrontSpells};
 ghost use Rattle.pli_parse_expression.specs.Assignments.{IsAssignment, is_assignment};
-ghost use Rattle.pli_parse_expression.specs.examples.Examples.{SignAndSum, Differences, AllLevels, Comparisons, Alternatives, LocatedMember, NoArguments, InParentheses, TwoLists, TextEnds, NoOperand, NotClosed, NoListThere, NothingBehindComma, NoMember, NothingLocated, DeepestList, TooDeepList, TooDeepSign, LastOperator, TooManyOperators, Target};
+ghost use Rattle.pli_parse_expression.specs.examples.Examples.{SignAndSum, Differences, AllLevels, Comparisons};
+ghost use Rattle.pli_parse_expression.specs.examples.Examples.{Alternatives, LocatedMember, NoArguments, InParentheses};
+ghost use Rattle.pli_parse_expression.specs.examples.Examples.{TwoLists, TextEnds, NoOperand, NotClosed, NoListThere};
+ghost use Rattle.pli_parse_expression.specs.examples.Examples.{NothingBehindComma, NoMember, NothingLocated};
+ghost use Rattle.pli_parse_expression.specs.examples.Examples.{DeepestList, TooDeepList, TooDeepSign, LastOperator};
+ghost use Rattle.pli_parse_expression.specs.examples.Examples.{TooManyOperators, Target};
 ghost use Rattle.pli_base.specs.Words.{Tokens};
 
 /// Worked examples: what is read at the front of tokens, and the faults.
@@ -73,7 +79,8 @@ pub fn references_read_are_spelled()
 /// A law: a reference that is spelled within the limits, before tokens that cannot continue it, is read.
 #[tactic(auto, using(crate::proofs::SpelledIsRead::reference_is_read))]
 pub fn references_spelled_are_read()
-    ensures { (levels p : ℕ) (ts more : Tokens) (r : Reference) → SpellsReferenceAlone levels p ts r → EndsReference more →
+    ensures { (levels p : ℕ) (ts more : Tokens) (r : Reference) → SpellsReferenceAlone levels p ts r →
+        EndsReference more →
         reference_at levels p (ts ++ more) ≡ counted r 0 (p + length ts) more }
 {}
 
@@ -94,12 +101,14 @@ pub fn assignments_are_recognized()
 /// A law: a fault of reading stands at one of the tokens from the first on, or, where they have ended, at the last.
 #[tactic(auto, using(crate::proofs::ReadFaults::expression_fault_stands, crate::proofs::ReadFaults::reference_fault_stands))]
 pub fn faults_stand_at_tokens()
-    ensures expressions { (levels p : ℕ) (ts : Tokens) (f : Fault) → expression_at levels 0 p ts ≡ Err f → FaultStands p ts f }
-    ensures references { (levels p : ℕ) (ts : Tokens) (f : Fault) → reference_at levels p ts ≡ Err f → FaultStands p ts f }
+    ensures expressions { (levels p : ℕ) (ts : Tokens) (f : Fault) → expression_at levels 0 p ts ≡ Err f →
+        FaultStands p ts f }
+    ensures references { (levels p : ℕ) (ts : Tokens) (f : Fault) → reference_at levels p ts ≡ Err f →
+        FaultStands p ts f }
 {}
 
-/// A law: a fault of reading is the first fault of the tokens: those before its token can be completed to an expression within
-/// the limits, and with it they cannot; or all can, and they have ended. Tokens have no first fault elsewhere.
+/// A law: a fault of reading is the first fault of the tokens: those before its token can be completed to an expression
+/// within the limits, and with it they cannot; or all can, and they have ended. Tokens have no first fault elsewhere.
 #[tactic(auto, using(crate::proofs::ReadStops::expression_first_fault, crate::proofs::ReadStops::reference_first_fault))]
 pub fn first_faults()
     ensures expressions { (levels p : ℕ) (ts : Tokens) (f : Fault) →
@@ -109,7 +118,8 @@ pub fn first_faults()
     ensures one_place { (levels p : ℕ) (ts : Tokens) (f g : Fault) →
         IsFirstFault (SpellsOutermost levels) p ts f → IsFirstFault (SpellsOutermost levels) p ts g → f.at ≡ g.at }
     ensures one_place_of_reference { (levels p : ℕ) (ts : Tokens) (f g : Fault) →
-        IsFirstFault (SpellsReferenceAlone levels) p ts f → IsFirstFault (SpellsReferenceAlone levels) p ts g → f.at ≡ g.at }
+        IsFirstFault (SpellsReferenceAlone levels) p ts f → IsFirstFault (SpellsReferenceAlone levels) p ts g →
+        f.at ≡ g.at }
 {}
 
 /// A law: the tokens of the tree that is read rise in the order of the text, from the first that is read to the last.
@@ -121,25 +131,30 @@ pub fn tokens_of_trees_rise()
         reference_at levels p ts ≡ Ok x → Rises p (reference_tokens x.value.tree) x.next }
 {}
 
-/// A law: an expression that is spelled within the limits is read exactly before tokens that do not continue it, which its last
-/// operand tells; and no longer front of the tokens spells one.
+/// A law: an expression that is spelled within the limits is read exactly before tokens that do not continue it, which
+/// its last operand tells; and no longer front of the tokens spells one.
 #[tactic(auto, using(crate::proofs::SpelledIsRead::expression_ends_read, crate::proofs::ReadEnds::expression_at_ends, crate::proofs::ReadEnds::expression_longest))]
 pub fn longest_expressions()
-    ensures ended { (levels p : ℕ) (ts more : Tokens) (e : Expression) → SpellsOutermost levels p ts e → ExpressionEnds e more →
+    ensures ended { (levels p : ℕ) (ts more : Tokens) (e : Expression) → SpellsOutermost levels p ts e →
+        ExpressionEnds e more →
         expression_at levels 0 p (ts ++ more) ≡ counted e (operators e) (p + length ts) more }
     ensures left { (levels p : ℕ) (ts : Tokens) (x : Front (Counted Expression)) →
         expression_at levels 0 p ts ≡ Ok x → ExpressionEnds x.value.tree x.rest }
-    ensures longest { (levels p : ℕ) (ts : Tokens) (x : Front (Counted Expression)) → expression_at levels 0 p ts ≡ Ok x →
-        (longer more : Tokens) (e : Expression) → ts ≡ longer ++ more → SpellsOutermost levels p longer e → p + length longer ≤ x.next }
+    ensures longest { (levels p : ℕ) (ts : Tokens) (x : Front (Counted Expression)) →
+        expression_at levels 0 p ts ≡ Ok x →
+        (longer more : Tokens) (e : Expression) → ts ≡ longer ++ more → SpellsOutermost levels p longer e →
+        p + length longer ≤ x.next }
 {}
 
 /// A law: the same of a reference.
 #[tactic(auto, using(crate::proofs::SpelledIsRead::reference_ends_read, crate::proofs::ReadEnds::reference_at_ends, crate::proofs::ReadEnds::reference_longest))]
 pub fn longest_references()
-    ensures ended { (levels p : ℕ) (ts more : Tokens) (r : Reference) → SpellsReferenceAlone levels p ts r → ReferenceEnds r more →
+    ensures ended { (levels p : ℕ) (ts more : Tokens) (r : Reference) → SpellsReferenceAlone levels p ts r →
+        ReferenceEnds r more →
         reference_at levels p (ts ++ more) ≡ counted r 0 (p + length ts) more }
     ensures left { (levels p : ℕ) (ts : Tokens) (x : Front (Counted Reference)) →
         reference_at levels p ts ≡ Ok x → ReferenceEnds x.value.tree x.rest }
     ensures longest { (levels p : ℕ) (ts : Tokens) (x : Front (Counted Reference)) → reference_at levels p ts ≡ Ok x →
-        (longer more : Tokens) (r : Reference) → ts ≡ longer ++ more → SpellsReferenceAlone levels p longer r → p + length longer ≤ x.next }
+        (longer more : Tokens) (r : Reference) → ts ≡ longer ++ more → SpellsReferenceAlone levels p longer r →
+        p + length longer ≤ x.next }
 {}

@@ -1,5 +1,5 @@
-//! Expressions and references: which tokens spell which tree, the laws that make spelling and reading one, and the parser
-//! of references, expressions and of the test for an assignment.
+//! Expressions and references: which tokens spell which tree, the laws that make spelling and reading one, and the
+//! parser of references, expressions and of the test for an assignment.
 #![tactic(auto)]
 
 mod assignment;

@@ -3,7 +3,8 @@ ghost use Rattle.std.specs.Prelude.{◌≡◌, ◌≤◌, ◌+◌, length, optio
 ghost use Rattle.pli_base.specs.views.SyntaxView.{expression_view, reference_view};
 ghost use Rattle.pli_base.specs.views.StatementView.{control_view};
 ghost use Rattle.pli_base.specs.views.StatementView as views;
-ghost use Rattle.pli_parse_statement.specs.StatementReading.{expression_in, parenthesized, optional_at, range_at, specified, control_from, control_at};
+ghost use Rattle.pli_parse_statement.specs.StatementReading.{expression_in, parenthesized, optional_at, range_at};
+ghost use Rattle.pli_parse_statement.specs.StatementReading.{specified, control_from, control_at};
 ghost use Rattle.pli_parse_statement.specs.StatementReading as reading;
 ghost use Rattle.pli_parse_statement.specs.answers.ControlAnswers.{limited};
 ghost use Rattle.pli_parse_statement.specs.answers.StatementAnswers.{specified_view, BehindWhile};
@@ -60,7 +61,8 @@ fn optional_expression<'a>(
     texts: &'a [TokenText],
 ) -> Result<Front<'a, Option<Expression>>, ParseError>
     requires { at + length texts.now ≤ 200000 }
-    ensures value { Gives (front_view (option_map expression_view)) result (optional_at word.now (expression_in levels) at texts.now) }
+    ensures value { Gives (front_view (option_map expression_view)) result
+        (optional_at word.now (expression_in levels) at texts.now) }
     ensures place { IfOk result (Continues at texts.now) }
 {
     match behind_word(word, texts) {
@@ -81,7 +83,8 @@ fn optional_condition<'a>(
     texts: &'a [TokenText],
 ) -> Result<Front<'a, Option<Expression>>, ParseError>
     requires { at + length texts.now ≤ 200000 }
-    ensures value { Gives (front_view (option_map expression_view)) result (optional_at (codes "WHILE") (parenthesized (expression_in levels)) at texts.now) }
+    ensures value { Gives (front_view (option_map expression_view)) result
+        (optional_at (codes "WHILE") (parenthesized (expression_in levels)) at texts.now) }
     ensures place { IfOk result (Continues at texts.now) }
 {
     match behind_word(b"WHILE", texts) {
@@ -156,7 +159,8 @@ fn limited<'a>(
     first: Front<'a, Expression>,
 ) -> Result<Front<'a, Option<Control>>, ParseError>
     requires { first.next + length first.rest.now ≤ 200000 }
-    ensures value { Gives (front_view (option_map control_view)) result (limited levels (reference_view variable) equals (front_view expression_view first.entry)) }
+    ensures value { Gives (front_view (option_map control_view)) result
+        (limited levels (reference_view variable) equals (front_view expression_view first.entry)) }
     ensures place { IfOk result (Continues first.entry.next first.entry.rest.now) }
 {
     let range = match range_at(alloc, levels, first.next, first.rest) {
@@ -196,7 +200,8 @@ fn iteration_at<'a>(
     texts: &'a [TokenText],
 ) -> Result<Front<'a, Option<Control>>, ParseError>
     requires { at + length texts.now ≤ 200000 }
-    ensures value { Gives (front_view (option_map control_view)) result (control_from levels at texts.now reading.Iterated) }
+    ensures value { Gives (front_view (option_map control_view)) result
+        (control_from levels at texts.now reading.Iterated) }
     ensures place { IfOk result (Advances at texts.now) }
 {
     let variable = reference_in(alloc, levels, at, texts)?;

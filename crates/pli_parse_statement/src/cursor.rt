@@ -6,7 +6,8 @@ ghost use Rattle.pli_base.specs.views.SyntaxView.{expression_view, reference_vie
 ghost use Rattle.pli_parse_expression.specs.Reading.{arguments_at, argument_of, inside};
 ghost use Rattle.pli_parse_declaration.specs.DeclarationReading.{list_at};
 ghost use Rattle.pli_parse_statement.specs.StatementWords.{behind_word};
-ghost use Rattle.pli_parse_statement.specs.StatementReading.{uncounted, expression_in, reference_in, parenthesized, is_equals};
+ghost use Rattle.pli_parse_statement.specs.StatementReading.{uncounted, expression_in, reference_in, parenthesized};
+ghost use Rattle.pli_parse_statement.specs.StatementReading.{is_equals};
 ghost use Rattle.pli_base.specs.Reading.{taken};
 ghost use Rattle.pli_base.specs.answers.FailureAnswers.{Gives};
 ghost use Rattle.pli_base.specs.answers.ReadingAnswers.{Advances, Continues, front_view};
@@ -103,7 +104,8 @@ pub fn arguments_in<'a>(
     texts: &'a [TokenText],
 ) -> Result<Front<'a, Option<Vec<Expression>>>, ParseError>
     requires { at + length texts.now ≤ 200000 }
-    ensures value { Gives (front_view arguments_view) result (uncounted (arguments_at (option_map (argument_of true) (inside levels)) 0 at texts.now)) }
+    ensures value { Gives (front_view arguments_view) result
+        (uncounted (arguments_at (option_map (argument_of true) (inside levels)) 0 at texts.now)) }
     ensures place { IfOk result (Continues at texts.now) }
 {
     Ok(uncounted(outermost_arguments_at(alloc, levels, at, texts)?))
@@ -193,7 +195,8 @@ pub fn parenthesized_expressions<'a>(
     texts: &'a [TokenText],
 ) -> Result<Front<'a, Vec<Expression>>, ParseError>
     requires { at + length texts.now ≤ 200000 }
-    ensures value { Gives (front_view (λ v. map expression_view v.items)) result (parenthesized (list_at Commas (expression_in levels)) at texts.now) }
+    ensures value { Gives (front_view (λ v. map expression_view v.items)) result
+        (parenthesized (list_at Commas (expression_in levels)) at texts.now) }
     ensures place { IfOk result (Advances at texts.now) }
 {
     let inside = open_taken(at, texts)?;

@@ -2,9 +2,14 @@
 ghost use Rattle.std.specs.Option.{option_copied};
 ghost use Rattle.std.specs.Prelude.{◌≡◌, ℕ, ◌≤◌, ◌+◌, length, position, true, None, option_map, is_some, IfOk, IfSome};
 ghost use Rattle.pli_base.specs.Words.{is_semicolon};
-ghost use Rattle.pli_parse_statement.specs.StatementWords.{up_to_semicolon, begins_assignment, keyword_of, word_kind, first_kind, kind_of};
-ghost use Rattle.pli_parse_statement.specs.StatementReading.{has_semicolon, label_at, bad_label, unit_misplaced, standing_misplaced, misplacement, else_first, next_by, next_of};
-ghost use Rattle.pli_parse_statement.specs.answers.StatementAnswers.{context_view, kind_view, BehindKind, misplacement_view, next_view, BehindNext, IsBeginning};
+ghost use Rattle.pli_parse_statement.specs.StatementWords.{up_to_semicolon, begins_assignment, keyword_of, word_kind};
+ghost use Rattle.pli_parse_statement.specs.StatementWords.{first_kind, kind_of};
+ghost use Rattle.pli_parse_statement.specs.StatementReading.{has_semicolon, label_at, bad_label, unit_misplaced};
+ghost use Rattle.pli_parse_statement.specs.StatementReading.{standing_misplaced, misplacement, else_first, next_by};
+ghost use Rattle.pli_parse_statement.specs.StatementReading.{next_of};
+ghost use Rattle.pli_parse_statement.specs.answers.StatementAnswers.{context_view, kind_view, BehindKind};
+ghost use Rattle.pli_parse_statement.specs.answers.StatementAnswers.{misplacement_view, next_view, BehindNext};
+ghost use Rattle.pli_parse_statement.specs.answers.StatementAnswers.{IsBeginning};
 ghost use Rattle.pli_base.specs.answers.ReadingAnswers.{Continues, front_view};
 
 use crate::cursor::{behind_word, is_name};
@@ -250,7 +255,8 @@ fn standing_misplaced(
 /// Why a statement of this keyword may not stand here, if it may not.
 #[tactic(auto)]
 pub fn why_misplaced(context: Context, keyword: Keyword, labelled: bool) -> Option<Misplacement>
-    ensures { option_map misplacement_view result ≡ misplacement (context_view context) keyword labelled context.in_unit }
+    ensures { option_map misplacement_view result ≡ misplacement
+        (context_view context) keyword labelled context.in_unit }
 {
     match (keyword, context.in_unit) {
         (Keyword::Return, true) => Some(Misplacement::AtStatement(Code::MisplacedStatement)),

@@ -98,7 +98,8 @@ fn options_from<'a>(
     texts: &'a [TokenText],
 ) -> Result<Front<'a, Vec<ProcedureOption>>, ParseError>
     requires { at + length texts.now ≤ 200000 }
-    ensures value { Gives (front_view (λ v. map views.option_view v.items)) result (options_from (length texts.now + 1) at texts.now) }
+    ensures value { Gives (front_view (λ v. map views.option_view v.items)) result
+        (options_from (length texts.now + 1) at texts.now) }
     ensures place { IfOk result (Continues at texts.now) }
 {
     let mut options = Vec::new(alloc);
@@ -121,7 +122,8 @@ fn parameters_at<'a>(
     texts: &'a [TokenText],
 ) -> Result<Front<'a, Vec<Identifier>>, ParseError>
     requires { at + length texts.now ≤ 200000 }
-    ensures value { Gives (front_view (λ v. v.items)) result (mapped or_none (if_open (list_at Commas identifier_at) at texts.now (behind is_open texts.now))) }
+    ensures value { Gives (front_view (λ v. v.items)) result
+        (mapped or_none (if_open (list_at Commas identifier_at) at texts.now (behind is_open texts.now))) }
     ensures place { IfOk result (Continues at texts.now) }
 {
     match behind_open(texts) {
@@ -142,7 +144,8 @@ pub fn heading_at<'a>(
     texts: &'a [TokenText],
 ) -> Result<Front<'a, Heading>, ParseError>
     requires { at + length texts.now ≤ 200000 }
-    ensures value { (name : identifier.Identifier) (number : ℕ) → Gives (front_view (heading_view name number)) result (heading_at name number at texts.now) }
+    ensures value { (name : identifier.Identifier) (number : ℕ) →
+        Gives (front_view (heading_view name number)) result (heading_at name number at texts.now) }
     ensures place { IfOk result (Advances at texts.now) }
 {
     let parameters = parameters_at(alloc, at, texts)?;

@@ -7,7 +7,8 @@ ghost use Rattle.pli_parse_statement.specs.answers.StatementAnswers.{words};
 use pli_base::Name;
 use pli_base::statement::Condition;
 
-/// The keyword that a statement begins with. No word is reserved: it is one only where a statement begins that is no assignment.
+/// The keyword that a statement begins with. No word is reserved: it is one only where a statement begins that is no
+/// assignment.
 #[derive(Clone, Copy)]
 pub enum Keyword {
     Procedure,
@@ -75,7 +76,8 @@ pub fn statement_keyword(name: &Name) -> Option<Keyword>
     }
 }
 
-/// The keyword of one word that a name is where a statement with no statement inside begins, apart from DECLARE and END.
+/// The keyword of one word that a name is where a statement with no statement inside begins, apart from DECLARE and
+/// END.
 #[tactic(auto)]
 fn simple_keyword(name: &Name) -> Option<Keyword>
     ensures value { result ≡ simple_keyword_of name.now }

@@ -1,5 +1,5 @@
-//! The grammar of statements, blocks, groups and the unit, and the parser of what has no statement inside: first tokens,
-//! keywords, headings, what controls a group, and simple statements.
+//! The grammar of statements, blocks, groups and the unit, and the parser of what has no statement inside: first
+//! tokens, keywords, headings, what controls a group, and simple statements.
 #![tactic(auto)]
 
 mod control;

@@ -8,7 +8,9 @@ ghost use Rattle.pli_base.specs.Statements.{body_count};
 ghost use Rattle.pli_base.specs.views.StatementView.{allocation_view, body_view};
 ghost use Rattle.pli_parse_statement.specs.answers.StatementAnswers.{words, place_view};
 ghost use Rattle.pli_parse_statement.specs.StatementWords.{the_unit};
-ghost use Rattle.pli_parse_statement.specs.StatementReading.{stopped, closing, condition_at, assignment_at, has_place, with_place, places_from, allocation_at, put_from, put_at, call_at, keyed_at, expression_in, reference_in};
+ghost use Rattle.pli_parse_statement.specs.StatementReading.{stopped, closing, condition_at, assignment_at, has_place};
+ghost use Rattle.pli_parse_statement.specs.StatementReading.{with_place, places_from, allocation_at, put_from, put_at};
+ghost use Rattle.pli_parse_statement.specs.StatementReading.{call_at, keyed_at, expression_in, reference_in};
 ghost use Rattle.pli_base.specs.Reading.{if_open, mapped};
 ghost use Rattle.pli_base.specs.answers.FailureAnswers.{Gives};
 ghost use Rattle.pli_base.specs.answers.ReadingAnswers.{Advances, Continues, front_view};
@@ -102,7 +104,8 @@ pub fn condition_at(at: u32, texts: &[TokenText]) -> Result<Front<'_, Condition>
 /// Whether the allocation has what the word begins.
 #[tactic(auto)]
 fn has_place(word: PlaceWord, allocation: &Allocation) -> bool
-    ensures { result ≡ has_place (place_view word) (option_map reference_view allocation.now.area) (option_map reference_view allocation.now.target) }
+    ensures { result ≡ has_place (place_view word) (option_map reference_view allocation.now.area)
+        (option_map reference_view allocation.now.target) }
 {
     match (word, &allocation.area, &allocation.target) {
         (PlaceWord::In, Some(_), _) | (PlaceWord::Set, _, Some(_)) => true,
@@ -113,7 +116,9 @@ fn has_place(word: PlaceWord, allocation: &Allocation) -> bool
 /// The allocation with a reference where the word puts it.
 #[tactic(auto)]
 fn with_place(word: PlaceWord, allocation: Allocation, reference: Reference) -> Allocation
-    ensures { allocation_view result ≡ with_place (place_view word) allocation.name (option_map reference_view allocation.area) (option_map reference_view allocation.target) (reference_view reference) }
+    ensures { allocation_view result ≡ with_place (place_view word) allocation.name
+        (option_map reference_view allocation.area) (option_map reference_view allocation.target)
+        (reference_view reference) }
 {
     match word {
         PlaceWord::In => Allocation {
@@ -140,7 +145,8 @@ fn places_from<'a>(
     texts: &'a [TokenText],
 ) -> Result<Front<'a, Allocation>, ParseError>
     requires { at + length texts.now ≤ 200000 }
-    ensures value { Gives (front_view allocation_view) result (places_from levels bound (allocation_view allocation) at texts.now) }
+    ensures value { Gives (front_view allocation_view) result
+        (places_from levels bound (allocation_view allocation) at texts.now) }
     ensures place { IfOk result (Continues at texts.now) }
 {
     if bound == 0 {
@@ -218,7 +224,8 @@ fn put_from<'a>(
     texts: &'a [TokenText],
 ) -> Result<Front<'a, Body>, ParseError>
     requires { at + length texts.now ≤ 200000 }
-    ensures value { Gives (front_view body_view) result (put_from levels bound skip (map expression_view items.items) at texts.now) }
+    ensures value { Gives (front_view body_view) result (put_from levels bound skip
+        (map expression_view items.items) at texts.now) }
     ensures alone { IfOk result (λ x. body_count (body_view x.value) ≡ 0) }
     ensures place { IfOk result (Continues at texts.now) }
 {
@@ -320,7 +327,8 @@ fn return_at<'a>(
     texts: &'a [TokenText],
 ) -> Result<Front<'a, Body>, ParseError>
     requires { at + length texts.now ≤ 200000 }
-    ensures value { Gives (front_view body_view) result (closing tree.Return (if_open (expression_in levels) at texts.now (behind is_open texts.now))) }
+    ensures value { Gives (front_view body_view) result (closing tree.Return
+        (if_open (expression_in levels) at texts.now (behind is_open texts.now))) }
     ensures alone { IfOk result (λ x. body_count (body_view x.value) ≡ 0) }
     ensures place { IfOk result (Advances at texts.now) }
 {
@@ -384,7 +392,8 @@ fn allocate_at<'a>(
     texts: &'a [TokenText],
 ) -> Result<Front<'a, Body>, ParseError>
     requires { at + length texts.now ≤ 200000 }
-    ensures value { Gives (front_view body_view) result (closing tree.Allocate (list_at Commas (allocation_at levels) at texts.now)) }
+    ensures value { Gives (front_view body_view) result (closing tree.Allocate
+        (list_at Commas (allocation_at levels) at texts.now)) }
     ensures alone { IfOk result (λ x. body_count (body_view x.value) ≡ 0) }
     ensures place { IfOk result (Advances at texts.now) }
 {
@@ -402,7 +411,8 @@ fn free_at<'a>(
     texts: &'a [TokenText],
 ) -> Result<Front<'a, Body>, ParseError>
     requires { at + length texts.now ≤ 200000 }
-    ensures value { Gives (front_view body_view) result (closing tree.Free (list_at Commas (reference_in levels) at texts.now)) }
+    ensures value { Gives (front_view body_view) result (closing tree.Free
+        (list_at Commas (reference_in levels) at texts.now)) }
     ensures alone { IfOk result (λ x. body_count (body_view x.value) ≡ 0) }
     ensures place { IfOk result (Advances at texts.now) }
 {
@@ -423,7 +433,8 @@ pub fn simple_at<'a>(
     requires { at + words keyword + length rest.now ≤ 200000 }
     ensures value { Gives (front_view body_view) result (keyed_at levels None the_unit None at 0 rest.now keyword) }
     ensures alone { IfOk result (λ x. body_count (body_view x.value) ≡ 0) }
-    ensures place { IfOk result (λ x. (at < x.next) × (x.next + length x.rest.now ≡ at + words keyword + length rest.now)) }
+    ensures place { IfOk result (λ x. (at < x.next) × (x.next + length x.rest.now
+        ≡ at + words keyword + length rest.now)) }
 {
     match keyword {
         Keyword::Procedure | Keyword::Begin | Keyword::Do | Keyword::If | Keyword::On => {

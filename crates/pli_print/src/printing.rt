@@ -69,7 +69,8 @@ fn put_lead(output: &mut Vec<u8>, column: u32, size: usize) -> Result<u32, Alloc
 /// Puts what stands behind an item that ends before a column.
 fn put_end(output: &mut Vec<u8>, column: u32) -> Result<u32, AllocError>
     requires { column ≤ 121 }
-    ensures printed { IfOk result (λ after. Prints output.old.items output.new.items after (characters_from column [])) }
+    ensures printed { IfOk result (λ after. Prints output.old.items output.new.items after
+        (characters_from column [])) }
     ensures within { IfOk result (λ after. after ≤ 121) }
 {
     if column == FULL {
@@ -84,7 +85,8 @@ fn put_end(output: &mut Vec<u8>, column: u32) -> Result<u32, AllocError>
 /// Puts the characters of an item from a column on, with what stands behind them, and answers the next column.
 fn put_characters(output: &mut Vec<u8>, column: u32, text: &[u8]) -> Result<u32, AllocError>
     requires { column ≤ 121 }
-    ensures printed { IfOk result (λ after. Prints output.old.items output.new.items after (characters_from column text.now)) }
+    ensures printed { IfOk result (λ after. Prints output.old.items output.new.items after
+        (characters_from column text.now)) }
     ensures within { IfOk result (λ after. after ≤ 121) }
 {
     let mut from = column;
@@ -138,7 +140,8 @@ pub fn put_number(
 ) -> Result<u32, AllocError>
     requires line { (column ≤ 121) × (width ≤ 120) }
     requires held { length (signed_decimal number) ≤ width }
-    ensures printed { IfOk result (λ after. Prints output.old.items output.new.items after (print column (number_characters width number))) }
+    ensures printed { IfOk result (λ after. Prints output.old.items output.new.items after
+        (print column (number_characters width number))) }
     ensures within { IfOk result (λ after. after ≤ 121) }
 {
     let mut buffer = Buffer::new();

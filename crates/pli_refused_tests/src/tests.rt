@@ -1,5 +1,5 @@
-//! Calls whose memory may be refused at any time. Each test ends well wherever that is: `bench/refuse.py --tests` refuses
-//! each allocation in turn.
+//! Calls whose memory may be refused at any time. Each test ends well wherever that is: `bench/refuse.py --tests`
+//! refuses each allocation in turn.
 ghost use Rattle.pli_ledger.specs.Fits.{Fits};
 
 use pli_base::{Device, Name};

@@ -6,7 +6,7 @@ use Rattle.pli_base.specs.Syntax.{Expression, Referred, Constant, Parenthesized,
 use Rattle.pli_base.specs.declared.syntax.Identifier.{Identifier}
 use Rattle.pli_base.specs.declared.syntax.Joining.TheVariants.{Member, Located}
 use Rattle.pli_base.specs.Statements as tree
-use Rattle.pli_base.specs.Statements.{Heading, Range, To, By, Repeat, Control, While, Iterate, Allocation, Statement, Numbered, Body, Procedure, Begin, Do, If, On, Statements, Ended, Before, Alternative, NoElse, Else, ExternalProcedure}
+use Rattle.pli_base.specs.Statements.{Heading, Range, To, By, Repeat, Control, While, Iterate, Allocation, Statement, Numbered, Body, Procedure, Begin, Do, If, On, Statements, Ended, Before, Alternative, NoElse, Else}
 use Rattle.pli_declare_outline.specs.Outlines.{Mark, Entered, PlacedMark, reference_marks, joined_marks, argument_marks, list_marks, expression_marks, optional_marks, range_marks, control_marks, both_marks, allocation_marks, head_marks, label_marks, placed, regions_in, statement_marks, body_marks, statements_marks, alternative_marks}
 use Rattle.pli_resolve.proofs.RegionWalks.{statement_headings, body_headings, statements_headings, alternative_headings, headings_counted}
 

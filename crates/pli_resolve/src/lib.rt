@@ -1,4 +1,5 @@
-//! The resolved unit, as the passes behind see it: its blocks, what its names are declared as, and what each name means.
+//! The resolved unit, as the passes behind see it: its blocks, what its names are declared as, and what each name
+//! means.
 #![tactic(auto)]
 
 mod block_numbers;

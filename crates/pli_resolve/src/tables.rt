@@ -60,7 +60,8 @@ pub(crate) fn declaration_at<'s>(
     declarations: &'s [Declaration<'s>],
     number: usize,
 ) -> Option<&'s Declaration<'s>>
-    ensures { option_map (λ d. declaration_view d.now) result ≡ slice_get (map declaration_view declarations.now) number }
+    ensures { option_map (λ d. declaration_view d.now) result
+        ≡ slice_get (map declaration_view declarations.now) number }
 {
     declarations.get(number)
 }

@@ -9,7 +9,9 @@ ghost use Rattle.pli_declare_variables.specs.views.DeclarationView.{declaration_
 ghost use Rattle.pli_declare.specs.Resolved.{resolved_of};
 ghost use Rattle.pli_declare.specs.views.BlockView.{block_view as declare_view};
 ghost use Rattle.pli_resolve.specs.Symbols as symbols;
-ghost use Rattle.pli_resolve.specs.ResolvedUnits.{resolved_unit_of, meaning_at, symbol_at, block_of_statement, facts_of, numbers_of, declared_by, declared_meaning, outermost_number, region_block, block_of, block_regions_of};
+ghost use Rattle.pli_resolve.specs.ResolvedUnits.{resolved_unit_of, meaning_at, symbol_at, block_of_statement};
+ghost use Rattle.pli_resolve.specs.ResolvedUnits.{facts_of, numbers_of, declared_by, declared_meaning};
+ghost use Rattle.pli_resolve.specs.ResolvedUnits.{outermost_number, region_block, block_of, block_regions_of};
 ghost use Rattle.pli_resolve.specs.views.SymbolView.{symbol_view, symbol_kind_view};
 ghost use Rattle.pli_resolve.specs.views.TableView.{way_view};
 ghost use Rattle.pli_resolve.specs.views.UnitView.{AreTablesOf, resolved_block_view, without_symbols};
@@ -30,8 +32,8 @@ use pli_map::Description;
 use std::alloc::{AllocError, Global};
 use std::marker::Model;
 
-/// A unit whose declarations have no faults: its tree, with what its blocks declare and what each name means. Contracts see the
-/// tree.
+/// A unit whose declarations have no faults: its tree, with what its blocks declare and what each name means. Contracts
+/// see the tree.
 #[derive(Drop)]
 pub struct ResolvedUnit<'a> {
     declared: Resolved<'a>,
@@ -110,7 +112,8 @@ impl<'a> ResolvedUnit<'a> {
 
     /// The number of the block of a region, or of the outermost block.
     pub(crate) fn block_under(&self, region: Option<usize>) -> usize
-        ensures { result ≡ symbols.block_under (numbers_of (unit_view self.now)) (outermost_number (unit_view self.now)) region }
+        ensures { result ≡ symbols.block_under (numbers_of (unit_view self.now))
+            (outermost_number (unit_view self.now)) region }
     {
         match region {
             Some(region) => self.number_of(region),
@@ -134,7 +137,8 @@ impl<'a> ResolvedUnit<'a> {
 
     /// The name of this number that a region, or the outermost block, declares.
     fn declaration(&self, region: Option<usize>, number: usize) -> Option<&Declaration<'a>>
-        ensures { option_map (λ d. declaration_view d.now) result ≡ slice_get (declared_by (resolved_of (unit_view self.now)) region) number }
+        ensures { option_map (λ d. declaration_view d.now) result
+            ≡ slice_get (declared_by (resolved_of (unit_view self.now)) region) number }
     {
         match region {
             Some(region) => self.declared.blocks().get(region)?.declarations.get(number),
@@ -144,7 +148,12 @@ impl<'a> ResolvedUnit<'a> {
 
     /// What a name means that is declared so.
     fn declared_meaning(&self, region: Option<usize>, number: usize) -> Option<NameMeaning>
-        ensures { result ≡ declared_meaning (record { block = symbols.block_under (numbers_of (unit_view self.now)) (outermost_number (unit_view self.now)) region; number = number }) (slice_get (declared_by (resolved_of (unit_view self.now)) region) number) }
+        ensures { result ≡ declared_meaning (record {
+          block = symbols.block_under (numbers_of (unit_view self.now))
+              (outermost_number (unit_view self.now)) region;
+          number = number;
+        })
+            (slice_get (declared_by (resolved_of (unit_view self.now)) region) number) }
     {
         let declaration = self.declaration(region, number)?;
         match &declaration.kind {
@@ -164,8 +173,8 @@ impl<'a> ResolvedUnit<'a> {
         }
     }
 
-    /// What the name at a token means where it is used: a reference, by the token of its first name, the name of CALL or ALLOCATE, or
-    /// the label of GOTO. Tokens are counted from 0.
+    /// What the name at a token means where it is used: a reference, by the token of its first name, the name of CALL
+    /// or ALLOCATE, or the label of GOTO. Tokens are counted from 0.
     pub fn meaning_at(&self, at: u32) -> Option<NameMeaning>
         ensures { result ≡ meaning_at (resolved_unit_of (unit_view self.now)) at }
     {
@@ -180,7 +189,8 @@ impl<'a> ResolvedUnit<'a> {
 
     /// The symbol that is meant, if one is.
     fn key_of(&self, target: Option<Target>) -> Option<SymbolKey>
-        ensures { result ≡ symbols.key_of (numbers_of (unit_view self.now)) (outermost_number (unit_view self.now)) target }
+        ensures { result ≡ symbols.key_of (numbers_of (unit_view self.now))
+            (outermost_number (unit_view self.now)) target }
     {
         match target {
             Some(Target::Name { block, number }) => Some(SymbolKey {
@@ -205,7 +215,8 @@ impl<'a> ResolvedUnit<'a> {
         identifier: Identifier,
         storage: Option<DeclaredStorage>,
     ) -> StorageClass
-        ensures { result ≡ symbols.class_of storage (symbols.place_among parameters.now identifier.name) (symbols.locator_of (facts_of (unit_view self.now)) identifier.at) }
+        ensures { result ≡ symbols.class_of storage (symbols.place_among parameters.now identifier.name)
+            (symbols.locator_of (facts_of (unit_view self.now)) identifier.at) }
     {
         match storage {
             None => StorageClass::Parameter(place_among(parameters, identifier.name)),
@@ -227,7 +238,8 @@ impl<'a> ResolvedUnit<'a> {
         variable: &'s Variable<'s>,
         description: &'s Option<Description>,
     ) -> SymbolKind<'s>
-        ensures { symbol_kind_view result ≡ symbols.symbol_kind (facts_of (unit_view self.now)) parameters.now (way_view way.now) declaration.now.identifier declaration.now.owner
+        ensures { symbol_kind_view result ≡ symbols.symbol_kind (facts_of (unit_view self.now)) parameters.now
+            (way_view way.now) declaration.now.identifier declaration.now.owner
             (OfItem (OfVariable (variable_view variable.now)) (option_map description_view description.now)) }
     {
         let identifier = declaration.identifier;
@@ -260,7 +272,8 @@ impl<'a> ResolvedUnit<'a> {
         way: &'s Way,
         declaration: &'s Declaration<'s>,
     ) -> SymbolKind<'s>
-        ensures { symbol_kind_view result ≡ (symbols.symbol_of (facts_of (unit_view self.now)) parameters.now (way_view way.now) (declaration_view declaration.now)).kind }
+        ensures { symbol_kind_view result ≡ (symbols.symbol_of (facts_of (unit_view self.now)) parameters.now
+            (way_view way.now) (declaration_view declaration.now)).kind }
     {
         let identifier = declaration.identifier;
         match &declaration.kind {
@@ -307,7 +320,9 @@ impl<'a> ResolvedUnit<'a> {
         declarations: &'s [Declaration<'s>],
         number: usize,
     ) -> Option<Symbol<'s>>
-        ensures { option_map symbol_view result ≡ slice_get (symbols.symbols_with (facts_of (unit_view self.now)) parameters.now (map way_view ways.now) (map declaration_view declarations.now)) number }
+        ensures { option_map symbol_view result ≡ slice_get (symbols.symbols_with
+            (facts_of (unit_view self.now)) parameters.now (map way_view ways.now)
+            (map declaration_view declarations.now)) number }
     {
         let Some(way) = way_at(ways, number) else {
             return None;
@@ -324,7 +339,8 @@ impl<'a> ResolvedUnit<'a> {
     /// The numbers of the parameters of a region among its symbols.
     #[tactic(auto, using(crate::proofs::TablesAt::parameters_declared))]
     fn parameters_of(&self, region: usize) -> &[usize]
-        ensures { result.now ≡ map (symbols.number_declared (region_block (unit_view self.now) region).declarations) (region_block (unit_view self.now) region).parameters }
+        ensures { result.now ≡ map (symbols.number_declared (region_block (unit_view self.now) region).declarations)
+            (region_block (unit_view self.now) region).parameters }
     {
         parameters_at(&self.tables.tables, region)
     }
@@ -362,7 +378,8 @@ impl<'a> ResolvedUnit<'a> {
 
     /// What a region declares.
     fn region_block(&self, region: usize) -> Option<&BlockDeclarations<'a>>
-        ensures { option_map (λ b. declare_view b.now) result ≡ slice_get (resolved_of (unit_view self.now)).blocks region }
+        ensures { option_map (λ b. declare_view b.now) result
+            ≡ slice_get (resolved_of (unit_view self.now)).blocks region }
     {
         self.declared.blocks().get(region)
     }
@@ -370,7 +387,9 @@ impl<'a> ResolvedUnit<'a> {
     /// The symbol of this number in a block that is a region.
     #[tactic(auto, using(crate::proofs::TablesAt::declared_there, crate::proofs::TablesAt::declared_nowhere))]
     fn symbol_in(&self, region: usize, number: usize) -> Option<Symbol<'_>>
-        ensures { option_map symbol_view result ≡ slice_get (symbols.symbols_of (facts_of (unit_view self.now)) (region_block (unit_view self.now) region).parameters (region_block (unit_view self.now) region).declarations) number }
+        ensures { option_map symbol_view result ≡ slice_get (symbols.symbols_of (facts_of (unit_view self.now))
+            (region_block (unit_view self.now) region).parameters
+            (region_block (unit_view self.now) region).declarations) number }
     {
         let block = self.region_block(region)?;
         let ways = self.ways_of(region);
@@ -401,7 +420,8 @@ impl<'a> ResolvedUnit<'a> {
 
     /// The block of this number.
     pub fn block(&self, number: usize) -> Option<ResolvedBlock<'_>>
-        ensures { option_map resolved_block_view result ≡ option_map without_symbols (slice_get (resolved_unit_of (unit_view self.now)).blocks number) }
+        ensures { option_map resolved_block_view result ≡ option_map without_symbols
+            (slice_get (resolved_unit_of (unit_view self.now)).blocks number) }
     {
         let block = self.tables.regions.blocks.get(number)?;
         Some(self.block_of(*block))

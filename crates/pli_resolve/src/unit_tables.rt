@@ -76,8 +76,10 @@ impl RegionNumbers {
 impl Callables {
     /// The same functions and procedures.
     fn copy(&self) -> Result<Callables, AllocError>
-        ensures functions { IfOk result (λ copied. (at : ℕ) → get nat_eq copied.functions at ≡ get nat_eq self.now.functions at) }
-        ensures procedures { IfOk result (λ copied. (region : ℕ) → get nat_eq copied.procedures region ≡ get nat_eq self.now.procedures region) }
+        ensures functions { IfOk result (λ copied. (at : ℕ) →
+            get nat_eq copied.functions at ≡ get nat_eq self.now.functions at) }
+        ensures procedures { IfOk result (λ copied. (region : ℕ) →
+            get nat_eq copied.procedures region ≡ get nat_eq self.now.procedures region) }
     {
         Ok(Callables {
             functions: copied_functions(&self.functions)?,
@@ -89,8 +91,10 @@ impl Callables {
 impl StatementMaps {
     /// The same statements and labels.
     fn copy(&self) -> Result<StatementMaps, AllocError>
-        ensures regions { IfOk result (λ copied. (number : ℕ) → get nat_eq copied.regions number ≡ get nat_eq self.now.regions number) }
-        ensures labels { IfOk result (λ copied. (at : ℕ) → get nat_eq copied.labels at ≡ get nat_eq self.now.labels at) }
+        ensures regions { IfOk result (λ copied. (number : ℕ) →
+            get nat_eq copied.regions number ≡ get nat_eq self.now.regions number) }
+        ensures labels { IfOk result (λ copied. (at : ℕ) → get nat_eq copied.labels at
+            ≡ get nat_eq self.now.labels at) }
     {
         Ok(StatementMaps {
             regions: copied_statements(&self.regions)?,

@@ -1,4 +1,5 @@
-//! The pass from a tree to the resolved unit: which regions are blocks, where statements stand, and what is found by tokens.
+//! The pass from a tree to the resolved unit: which regions are blocks, where statements stand, and what is found by
+//! tokens.
 #![tactic(auto)]
 
 mod block_numbers;

@@ -20,7 +20,8 @@ fn note_function(
     functions: &mut IndexMap<u32, BuiltInFunction>,
     mark: &Mark,
 ) -> Result<(), AllocError>
-    ensures { OnOk result ((at : ℕ) → get nat_eq functions.new at ≡ found_after (get nat_eq functions.old at) (spec.functions_at (mark_view mark.now)) at) }
+    ensures { OnOk result ((at : ℕ) → get nat_eq functions.new at
+        ≡ found_after (get nat_eq functions.old at) (spec.functions_at (mark_view mark.now)) at) }
 {
     let Mark::Used(names) = mark else {
         return Ok(());
@@ -39,7 +40,8 @@ pub(crate) fn functions(
     alloc: Global,
     marks: &[PlacedMark],
 ) -> Result<IndexMap<u32, BuiltInFunction>, AllocError>
-    ensures { IfOk result (λ functions. (at : ℕ) → get nat_eq functions at ≡ found_in (spec.functions_in (marks_view marks.now)) at) }
+    ensures { IfOk result (λ functions. (at : ℕ) → get nat_eq functions at
+        ≡ found_in (spec.functions_in (marks_view marks.now)) at) }
 {
     let mut functions = IndexMap::new(alloc);
     for placed in marks {
@@ -50,7 +52,8 @@ pub(crate) fn functions(
 
 /// Notes the statement of a label.
 fn note_label(labels: &mut IndexMap<u32, u32>, place: StatementPlace) -> Result<(), AllocError>
-    ensures { OnOk result ((at : ℕ) → get nat_eq labels.new at ≡ found_after (get nat_eq labels.old at) (spec.label_statement place) at) }
+    ensures { OnOk result ((at : ℕ) → get nat_eq labels.new at
+        ≡ found_after (get nat_eq labels.old at) (spec.label_statement place) at) }
 {
     let label = place.label;
     if let Some(label) = label {
@@ -61,7 +64,8 @@ fn note_label(labels: &mut IndexMap<u32, u32>, place: StatementPlace) -> Result<
 
 /// The statements of labels, by the labels' tokens.
 fn labels(alloc: Global, places: &[StatementPlace]) -> Result<IndexMap<u32, u32>, AllocError>
-    ensures { IfOk result (λ labels. (at : ℕ) → get nat_eq labels at ≡ found_in (flat_map spec.label_statement places.now) at) }
+    ensures { IfOk result (λ labels. (at : ℕ) → get nat_eq labels at
+        ≡ found_in (flat_map spec.label_statement places.now) at) }
 {
     let mut labels = IndexMap::new(alloc);
     for place in places {
@@ -75,7 +79,8 @@ fn statement_regions(
     alloc: Global,
     places: &[StatementPlace],
 ) -> Result<IndexMap<u32, usize>, AllocError>
-    ensures { IfOk result (λ regions. (number : ℕ) → get nat_eq regions number ≡ found_in (map (λ p. (p.number, p.region)) places.now) number) }
+    ensures { IfOk result (λ regions. (number : ℕ) → get nat_eq regions number
+        ≡ found_in (map (λ p. (p.number, p.region)) places.now) number) }
 {
     let mut regions = IndexMap::new(alloc);
     for place in places {
@@ -89,8 +94,10 @@ pub(crate) fn statement_maps(
     alloc: Global,
     places: &[StatementPlace],
 ) -> Result<StatementMaps, AllocError>
-    ensures regions { IfOk result (λ maps. (number : ℕ) → get nat_eq maps.regions number ≡ found_in (map (λ p. (p.number, p.region)) places.now) number) }
-    ensures labels { IfOk result (λ maps. (at : ℕ) → get nat_eq maps.labels at ≡ found_in (flat_map spec.label_statement places.now) at) }
+    ensures regions { IfOk result (λ maps. (number : ℕ) → get nat_eq maps.regions number
+        ≡ found_in (map (λ p. (p.number, p.region)) places.now) number) }
+    ensures labels { IfOk result (λ maps. (at : ℕ) → get nat_eq maps.labels at
+        ≡ found_in (flat_map spec.label_statement places.now) at) }
 {
     Ok(StatementMaps {
         regions: statement_regions(alloc, places)?,
@@ -104,7 +111,8 @@ fn note_procedure(
     key: SymbolKey,
     kind: &DeclaredKind,
 ) -> Result<(), AllocError>
-    ensures { OnOk result ((region : ℕ) → get nat_eq procedures.new region ≡ found_after (get nat_eq procedures.old region) (spec.procedure_at key (kind_view kind.now)) region) }
+    ensures { OnOk result ((region : ℕ) → get nat_eq procedures.new region
+        ≡ found_after (get nat_eq procedures.old region) (spec.procedure_at key (kind_view kind.now)) region) }
 {
     if let DeclaredKind::Procedure { region, .. } = kind {
         procedures.insert(*region, key)?;
@@ -118,7 +126,9 @@ fn note_procedures(
     block: usize,
     declarations: &[Declaration],
 ) -> Result<(), AllocError>
-    ensures { OnOk result ((region : ℕ) → get nat_eq procedures.new region ≡ found_after (get nat_eq procedures.old region) (spec.procedures_from block 0 (map declaration_view declarations.now)) region) }
+    ensures { OnOk result ((region : ℕ) → get nat_eq procedures.new region
+        ≡ found_after (get nat_eq procedures.old region) (spec.procedures_from block 0
+        (map declaration_view declarations.now)) region) }
 {
     for (number, declaration) in declarations.iter().enumerate() {
         note_procedure(procedures, SymbolKey { block, number }, &declaration.kind)?;
@@ -133,7 +143,9 @@ fn note_block(
     region: usize,
     block: &BlockDeclarations,
 ) -> Result<(), AllocError>
-    ensures { OnOk result ((k : ℕ) → get nat_eq procedures.new k ≡ found_after (get nat_eq procedures.old k) (spec.block_procedures numbers.now region (block_view block.now)) k) }
+    ensures { OnOk result ((k : ℕ) → get nat_eq procedures.new k
+        ≡ found_after (get nat_eq procedures.old k) (spec.block_procedures numbers.now region
+        (block_view block.now)) k) }
 {
     let number = numbers.get(region).copied().unwrap_or(0);
     note_procedures(procedures, number, &block.declarations)
@@ -149,7 +161,8 @@ fn note_blocks(
     blocks: &[BlockDeclarations],
 ) -> Result<(), AllocError>
     ensures { OnOk result ((region : ℕ) → get nat_eq procedures.new region
-        ≡ found_after (get nat_eq procedures.old region) (spec.procedures_from outermost 0 (map declaration_view unit.now) ++ spec.procedures_of numbers.now 0 (map block_view blocks.now)) region) }
+        ≡ found_after (get nat_eq procedures.old region) (spec.procedures_from outermost 0
+        (map declaration_view unit.now) ++ spec.procedures_of numbers.now 0 (map block_view blocks.now)) region) }
 {
     note_procedures(procedures, outermost, unit)?;
     for (region, block) in blocks.iter().enumerate() {
@@ -167,7 +180,8 @@ pub(crate) fn procedures(
     blocks: &[BlockDeclarations],
 ) -> Result<IndexMap<usize, SymbolKey>, AllocError>
     ensures { IfOk result (λ procedures. (region : ℕ) → get nat_eq procedures region
-        ≡ found_in (spec.procedures_from outermost 0 (map declaration_view unit.now) ++ spec.procedures_of numbers.now 0 (map block_view blocks.now)) region) }
+        ≡ found_in (spec.procedures_from outermost 0 (map declaration_view unit.now)
+        ++ spec.procedures_of numbers.now 0 (map block_view blocks.now)) region) }
 {
     let mut procedures = IndexMap::new(alloc);
     note_blocks(&mut procedures, numbers, outermost, unit, blocks)?;

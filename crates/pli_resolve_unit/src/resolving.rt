@@ -53,7 +53,8 @@ fn unit_procedures(
     regions: &RegionNumbers,
 ) -> Result<IndexMap<usize, SymbolKey>, AllocError>
     requires { AreNumbersOf regions.now (unit_view declared.now) }
-    ensures { IfOk result (λ procedures. (n : ℕ) → get nat_eq procedures n ≡ found_in (procedures_in (unit_view declared.now)) n) }
+    ensures { IfOk result (λ procedures. (n : ℕ) → get nat_eq procedures n
+        ≡ found_in (procedures_in (unit_view declared.now)) n) }
 {
     let outermost = regions.blocks.len();
     procedures(
@@ -74,8 +75,11 @@ fn callables(
 ) -> Result<Callables, AllocError>
     requires are_numbers { AreNumbersOf regions.now (unit_view declared.now) }
     requires are_marks { marks_view marks.now ≡ inner_marks (outline_of (unit_view declared.now)).marks }
-    ensures functions { IfOk result (λ callables. (at : ℕ) → get nat_eq callables.functions at ≡ found_in (functions_in (inner_marks (outline_of (unit_view declared.now)).marks)) at) }
-    ensures procedures { IfOk result (λ callables. (region : ℕ) → get nat_eq callables.procedures region ≡ found_in (procedures_in (unit_view declared.now)) region) }
+    ensures functions { IfOk result (λ callables. (at : ℕ) →
+        get nat_eq callables.functions at ≡ found_in (functions_in
+        (inner_marks (outline_of (unit_view declared.now)).marks)) at) }
+    ensures procedures { IfOk result (λ callables. (region : ℕ) →
+        get nat_eq callables.procedures region ≡ found_in (procedures_in (unit_view declared.now)) region) }
 {
     Ok(Callables {
         functions: functions(alloc, marks)?,
@@ -125,8 +129,8 @@ fn unit_tables(
     })
 }
 
-/// The resolved unit of a tree, or all faults of its declarations and uses: for each declared name and each reference the least
-/// code, in the order of their tokens.
+/// The resolved unit of a tree, or all faults of its declarations and uses: for each declared name and each reference
+/// the least code, in the order of their tokens.
 pub fn resolve_unit(alloc: Global, unit: &Procedure) -> Result<ResolvedUnit<'_>, ResolveError>
     ensures { IsResolvedUnit result (unit_view unit.now) }
 {

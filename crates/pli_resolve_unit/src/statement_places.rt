@@ -3,13 +3,16 @@ ghost use Rattle.std.specs.Prelude.{◌≡◌, ◌++◌, ◌+◌, ◌∷◌, len
 ghost use Rattle.pli_base.specs.views.StatementView.{body_view, statement_view, statements_view, unit_view};
 ghost use Rattle.pli_declare_outline.specs.Outlines.{regions_in, regions_of, regions_among};
 ghost use Rattle.pli_resolve_unit.specs.PlacesPut.{PlacesPut};
-ghost use Rattle.pli_resolve.specs.StatementPlaces.{statement_starts, statements_starts, body_starts, statement_places, statements_places, body_places, end_place, unit_starts, unit_places};
+ghost use Rattle.pli_resolve.specs.StatementPlaces.{statement_starts, statements_starts, body_starts, statement_places};
+ghost use Rattle.pli_resolve.specs.StatementPlaces.{statements_places, body_places, end_place, unit_starts};
+ghost use Rattle.pli_resolve.specs.StatementPlaces.{unit_places};
 
 use pli_base::statement::{Body, Procedure, Statement};
 use pli_resolve::StatementPlace;
 use std::alloc::{AllocError, Global};
 
-/// The statements of a unit: those that begin its regions, in their order, and all of them with the regions that they stand in.
+/// The statements of a unit: those that begin its regions, in their order, and all of them with the regions that they
+/// stand in.
 #[derive(Drop)]
 pub(crate) struct StatementList {
     pub starts: Vec<u32>,
@@ -67,7 +70,8 @@ fn place_region(
 ) -> Result<(), AllocError>
     ensures { OnOk result (PlacesPut starts.old.items starts.new.items places.old.items places.new.items
         (number ∷ statements_starts (statements_view statements.now))
-        (statements_places (length starts.old.items) (length starts.old.items + 1) (statements_view statements.now) ++ end_place (length starts.old.items) end)
+        (statements_places (length starts.old.items) (length starts.old.items + 1) (statements_view statements.now)
+        ++ end_place (length starts.old.items) end)
         (1 + regions_among (statements_view statements.now))) }
 {
     let region = starts.len();

@@ -30,7 +30,8 @@ fn parameter_numbers(
     declarations: &[Declaration],
     parameters: &[Name],
 ) -> Result<Vec<usize>, AllocError>
-    ensures { IfOk result (λ numbers. numbers.items ≡ map (spec.number_declared (map declaration_view declarations.now)) parameters.now) }
+    ensures { IfOk result (λ numbers. numbers.items ≡ map (spec.number_declared (map declaration_view declarations.now))
+        parameters.now) }
 {
     let mut numbers = Vec::new(alloc);
     for parameter in parameters {
@@ -54,7 +55,8 @@ pub(crate) fn block_tables(
     alloc: Global,
     blocks: &[BlockDeclarations],
 ) -> Result<Vec<BlockTable>, AllocError>
-    ensures { IfOk result (λ tables. map block_table_view tables.items ≡ map block_table_of (map block_view blocks.now)) }
+    ensures { IfOk result (λ tables. map block_table_view tables.items
+        ≡ map block_table_of (map block_view blocks.now)) }
 {
     let mut tables = Vec::new(alloc);
     for block in blocks {

@@ -40,7 +40,8 @@ fn put_all(bytes: &mut [u8], description: &Description, scalars: &[InitialScalar
 fn lay_initial(bytes: &mut [u8], description: &Description, scalars: &[InitialScalar])
     requires size { length bytes.old ≡ size_of (description_view description.now) }
     requires limit { size_of (description_view description.now) ≤ 16777216 }
-    ensures { IsLaid (record { description = description_view description.now; initial = map initial_view scalars.now }) bytes.new }
+    ensures { IsLaid (record { description = description_view description.now; initial = map initial_view scalars.now })
+        bytes.new }
 {
     lay_first(description, bytes);
     put_all(bytes, description, scalars);
@@ -54,7 +55,10 @@ pub fn initial_bytes(
     scalars: &[InitialScalar],
 ) -> Result<Vec<u8>, AllocError>
     requires { size_of (description_view description.now) ≤ 16777216 }
-    ensures { IfOk result (λ bytes. IsLaid (record { description = description_view description.now; initial = map initial_view scalars.now }) bytes.items) }
+    ensures { IfOk result (λ bytes. IsLaid (record {
+      description = description_view description.now;
+      initial = map initial_view scalars.now;
+    }) bytes.items) }
 {
     let mut bytes = vec![in alloc; 0; far_size(description) as usize]?;
     lay_initial(&mut bytes, description, scalars);
@@ -67,7 +71,9 @@ pub fn few_bytes(
     description: &Description,
     scalars: &[InitialScalar],
 ) -> Result<Option<Vec<u8>>, AllocError>
-    ensures { IfOk result (λ laid. IfSome laid (λ bytes. IsLaid (record { description = description_view description.now; initial = map initial_view scalars.now }) bytes.items)) }
+    ensures { IfOk result (λ laid. IfSome laid (λ bytes. IsLaid
+        (record { description = description_view description.now; initial = map initial_view scalars.now })
+        bytes.items)) }
 {
     if far_size(description) > FEW {
         return Ok(None);
@@ -85,8 +91,12 @@ fn begin(
 )
     requires size { length bytes.old ≡ size_of (description_view description.now) }
     requires limit { size_of (description_view description.now) ≤ 16777216 }
-    requires laid { IfSome laid (λ bytes. IsLaid (record { description = description_view description.now; initial = map initial_view scalars.now }) bytes.now) }
-    ensures { IsLaid (record { description = description_view description.now; initial = map initial_view scalars.now }) bytes.new }
+    requires laid { IfSome laid (λ bytes. IsLaid (record {
+      description = description_view description.now;
+      initial = map initial_view scalars.now;
+    }) bytes.now) }
+    ensures { IsLaid (record { description = description_view description.now; initial = map initial_view scalars.now })
+        bytes.new }
 {
     match laid {
         Some(laid) => bytes.copy_from_slice(laid),
@@ -104,8 +114,14 @@ pub fn first_bytes(
     laid: Option<&[u8]>,
 ) -> Result<Vec<u8>, AllocError>
     requires limit { size_of (description_view description.now) ≤ 16777216 }
-    requires laid { IfSome laid (λ bytes. IsLaid (record { description = description_view description.now; initial = map initial_view scalars.now }) bytes.now) }
-    ensures laid { IfOk result (λ bytes. IsLaid (record { description = description_view description.now; initial = map initial_view scalars.now }) bytes.items) }
+    requires laid { IfSome laid (λ bytes. IsLaid (record {
+      description = description_view description.now;
+      initial = map initial_view scalars.now;
+    }) bytes.now) }
+    ensures laid { IfOk result (λ bytes. IsLaid (record {
+      description = description_view description.now;
+      initial = map initial_view scalars.now;
+    }) bytes.items) }
     ensures same { SameStorage storage.old storage.new }
 {
     let mut first = storage.spare_bytes(alloc, far_size(description) as usize)?;
@@ -124,10 +140,14 @@ pub fn make_initial<'m>(
     scalars: &[InitialScalar],
     laid: Option<&[u8]>,
 ) -> Result<Place<'m>, StoreFault>
-    requires { IfSome laid (λ bytes. IsLaid (record { description = description_view description.now; initial = map initial_view scalars.now }) bytes.now) }
+    requires { IfSome laid (λ bytes. IsLaid (record {
+      description = description_view description.now;
+      initial = map initial_view scalars.now;
+    }) bytes.now) }
     ensures answer { (w : World) → Answered place_view result (with_storage storage.old w) (with_storage storage.new w)
         (made_of (description_view description.now) (made_view made)
-        (with_initial (scalars_at (description_view description.now)) (map initial_view scalars.now) (first_values (description_view description.now)))
+        (with_initial (scalars_at (description_view description.now)) (map initial_view scalars.now)
+        (first_values (description_view description.now)))
         (with_storage storage.old w)) }
     ensures err { OnErr result (SameStorage storage.old storage.new) }
 {
@@ -147,7 +167,8 @@ fn make_anew<'m>(
 ) -> Result<Place<'m>, StoreFault>
     ensures answer { (w : World) → Answered place_view result (with_storage storage.old w) (with_storage storage.new w)
         (made_of (description_view description.now) (made_view made)
-        (with_initial (scalars_at (description_view description.now)) (map initial_view scalars.now) (first_values (description_view description.now)))
+        (with_initial (scalars_at (description_view description.now)) (map initial_view scalars.now)
+        (first_values (description_view description.now)))
         (with_storage storage.old w)) }
     ensures err { OnErr result (SameStorage storage.old storage.new) }
 {

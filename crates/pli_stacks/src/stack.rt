@@ -20,7 +20,10 @@ pub struct Stack<'m> {
     pub laid: Option<Vec<u8>>,
     /// The newest place is the last.
     pub places: Vec<Place<'m>>,
-    ghost begins: { IfSome laid (λ (bytes : Vec ℕ). IsLaid (record { description = description_view description.now; initial = map initial_view initial.now }) bytes.items) } by { Prim.hlevel props },
+    ghost begins: { IfSome laid (λ (bytes : Vec ℕ). IsLaid (record {
+      description = description_view description.now;
+      initial = map initial_view initial.now;
+    }) bytes.items) } by { Prim.hlevel props },
 }
 
 impl<'m> Stack<'m> {

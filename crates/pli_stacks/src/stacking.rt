@@ -44,7 +44,8 @@ pub fn push_made<'m>(
     storage: &mut Storage<'m>,
 ) -> Result<Place<'m>, StoreFault>
     ensures answer { (w : World) → Answered place_view result (with_storage storage.old w) (with_storage storage.new w)
-        (made_of (stack_view stack.old).variable.description Controlled (stack_view stack.old).variable.initial (with_storage storage.old w)) }
+        (made_of (stack_view stack.old).variable.description Controlled (stack_view stack.old).variable.initial
+        (with_storage storage.old w)) }
     ensures ok { IfOk result (λ place. stack_view stack.new
         ≡ record (stack_view stack.old) { places = place_view place ∷ (stack_view stack.old).places }) }
     ensures same { OnErr result (stack_view stack.new ≡ stack_view stack.old) }
@@ -66,7 +67,10 @@ pub fn push_made<'m>(
 /// Takes the newest place off a stack, if it has one.
 pub fn pop_newest<'m>(stack: &mut Stack<'m>) -> Option<Place<'m>>
     ensures { MatchOption result (((stack_view stack.old).places ≡ []) × (stack_view stack.new ≡ stack_view stack.old))
-        (λ place. stack_view stack.old ≡ record (stack_view stack.new) { places = place_view place ∷ (stack_view stack.new).places }) }
+        (λ place. stack_view stack.old ≡ record (stack_view stack.new) {
+          places = place_view place
+              ∷ (stack_view stack.new).places;
+        }) }
 {
     stack.places.pop()
 }

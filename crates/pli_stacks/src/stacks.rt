@@ -36,8 +36,8 @@ impl<'m> Stacks<'m> {
         }
     }
 
-    /// One stack more, of a variable that has no generation yet and whose generations begin as a template of this description
-    /// and of these initial values has it; answers its number. After an error nothing has changed.
+    /// One stack more, of a variable that has no generation yet and whose generations begin as a template of this
+    /// description and of these initial values has it; answers its number. After an error nothing has changed.
     pub fn add(
         &mut self,
         alloc: Global,
@@ -46,7 +46,10 @@ impl<'m> Stacks<'m> {
     ) -> Result<usize, AllocError>
         ensures number { IfOk result (λ number. number ≡ length (stacks_view self.old)) }
         ensures added { OnOk result (stacks_view self.new ≡ stacks_view self.old ++ record {
-          variable = variable_of (record { description = description_view description.now; initial = map initial_view initial.now });
+          variable = variable_of (record {
+            description = description_view description.now;
+            initial = map initial_view initial.now;
+          });
           places = [];
         } ∷ []) }
         ensures err { OnErr result (stacks_view self.new ≡ stacks_view self.old) }
@@ -62,8 +65,8 @@ impl<'m> Stacks<'m> {
         Ok(number)
     }
 
-    /// The place of the newest generation of a variable. `NoGeneration` where it has none, `NoRule` where no stack has the
-    /// number.
+    /// The place of the newest generation of a variable. `NoGeneration` where it has none, `NoRule` where no stack has
+    /// the number.
     pub fn newest(&self, number: usize) -> Result<Place<'m>, StoreFault>
         ensures { (w : World) → Answered place_view result (with_stacks self.now w) (with_stacks self.now w)
             (newest number (with_stacks self.now w)) }
@@ -74,7 +77,8 @@ impl<'m> Stacks<'m> {
         }
     }
 
-    /// How many generations a variable has, a number of FIXED BINARY(15). `FixedOverflow` where it has more than 32,767,
+    /// How many generations a variable has, a number of FIXED BINARY(15). `FixedOverflow` where it has more than
+    /// 32,767,
     /// `NoRule` where no stack has the number.
     pub fn generations(&self, number: usize) -> Result<u16, StoreFault>
         ensures { (w : World) → Answered (λ count. count) result (with_stacks self.now w) (with_stacks self.now w)
@@ -87,8 +91,8 @@ impl<'m> Stacks<'m> {
     }
 
     /// ALLOCATE of a CONTROLLED variable: a new generation, with its initial values, which is its newest from then on.
-    /// `NoRule` where no stack has the number; else `StorageLimit` where there is no room for it, or `OutOfMemory`. After an
-    /// error nothing has changed.
+    /// `NoRule` where no stack has the number; else `StorageLimit` where there is no room for it, or `OutOfMemory`.
+    /// After an error nothing has changed.
     pub fn allocate_controlled(
         &mut self,
         alloc: Global,
@@ -96,7 +100,8 @@ impl<'m> Stacks<'m> {
         number: usize,
     ) -> Result<(), StoreFault>
         ensures answer { (w : World) → Answered (λ _. tt) result (with_stacks self.old (with_storage storage.old w))
-            (with_stacks self.new (with_storage storage.new w)) (stacked number (with_stacks self.old (with_storage storage.old w))) }
+            (with_stacks self.new (with_storage storage.new w))
+            (stacked number (with_stacks self.old (with_storage storage.old w))) }
         ensures stacks { OnErr result (stacks_view self.new ≡ stacks_view self.old) }
         ensures storage { OnErr result (SameStorage storage.old storage.new) }
     {
@@ -107,15 +112,16 @@ impl<'m> Stacks<'m> {
         Ok(())
     }
 
-    /// FREE of a CONTROLLED variable: its newest generation ends. `NoGeneration` where it has none, `NoRule` where no stack has
-    /// the number; then nothing has changed.
+    /// FREE of a CONTROLLED variable: its newest generation ends. `NoGeneration` where it has none, `NoRule` where no
+    /// stack has the number; then nothing has changed.
     pub fn free_controlled(
         &mut self,
         storage: &mut Storage<'m>,
         number: usize,
     ) -> Result<(), StoreFault>
         ensures answer { (w : World) → Answered (λ _. tt) result (with_stacks self.old (with_storage storage.old w))
-            (with_stacks self.new (with_storage storage.new w)) (unstacked number (with_stacks self.old (with_storage storage.old w))) }
+            (with_stacks self.new (with_storage storage.new w))
+            (unstacked number (with_stacks self.old (with_storage storage.old w))) }
         ensures stacks { OnErr result (stacks_view self.new ≡ stacks_view self.old) }
         ensures storage { OnErr result (SameStorage storage.old storage.new) }
     {

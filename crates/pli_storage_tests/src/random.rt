@@ -325,8 +325,8 @@ fn take(
     }
 }
 
-/// Makes so many sequences, of so many descriptions and calls each, and compares what each leaves. In areas these are the
-/// first descriptions; else they begin with any.
+/// Makes so many sequences, of so many descriptions and calls each, and compares what each leaves. In areas these are
+/// the first descriptions; else they begin with any.
 fn sequences(rt: &impl Abort, alloc: Global, times: u32, in_areas: bool, count: usize, calls: u32) {
     let mut numbers = Numbers::new(1);
     let shapes = all_shapes(rt, alloc);

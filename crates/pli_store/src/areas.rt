@@ -21,7 +21,8 @@ use pli_run::RunError;
 use pli_value::Locator;
 
 impl<'m> Storage<'m> {
-    ghost use Rattle.pli_store.specs.views.StorageView.{place_view, storage_view, made_count, with_storage, SameStorage};
+    ghost use Rattle.pli_store.specs.views.StorageView.{place_view, storage_view, made_count, with_storage};
+    ghost use Rattle.pli_store.specs.views.StorageView.{SameStorage};
 
     /// Where the area of a place stands. `DeadLocator` where its generation has ended or the block that it leads into,
     /// `DescriptionMismatch` where a block has another whole description, else `NoRule` where the place is no whole
@@ -71,7 +72,10 @@ impl<'m> Storage<'m> {
         requires { IfSome initial (λ bytes. length bytes.items ≡ size_of (description_view description.now)) }
         ensures answer { (w : World) (vs : List plain.Value) → Begins (description_view description.now) initial vs
             → Answered (λ locator. locator) result (with_storage self.old w) (with_storage self.new w)
-            (allocated_in (place_view area.entry) (record { description = description_view description.now; initial = vs })
+            (allocated_in (place_view area.entry) (record {
+              description = description_view description.now;
+              initial = vs;
+            })
             (with_storage self.old w)) }
         ensures err { OnErr result (SameStorage self.old self.new) }
     {
@@ -98,9 +102,13 @@ impl<'m> Storage<'m> {
         area: Place<'_>,
         description: &Description,
     ) -> Result<Locator, StoreFault>
-        ensures { (w : World) (vs : List plain.Value) → are_held (scalars_of (description_view description.now)) vs ≡ true
+        ensures { (w : World) (vs : List plain.Value) → are_held (scalars_of (description_view description.now)) vs
+            ≡ true
             → Answered (λ locator. locator) result (with_storage self.now w) (with_storage self.now w)
-            (allocated_in (place_view area.entry) (record { description = description_view description.now; initial = vs })
+            (allocated_in (place_view area.entry) (record {
+              description = description_view description.now;
+              initial = vs;
+            })
             (with_storage self.now w)) }
     {
         let at = self.area_at(area)?;
@@ -112,7 +120,8 @@ impl<'m> Storage<'m> {
 
     /// The block at a position of a generation ends; where none lives there, nothing changes.
     pub fn free_block(&mut self, generation: u32, position: u32)
-        ensures storage { storage_view self.new ≡ with_blocks (storage_view self.old) generation (λ bs. without_block bs position) }
+        ensures storage { storage_view self.new ≡ with_blocks (storage_view self.old) generation (λ bs.
+            without_block bs position) }
         ensures made { made_count self.new ≡ made_count self.old }
     {
         if let Some(at) = self.find(generation, self.even_guess(generation)) {

@@ -5,7 +5,8 @@ ghost use Rattle.pli_bytes.specs.Contents.{value_in, value_of};
 ghost use Rattle.pli_map.specs.Description as tree;
 ghost use Rattle.pli_value.specs.Value.{Bits};
 
-/// The bit that a scalar of BIT of one bit holds, which lies at an offset of the bytes; `None` where they end before it does.
+/// The bit that a scalar of BIT of one bit holds, which lies at an offset of the bytes; `None` where they end before it
+/// does.
 #[inline(always)]
 pub fn bit_at(bytes: &[u8], offset: usize) -> Option<bool>
     ensures { IfSome result (λ b. value_in bytes.now

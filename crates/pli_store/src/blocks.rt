@@ -25,7 +25,8 @@ pub fn new_area<'m>(
 ) -> Result<Option<Box<AreaBlocks<'m>>>, AllocError>
     requires { size_of (description_view description.now) ≤ 16777216 }
     ensures there { IfOk result (λ area. is_some area ≡ is_area (description_view description.now)) }
-    ensures capacity { IfOk result (λ area. is_area (description_view description.now) ≡ true → capacity_in area ≡ size_of (description_view description.now)) }
+    ensures capacity { IfOk result (λ area. is_area (description_view description.now) ≡ true →
+        capacity_in area ≡ size_of (description_view description.now)) }
     ensures blocks { IfOk result (λ area. blocks_in area ≡ []) }
 {
     match description {
@@ -53,7 +54,8 @@ pub fn whole_at<'m>(generation: &Generation<'m>, position: u32) -> Option<&'m De
 pub fn is_exceeded(generation: &Generation<'_>, size: u64) -> bool
     requires { is_area (generation_view generation.now).description ≡ true }
     ensures { result ≡ true → (more : ℕ) → size ≤ more
-        → place_in (size_of (generation_view generation.now).description) (generation_view generation.now).blocks more ≡ None }
+        → place_in (size_of (generation_view generation.now).description) (generation_view generation.now).blocks more
+        ≡ None }
 {
     match &generation.area {
         Some(area) => area.is_exceeded(size),
@@ -71,7 +73,8 @@ pub fn place_block<'m>(
     requires area { is_area (generation_view generation.old).description ≡ true }
     requires size { length bytes.now ≡ size_of (description_view description.now) }
     ensures position { IfOk result (λ position. position
-        ≡ place_in (size_of (generation_view generation.old).description) (generation_view generation.old).blocks (length bytes.now)) }
+        ≡ place_in (size_of (generation_view generation.old).description) (generation_view generation.old).blocks
+        (length bytes.now)) }
     ensures blocks { IfOk result (λ position. BlocksChanged generation.old generation.new
         (placed position (description_view description.now) (values_of (description_view description.now) bytes.now))) }
     ensures err { OnErr result (generation_view generation.new ≡ generation_view generation.old) }
@@ -113,7 +116,8 @@ pub fn read_block(
 ) -> Result<Vec<u8>, AllocError>
     requires { PartStands (generation_view generation.now).blocks position offset (description_view part.now) }
     ensures size { IfOk result (λ bytes. length bytes.items ≡ size_of (description_view part.now)) }
-    ensures held { IfOk result (λ bytes. PartHolds (generation_view generation.now).blocks position offset (description_view part.now)
+    ensures held { IfOk result (λ bytes. PartHolds (generation_view generation.now).blocks position offset
+        (description_view part.now)
         (values_of (description_view part.now) bytes.items)) }
 {
     match &generation.area {
@@ -132,7 +136,8 @@ pub fn write_block(
 )
     requires there { PartStands (generation_view generation.old).blocks position offset (description_view part.now) }
     requires size { length bytes.now ≡ size_of (description_view part.now) }
-    ensures put { PartPut (generation_view generation.old).blocks (generation_view generation.new).blocks position offset
+    ensures put { PartPut (generation_view generation.old).blocks
+        (generation_view generation.new).blocks position offset
         (description_view part.now) (values_of (description_view part.now) bytes.now) }
     ensures others { OthersStay generation.old generation.new }
 {

@@ -34,7 +34,8 @@ pub fn bytes_of_part(
 ) -> Result<Vec<u8>, AllocError>
     requires within { offset + size_of (description_view description.now) ≤ length generation.now.bytes.items }
     requires limit { size_of (description_view description.now) ≤ 16777216 }
-    ensures { IfOk result (λ bytes. bytes.items ≡ bytes_from offset (size_of (description_view description.now)) generation.now.bytes.items) }
+    ensures { IfOk result (λ bytes. bytes.items ≡ bytes_from offset
+        (size_of (description_view description.now)) generation.now.bytes.items) }
 {
     let size = far_size(description) as usize;
     let mut bytes = vec![in alloc; 0; size]?;
@@ -110,8 +111,10 @@ pub fn copy_part(
     requires from { PartStands (map generation_view generations.old.items) from (description_view description.now) }
     requires to { PartStands (map generation_view generations.old.items) to (description_view description.now) }
     requires limit { size_of (description_view description.now) ≤ 16777216 }
-    ensures { (source : PartStands (map generation_view generations.old.items) from (description_view description.now)) →
-        ValuesPut (map generation_view generations.old.items) (map generation_view generations.new.items) to (description_view description.now)
+    ensures { (source : PartStands (map generation_view generations.old.items) from (description_view description.now))
+        →
+        ValuesPut (map generation_view generations.old.items) (map generation_view generations.new.items) to
+        (description_view description.now)
         (values_from source.scalar (scalars_in (description_view description.now)) source.generation.values) }
 {
     let size = far_size(description) as usize;

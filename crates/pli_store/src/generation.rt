@@ -37,5 +37,6 @@ pub struct Generation<'m> {
     pub area: Option<Box<AreaBlocks<'m>>>,
     ghost sized: { length bytes.items ≡ size_of (description_view description.now) },
     ghost inhabited: { is_some area ≡ is_area (description_view description.now) },
-    ghost roomy: { is_area (description_view description.now) ≡ true → capacity_in area ≡ size_of (description_view description.now) },
+    ghost roomy: { is_area (description_view description.now) ≡ true →
+        capacity_in area ≡ size_of (description_view description.now) },
 }

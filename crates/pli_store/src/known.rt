@@ -20,12 +20,13 @@ pub struct KnownPart<'m> {
     pub offset: u32,
     pub description: &'m Description,
     ghost near: { offset ≤ 1000000 },
-    ghost stands: { is_some (first_scalar (description_view whole.now) offset (description_view description.now)) ≡ true },
+    ghost stands: { is_some (first_scalar (description_view whole.now) offset (description_view description.now))
+        ≡ true },
 }
 
 impl<'m> KnownPart<'m> {
-    /// The part of this description so many bytes behind the beginning of a whole; `None` where none stands there, and more
-    /// than 1,000,000 bytes behind it.
+    /// The part of this description so many bytes behind the beginning of a whole; `None` where none stands there, and
+    /// more than 1,000,000 bytes behind it.
     pub fn new(
         whole: &'m Description,
         offset: u32,

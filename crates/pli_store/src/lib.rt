@@ -2,10 +2,10 @@
 //! description lies at its offset; one that is an area has blocks.
 //!
 //! `place` says where references lead, `part` which bytes of a generation stand there, `living` what lives at a
-//! position of a generation, `known` which parts of a whole need no search; `storage` reads, puts, copies, makes and ends, by `putting` and `copying`, which change
-//! bytes; `bits` tells a lone bit from its byte, `pointers` a pointer from its bytes; `spare` keeps memory for
-//! generations to come. `blocks` changes the blocks of one generation, `places_in_blocks` reads, puts and copies there,
-//! and `areas` allocates, frees, empties and assigns.
+//! position of a generation, `known` which parts of a whole need no search; `storage` reads, puts, copies, makes and
+//! ends, by `putting` and `copying`, which change bytes; `bits` tells a lone bit from its byte, `pointers` a pointer
+//! from its bytes; `spare` keeps memory for generations to come. `blocks` changes the blocks of one generation,
+//! `places_in_blocks` reads, puts and copies there, and `areas` allocates, frees, empties and assigns.
 #![tactic(auto)]
 
 mod areas;

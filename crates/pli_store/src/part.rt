@@ -76,7 +76,8 @@ fn is_multiple(offset: usize, precision: u8) -> bool
 #[inline(always)]
 pub fn is_number_at(whole: &Description, size: usize, offset: usize, precision: u8) -> bool
     requires { size ≡ size_of (description_view whole.now) }
-    ensures { result ≡ true → is_some (first_scalar (description_view whole.now) offset (tree.FixedBinary precision)) ≡ true }
+    ensures { result ≡ true → is_some (first_scalar (description_view whole.now) offset (tree.FixedBinary precision))
+        ≡ true }
 {
     match whole {
         Description::FixedBinary(has) => offset == 0 && *has == precision,
@@ -110,7 +111,8 @@ fn is_element(extent: u32, offset: u32, stride: u32) -> bool
 /// The same of an array of one dimension of numbers of this precision.
 #[inline(always)]
 fn is_number_in(bounds: Bounds, precision: u8, offset: u32) -> bool
-    ensures { result ≡ is_some (first_scalar (tree.Array (bounds ∷ []) (tree.FixedBinary precision)) offset (tree.FixedBinary precision)) }
+    ensures { result ≡ is_some (first_scalar (tree.Array (bounds ∷ []) (tree.FixedBinary precision)) offset
+        (tree.FixedBinary precision)) }
 {
     let extent = bounds.extent();
     match precision {
@@ -131,14 +133,15 @@ fn is_bit_in(bounds: Bounds, offset: u32) -> bool
 /// Whether a scalar stands so many bytes behind the beginning of a structure of these members; `false` leaves it open.
 #[inline]
 fn is_member(members: &[Description], offset: u32, part: &Description) -> bool
-    ensures { result ≡ true → is_some (first_scalar (tree.Structure (members_view members.now)) offset (description_view part.now)) ≡ true }
+    ensures { result ≡ true → is_some (first_scalar (tree.Structure (members_view members.now)) offset
+        (description_view part.now)) ≡ true }
 {
     stands_among(members, offset, part)
 }
 
 /// Whether a part of this description stands so many bytes behind the beginning of a whole. A scalar that stands alone,
-/// one that is a member of a structure behind other scalars, and a number and one bit in an array of one dimension, take
-/// the short way.
+/// one that is a member of a structure behind other scalars, and a number and one bit in an array of one dimension,
+/// take the short way.
 #[inline(always)]
 pub fn is_part(whole: &Description, offset: u32, part: &Description) -> bool
     ensures { result ≡ is_some (first_scalar (description_view whole.now) offset (description_view part.now)) }

@@ -82,7 +82,8 @@ impl<'m> Place<'m> {
     #[inline]
     pub fn element(self, low: i32, multiplier: u32, subscript: i32) -> Option<Place<'m>>
         requires { low ≤ℤ subscript }
-        ensures { LedOn (led_on (unsigned_abs (subscript -ℤ low) * multiplier) (description_view self.entry.description.now)
+        ensures { LedOn (led_on (unsigned_abs (subscript -ℤ low) * multiplier)
+            (description_view self.entry.description.now)
             (place_view self.entry)) result }
     {
         let passed = u64::from(subscript.abs_diff(low)) * u64::from(multiplier);

@@ -70,9 +70,12 @@ impl<'m> Storage<'m> {
     /// The bytes of the part of a block to which a place leads. Errors as for where that stands.
     fn block_bytes(&self, place: Place<'_>) -> Result<Vec<u8>, StoreFault>
         requires { place.position ≢ 0 }
-        ensures size { IfOk result (λ bytes. length bytes.items ≡ size_of (description_view place.entry.description.now)) }
-        ensures held { (w : World) → Answered (λ (bytes : Vec ℕ). values_of (description_view place.entry.description.now) bytes.items) result
-            (with_storage self.now w) (with_storage self.now w) (parts_held (place_view place.entry) (with_storage self.now w)) }
+        ensures size { IfOk result (λ bytes. length bytes.items
+            ≡ size_of (description_view place.entry.description.now)) }
+        ensures held { (w : World) → Answered (λ (bytes : Vec ℕ).
+            values_of (description_view place.entry.description.now) bytes.items) result
+            (with_storage self.now w) (with_storage self.now w)
+            (parts_held (place_view place.entry) (with_storage self.now w)) }
     {
         let at = self.block_part(place)?;
         Ok(read_block(
@@ -88,9 +91,12 @@ impl<'m> Storage<'m> {
     /// has ended or the block, `DescriptionMismatch` where the block has another whole description, `NoRule` where no
     /// such part stands there.
     fn part_bytes(&self, place: Place<'_>) -> Result<Vec<u8>, StoreFault>
-        ensures size { IfOk result (λ bytes. length bytes.items ≡ size_of (description_view place.entry.description.now)) }
-        ensures held { (w : World) → Answered (λ (bytes : Vec ℕ). values_of (description_view place.entry.description.now) bytes.items) result
-            (with_storage self.now w) (with_storage self.now w) (parts_held (place_view place.entry) (with_storage self.now w)) }
+        ensures size { IfOk result (λ bytes. length bytes.items
+            ≡ size_of (description_view place.entry.description.now)) }
+        ensures held { (w : World) → Answered (λ (bytes : Vec ℕ).
+            values_of (description_view place.entry.description.now) bytes.items) result
+            (with_storage self.now w) (with_storage self.now w)
+            (parts_held (place_view place.entry) (with_storage self.now w)) }
     {
         if place.position != 0 {
             return self.block_bytes(place);
@@ -110,7 +116,8 @@ impl<'m> Storage<'m> {
         requires inside { place.position ≢ 0 }
         requires size { length bytes.now ≡ size_of (description_view place.description.now) }
         ensures answer { (w : World) → Answered (λ _. tt) result (with_storage self.old w) (with_storage self.new w)
-            (parts_stored (place_view place.entry) (values_of (description_view place.entry.description.now) bytes.now) (with_storage self.old w)) }
+            (parts_stored (place_view place.entry) (values_of
+            (description_view place.entry.description.now) bytes.now) (with_storage self.old w)) }
         ensures err { OnErr result (SameStorage self.old self.new) }
     {
         let at = self.block_part(place)?;
@@ -129,7 +136,8 @@ impl<'m> Storage<'m> {
     fn put_part_bytes(&mut self, place: Place<'_>, bytes: &[u8]) -> Result<(), StoreFault>
         requires { length bytes.now ≡ size_of (description_view place.description.now) }
         ensures answer { (w : World) → Answered (λ _. tt) result (with_storage self.old w) (with_storage self.new w)
-            (parts_stored (place_view place.entry) (values_of (description_view place.entry.description.now) bytes.now) (with_storage self.old w)) }
+            (parts_stored (place_view place.entry) (values_of
+            (description_view place.entry.description.now) bytes.now) (with_storage self.old w)) }
         ensures err { OnErr result (SameStorage self.old self.new) }
     {
         if place.position != 0 {

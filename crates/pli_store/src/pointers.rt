@@ -34,7 +34,8 @@ fn pointer_of(bytes: &[u8]) -> Locator
 /// does.
 #[inline]
 pub fn pointer_at(bytes: &[u8], offset: usize) -> Option<Locator>
-    ensures { IfSome result (λ l. value_in bytes.now (record { offset = offset; description = tree.Pointer }) ≡ Located l) }
+    ensures { IfSome result (λ l. value_in bytes.now (record { offset = offset; description = tree.Pointer })
+        ≡ Located l) }
 {
     if offset > bytes.len() {
         return None;
@@ -72,7 +73,8 @@ fn put_numbers(bytes: &mut [u8], first: u32, second: u32)
     BigEndian::write_u32(&mut bytes[4..], second);
 }
 
-/// A pointer put where a scalar of POINTER lies; where the bytes end before it does, and for an offset, nothing changes.
+/// A pointer put where a scalar of POINTER lies; where the bytes end before it does, and for an offset, nothing
+/// changes.
 #[inline]
 pub fn put_pointer_at(bytes: &mut [u8], offset: usize, locator: Locator) -> bool
     ensures put { PutOrSame result tree.Pointer (Located locator) offset bytes.old bytes.new }

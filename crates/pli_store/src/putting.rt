@@ -50,7 +50,8 @@ pub fn put_number(
     number: i64,
 ) -> bool
     requires { PartStands (map generation_view generations.old.items) part (FixedBinary precision) }
-    ensures { ValuesPutOrSame result (map generation_view generations.old.items) (map generation_view generations.new.items)
+    ensures { ValuesPutOrSame result (map generation_view generations.old.items)
+        (map generation_view generations.new.items)
         part (FixedBinary precision) (Number number ∷ []) }
 {
     let generation = &mut generations[part.at];
@@ -61,7 +62,8 @@ pub fn put_number(
 #[inline(always)]
 pub fn put_bit(generations: &mut Vec<Generation<'_>>, part: GenerationPart, bit: bool) -> bool
     requires { PartStands (map generation_view generations.old.items) part (Bit 1) }
-    ensures { ValuesPutOrSame result (map generation_view generations.old.items) (map generation_view generations.new.items)
+    ensures { ValuesPutOrSame result (map generation_view generations.old.items)
+        (map generation_view generations.new.items)
         part (Bit 1) (Bits (bit ∷ []) ∷ []) }
 {
     let generation = &mut generations[part.at];
@@ -77,15 +79,16 @@ pub fn put_pointer(
 ) -> bool
     requires { PartStands (map generation_view generations.old.items) part Pointer }
     ensures held { result ≡ true → holds Pointer (Located locator) ≡ true }
-    ensures put { ValuesPutOrSame result (map generation_view generations.old.items) (map generation_view generations.new.items)
+    ensures put { ValuesPutOrSame result (map generation_view generations.old.items)
+        (map generation_view generations.new.items)
         part Pointer (Located locator ∷ []) }
 {
     let generation = &mut generations[part.at];
     put_pointer_at(&mut generation.bytes, part.offset, locator)
 }
 
-/// Puts characters behind those of a string of CHARACTER VARYING of so many at most, where both are no more than that and
-/// than the room.
+/// Puts characters behind those of a string of CHARACTER VARYING of so many at most, where both are no more than that
+/// and than the room.
 #[inline]
 pub fn lengthen(
     generations: &mut Vec<Generation<'_>>,
@@ -95,7 +98,8 @@ pub fn lengthen(
     room: usize,
 ) -> bool
     requires { PartStands (map generation_view generations.old.items) part (Varying greatest) }
-    ensures { LengthenedOrSame result (map generation_view generations.old.items) (map generation_view generations.new.items)
+    ensures { LengthenedOrSame result (map generation_view generations.old.items)
+        (map generation_view generations.new.items)
         part greatest more.now room }
 {
     let generation = &mut generations[part.at];

@@ -1,5 +1,6 @@
 //! Storage: the generations that live.
-ghost use Rattle.std.specs.Prelude.{◌≡◌, ◌≤◌, ◌++◌, List, ◌∷◌, [], length, map, true, false, None, IfOk, IfSome, MatchOption, MatchResult, OnErr};
+ghost use Rattle.std.specs.Prelude.{◌≡◌, ◌≤◌, ◌++◌, List, ◌∷◌, [], length, map, true, false, None, IfOk, IfSome};
+ghost use Rattle.std.specs.Prelude.{MatchOption, MatchResult, OnErr};
 ghost use Rattle.std.specs.Option.{option_map};
 ghost use Rattle.pli_bytes.specs.Contents.{values_of};
 ghost use Rattle.pli_map.specs.Description.{FixedBinary, Pointer};
@@ -61,7 +62,9 @@ pub struct Storage<'m> {
 }
 
 impl<'m> Storage<'m> {
-    ghost use Rattle.pli_store.specs.views.StorageView.{place_view, target_view, storage_view, made_count, with_storage, NumberPut, ValuePut, Appended, RoomFor, SameStorage};
+    ghost use Rattle.pli_store.specs.views.StorageView.{place_view, target_view, storage_view, made_count};
+    ghost use Rattle.pli_store.specs.views.StorageView.{with_storage, NumberPut, ValuePut, Appended, RoomFor};
+    ghost use Rattle.pli_store.specs.views.StorageView.{SameStorage};
 
     /// Storage in which nothing lives, before anything was made.
     pub fn new(alloc: Global) -> Storage<'m>
@@ -164,7 +167,8 @@ impl<'m> Storage<'m> {
     /// is needed then.
     #[inline(always)]
     fn lone(&self, place: Place<'_>) -> Option<usize>
-        ensures { IfSome result (λ at. LeadsTo (storage_view self.now) (place_view place.entry) (record { at = at; offset = 0 })) }
+        ensures { IfSome result (λ at. LeadsTo (storage_view self.now) (place_view place.entry)
+            (record { at = at; offset = 0 })) }
     {
         let at = place.hint as usize;
         let generation = self.generations.get(at)?;
@@ -488,7 +492,8 @@ impl<'m> Storage<'m> {
     #[inline(always)]
     fn size_within(&self, description: &Description) -> Option<usize>
         ensures { MatchOption result (RoomFor false self.now (description_view description.now))
-            (λ size. (size ≡ size_of (description_view description.now)) × RoomFor true self.now (description_view description.now)) }
+            (λ size. (size ≡ size_of (description_view description.now))
+            × RoomFor true self.now (description_view description.now)) }
     {
         let size = far_size(description);
         let room = u64::from(BYTE_LIMIT - self.live);
@@ -540,9 +545,9 @@ impl<'m> Storage<'m> {
         }
     }
 
-    /// A new generation, which begins with a copy of these bytes, an area without blocks. `StorageLimit` where there is no
-    /// room for it, or `OutOfMemory`. After an error nothing has changed. Takes memory only where none is left of those
-    /// that have ended.
+    /// A new generation, which begins with a copy of these bytes, an area without blocks. `StorageLimit` where there is
+    /// no room for it, or `OutOfMemory`. After an error nothing has changed. Takes memory only where none is left of
+    /// those that have ended.
     #[inline]
     pub fn make_copy(
         &mut self,
@@ -552,7 +557,8 @@ impl<'m> Storage<'m> {
         bytes: &[u8],
     ) -> Result<Place<'m>, StoreFault>
         requires { length bytes.now ≡ size_of (description_view description.now) }
-        ensures answer { (w : World) (vs : List plain.Value) → BeginsWith (description_view description.now) bytes.now vs
+        ensures answer { (w : World) (vs : List plain.Value) →
+            BeginsWith (description_view description.now) bytes.now vs
             → Answered place_view result (with_storage self.old w) (with_storage self.new w)
             (made_of (description_view description.now) (made_view made) vs (with_storage self.old w)) }
         ensures err { OnErr result (SameStorage self.old self.new) }
@@ -604,9 +610,11 @@ impl<'m> Storage<'m> {
     ) -> Result<Place<'m>, StoreFault>
         requires room { RoomFor true self.old (description_view description.now) }
         requires size { length bytes.items ≡ size_of (description_view description.now) }
-        ensures answer { (w : World) → are_held (scalars_of (description_view description.now)) (values_of (description_view description.now) bytes.items) ≡ true
+        ensures answer { (w : World) → are_held (scalars_of (description_view description.now))
+            (values_of (description_view description.now) bytes.items) ≡ true
             → Answered place_view result (with_storage self.old w) (with_storage self.new w)
-            (made_of (description_view description.now) (made_view made) (values_of (description_view description.now) bytes.items)
+            (made_of (description_view description.now) (made_view made)
+            (values_of (description_view description.now) bytes.items)
             (with_storage self.old w)) }
         ensures err { OnErr result (SameStorage self.old self.new) }
     {

@@ -21,7 +21,8 @@ pub fn prefix_value(
     operator: PrefixOperator,
     operand: TypedValue,
 ) -> Result<Option<TypedValue>, AllocError>
-    ensures { IfOk result (λ given. option_map value_view given ≡ spec.prefix_value greatest operator (value_view operand)) }
+    ensures { IfOk result (λ given. option_map value_view given
+        ≡ spec.prefix_value greatest operator (value_view operand)) }
 {
     let kind = operand.kind;
     let operation = match (operator, kind, kind.precision(greatest)) {
@@ -181,7 +182,8 @@ fn compared(
     right: TypedValue,
 ) -> Result<Option<TypedValue>, AllocError>
     ensures { IfOk result (λ given. option_map value_view given
-        ≡ spec.compared greatest relation (value_view left) (value_view right) (spec.string_type left.kind right.kind)) }
+        ≡ spec.compared greatest relation (value_view left) (value_view right)
+        (spec.string_type left.kind right.kind)) }
 {
     let expression = match (
         left.kind.beside(right.kind),
@@ -226,7 +228,8 @@ fn concatenation(
     left: TypedValue,
     right: TypedValue,
 ) -> Result<Option<TypedValue>, AllocError>
-    ensures { IfOk result (λ given. option_map value_view given ≡ spec.concatenation (value_view left) (value_view right)) }
+    ensures { IfOk result (λ given. option_map value_view given
+        ≡ spec.concatenation (value_view left) (value_view right)) }
 {
     match left.kind.beside(right.kind) {
         None => Ok(refused(left, right)),

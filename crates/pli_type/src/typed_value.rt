@@ -24,7 +24,8 @@ pub(crate) fn with_one(
     operation: TypedOperation,
     operand: TypedExpression,
 ) -> Result<TypedExpression, AllocError>
-    ensures { IfOk result (λ made. expression_view made ≡ spec.with_one (operation_view operation) (expression_view operand)) }
+    ensures { IfOk result (λ made. expression_view made ≡ spec.with_one (operation_view operation)
+        (expression_view operand)) }
 {
     match vec![in alloc; operand] {
         Ok(operands) => Ok(TypedExpression::Calculated {

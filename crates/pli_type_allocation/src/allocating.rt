@@ -71,7 +71,8 @@ fn placed_within(
     temporary: usize,
     locator: LocatorVariable,
 ) -> AllocatedItem
-    ensures { allocated_view result ≡ spec.placed_within area (template_view template) temporary (variable_view locator) }
+    ensures { allocated_view result ≡ spec.placed_within area (template_view template) temporary
+        (variable_view locator) }
 {
     match locator.area {
         None => AllocatedItem::InArea {
@@ -119,7 +120,8 @@ fn placed_in(
     locator: LocatorVariable,
 ) -> Option<AllocatedItem>
     ensures { option_map allocated_view result
-        ≡ spec.placed_in (option_map referent_view area.entry) (template_view template) temporary (variable_view locator) }
+        ≡ spec.placed_in (option_map referent_view area.entry) (template_view template) temporary
+        (variable_view locator) }
 {
     let Some(area) = area else {
         return Some(placed_freely(alloc, template, temporary, locator));
@@ -145,7 +147,8 @@ fn placed_by(
     locator: Option<LocatorVariable>,
 ) -> Option<AllocatedItem>
     ensures { option_map allocated_view result
-        ≡ spec.placed_by temporary (option_map referent_view area.entry) (option_map template_view template) (option_map variable_view locator) }
+        ≡ spec.placed_by temporary (option_map referent_view area.entry) (option_map template_view template)
+        (option_map variable_view locator) }
 {
     let Some(template) = template else {
         drop(area);
@@ -168,7 +171,8 @@ fn stacked(
     target: Option<Referent<'_>>,
 ) -> Option<AllocatedItem>
     ensures { (n : names.Naming) → (temporary : ℕ) → (is_parameter : Bool) → option_map allocated_view result
-        ≡ spec.taken_in n temporary (names.Begins (root_at begins) is_parameter) [] (option_map referent_view area.entry) (option_map referent_view target.entry) }
+        ≡ spec.taken_in n temporary (names.Begins (root_at begins) is_parameter) []
+        (option_map referent_view area.entry) (option_map referent_view target.entry) }
 {
     if area.is_some() || target.is_some() {
         drop(area);
@@ -192,7 +196,8 @@ fn taken_in(
     target: Option<Referent<'_>>,
 ) -> Result<Option<AllocatedItem>, AllocError>
     requires { (block : ℕ) → based_at templates.now block ≡ (naming_in naming.now).based block }
-    ensures { (w : names.NamedVariable) → IsVariable variable.entry w → IfOk result (λ made. option_map allocated_view made
+    ensures { (w : names.NamedVariable) → IsVariable variable.entry w →
+        IfOk result (λ made. option_map allocated_view made
         ≡ spec.taken_in (naming_in naming.now) temporary w.storage w.path (option_map referent_view area.entry)
         (option_map referent_view target.entry)) }
 {
@@ -234,7 +239,8 @@ fn taken(
 ) -> Result<Option<AllocatedItem>, AllocError>
     requires { (block : ℕ) → based_at templates.now block ≡ (naming_in naming.now).based block }
     ensures { IfOk result (λ made. option_map allocated_view made
-        ≡ spec.taken (naming_in naming.now) temporary ((naming_in naming.now).meaning at) (option_map referent_view area.entry)
+        ≡ spec.taken (naming_in naming.now) temporary ((naming_in naming.now).meaning at)
+        (option_map referent_view area.entry)
         (option_map referent_view target.entry)) }
 {
     match naming.meaning(at) {

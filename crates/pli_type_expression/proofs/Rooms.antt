@@ -1,5 +1,5 @@
 -- What types have room for.
-use Rattle.std.proofs.Common.{◌≡◌, ℕ, ◌-◌, ◌^◌, ◌<◌, ◌≤◌, min, List, length, take, arith}
+use Rattle.std.proofs.Common.{◌≡◌, ℕ, ◌^◌, ◌<◌, ◌≤◌, min, List, length, take, arith}
 use Rattle.std.proofs.lemmas.List.{length-take, take_min}
 use Rattle.std.proofs.Math.Nat.{pow-le-pow_right}
 use Rattle.pli_type_tree.specs.ValueTypes.{longest}
@@ -7,10 +7,6 @@ use Rattle.pli_type_tree.specs.ValueTypes.{longest}
 -- so many digits have a power within 64 bits
 pub few_digits : (digits : ℕ) → digits ≤ 63 → 2 ^ digits < 2 ^ 64
 few_digits digits few = omega (arith, pow-le-pow_right {n = 2} (omega arith) {i = digits} {j = 63} few)
-
--- and a number within them is one of 64 bits with its sign
-pub few_numbers : (digits value : ℕ) → digits ≤ 63 → min value (2 ^ digits - 1) ≤ 9223372036854775807
-few_numbers digits value few = omega (arith, pow-le-pow_right {n = 2} (omega arith) {i = digits} {j = 63} few)
 
 -- the front of a string
 pub front_taken : {A : Type 0} (xs : List A) → take (min longest (length xs)) xs ≡ take longest xs

@@ -16,7 +16,7 @@ use std::alloc::{AllocError, Global};
 const STRING_LIMIT: usize = 32_767;
 
 /// A number, as far as so many binary digits have room for it.
-#[tactic(auto, using(crate::proofs::Rooms::few_digits, crate::proofs::Rooms::few_numbers))]
+#[tactic(auto, using(crate::proofs::Rooms::few_digits))]
 fn within(precision: u8, value: u64) -> u64
     requires { precision ≤ 63 }
     ensures value { result ≡ spec.within precision value }

@@ -8,7 +8,8 @@ ghost use Rattle.pli_type_expression.specs.Operated as operated;
 ghost use Rattle.pli_type_expression.specs.Segments.{next_segment, last_segment, function_typed};
 ghost use Rattle.pli_type_names.specs.UnitNaming.{naming_in};
 ghost use Rattle.pli_base.specs.answers.FailureAnswers.{Gives};
-ghost use Rattle.pli_type_expression.specs.views.TypingView.{argument_view, denoted_view, locator_view, meant_view, role_view, segment_view};
+ghost use Rattle.pli_type_expression.specs.views.TypingView.{argument_view, denoted_view, locator_view, meant_view};
+ghost use Rattle.pli_type_expression.specs.views.TypingView.{role_view, segment_view};
 ghost use Rattle.pli_type_tree.specs.views.TypedView.{expression_view};
 
 use crate::answer::TypeError;
@@ -40,7 +41,8 @@ pub fn meant<'a>(
     role: Role,
     expression: &Expression,
 ) -> Result<ExpressionMeaning<'a>, TypeError>
-    ensures { Gives meant_view result (typing.meant (naming_in naming.now) (role_view role) (syntax.expression_view expression.now)) }
+    ensures { Gives meant_view result (typing.meant (naming_in naming.now) (role_view role)
+        (syntax.expression_view expression.now)) }
 {
     let denoted = denoted(alloc, naming, role, expression)?;
     Ok(denoted.as_expression())
@@ -101,7 +103,8 @@ pub fn denoted<'a>(
     role: Role,
     expression: &Expression,
 ) -> Result<Denoted<'a>, TypeError>
-    ensures { Gives denoted_view result (typing.denoted (naming_in naming.now) (role_view role) (syntax.expression_view expression.now)) }
+    ensures { Gives denoted_view result (typing.denoted (naming_in naming.now) (role_view role)
+        (syntax.expression_view expression.now)) }
 {
     match expression {
         Expression::Reference(reference) => referred(alloc, naming, role, reference),
@@ -155,15 +158,16 @@ fn prefixed<'a>(
     at: u32,
     operand: &Expression,
 ) -> Result<Denoted<'a>, TypeError>
-    ensures { Gives denoted_view result (operated.prefixed (naming_in naming.now) operator at (syntax.expression_view operand.now)) }
+    ensures { Gives denoted_view result (operated.prefixed (naming_in naming.now) operator at
+        (syntax.expression_view operand.now)) }
 {
     let value = value_of(alloc, naming, operand)?;
     prefix_denoted(alloc, greatest(naming), operator, at, value)
 }
 
-/// What an infix operator makes of its operands, where a value is wanted. Operators nest a thousand deep there, so a level
-/// of them is this function and `value_of` alone. `denoted` has the same steps: with two callers `infix`, whose work takes
-/// much stack, is a call of its own to either compiler.
+/// What an infix operator makes of its operands, where a value is wanted. Operators nest a thousand deep there, so a
+/// level of them is this function and `value_of` alone. `denoted` has the same steps: with two callers `infix`, whose
+/// work takes much stack, is a call of its own to either compiler.
 #[cycle(typed)]
 #[inline(never)]
 fn infixed(
@@ -175,7 +179,8 @@ fn infixed(
     right: &Expression,
 ) -> Result<TypedValue, TypeError>
     ensures { Gives value_view result
-        (operated.infixed (naming_in naming.now) operator at (syntax.expression_view left.now) (syntax.expression_view right.now)) }
+        (operated.infixed (naming_in naming.now) operator at (syntax.expression_view left.now)
+        (syntax.expression_view right.now)) }
 {
     let first = value_of(alloc, naming, left)?;
     match value_of(alloc, naming, right) {
@@ -196,7 +201,8 @@ pub fn referred<'a>(
     role: Role,
     reference: &Reference,
 ) -> Result<Denoted<'a>, TypeError>
-    ensures { Gives denoted_view result (typing.referred (naming_in naming.now) (role_view role) (syntax.reference_view reference.now)) }
+    ensures { Gives denoted_view result (typing.referred (naming_in naming.now) (role_view role)
+        (syntax.reference_view reference.now)) }
 {
     let joined = reference.joined.as_slice();
     let call = is_call(role, joined);
@@ -220,7 +226,8 @@ fn continued(
     joined: &[JoinedPart],
 ) -> Result<Segment, TypeError>
     ensures { Gives (segment_view (naming_in naming.now)) result
-        (last_segment (naming_in naming.now) (segment_view (naming_in naming.now) first) (syntax.joined_view joined.now)) }
+        (last_segment (naming_in naming.now) (segment_view (naming_in naming.now) first)
+        (syntax.joined_view joined.now)) }
 {
     let mut segment = first;
     for part in joined {
@@ -238,7 +245,8 @@ fn with_part(
     joined: &JoinedPart,
 ) -> Result<Segment, TypeError>
     ensures { Gives (segment_view (naming_in naming.now)) result
-        (next_segment (naming_in naming.now) (segment_view (naming_in naming.now) segment) joined.now.joining joined.now.part.name
+        (next_segment (naming_in naming.now) (segment_view (naming_in naming.now) segment) joined.now.joining
+        joined.now.part.name
         (syntax.arguments_view joined.now.part.arguments)) }
 {
     match joined.joining {
@@ -271,7 +279,8 @@ fn begun(
     part: &Part,
 ) -> Result<Segment, TypeError>
     ensures { Gives (segment_view (naming_in naming.now)) result
-        (typing.begun (naming_in naming.now) ((naming_in naming.now).meaning part.now.name.at) call (locator_view locator) part.now.name.at
+        (typing.begun (naming_in naming.now) ((naming_in naming.now).meaning part.now.name.at) call
+        (locator_view locator) part.now.name.at
         (syntax.arguments_view part.now.arguments)) }
 {
     let at = part.name.at;
@@ -292,7 +301,8 @@ fn begun_with(
     list: &[Expression],
 ) -> Result<Segment, TypeError>
     ensures { Gives (segment_view (naming_in naming.now)) result
-        (typing.begun (naming_in naming.now) ((naming_in naming.now).meaning at) call (locator_view locator) at (Given (syntax.expressions_view list.now))) }
+        (typing.begun (naming_in naming.now) ((naming_in naming.now).meaning at) call (locator_view locator) at
+        (Given (syntax.expressions_view list.now))) }
 {
     match naming.meaning(at) {
         NamedAs::Variable(_) => {
@@ -334,7 +344,8 @@ fn called(
     at: u32,
     list: &[Expression],
 ) -> Result<TypedValue, TypeError>
-    ensures { Gives value_view result (function_typed (naming_in naming.now) function at (syntax.expressions_view list.now)) }
+    ensures { Gives value_view result (function_typed (naming_in naming.now) function at
+        (syntax.expressions_view list.now)) }
 {
     let Some(roles) = roles_of(function, list.len()) else {
         all_arguments(alloc, naming, &[], list)?;

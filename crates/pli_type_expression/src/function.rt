@@ -90,7 +90,8 @@ fn of_values(
     function: BuiltInFunction,
     values: Vec<TypedValue>,
 ) -> Result<Option<TypedValue>, AllocError>
-    ensures { IfOk result (λ given. option_map value_view given ≡ spec.of_values greatest function (map value_view values.items)) }
+    ensures { IfOk result (λ given. option_map value_view given
+        ≡ spec.of_values greatest function (map value_view values.items)) }
 {
     let mut kinds = Vec::new(alloc);
     let mut operands = Vec::new(alloc);
@@ -108,7 +109,8 @@ fn quotient_of(
     values: Vec<TypedValue>,
     written: Option<u64>,
 ) -> Result<Option<TypedValue>, AllocError>
-    ensures { IfOk result (λ given. option_map value_view given ≡ quotient_of greatest (map value_view values.items) written) }
+    ensures { IfOk result (λ given. option_map value_view given
+        ≡ quotient_of greatest (map value_view values.items) written) }
 {
     let mut values = values.into_iter();
     let Some(left) = values.next() else {

@@ -51,7 +51,8 @@ impl LocatorVariable {
 /// A variable or a part of one that leads to BASED ones; none of what is no POINTER, and no OFFSET that names an area.
 pub fn locator_at(referent: Referent<'_>) -> Option<LocatorVariable>
     ensures { option_map variable_view result
-        ≡ locator_at (reference_view referent.entry.reference) (description_view referent.entry.description.now) referent.entry.area }
+        ≡ locator_at (reference_view referent.entry.reference)
+        (description_view referent.entry.description.now) referent.entry.area }
 {
     match (referent.description, referent.area) {
         (Description::Pointer, _) => Some(LocatorVariable {
@@ -151,7 +152,8 @@ pub(crate) fn root_by(
     locator: LocatorBefore,
 ) -> Result<Option<Box<Root>>, AllocError>
     ensures { IfOk result (λ made. option_map (λ r. root_view r.value) made
-        ≡ root_by (storage_view variable.entry.storage) (description_view variable.entry.whole.now) (locator_view locator)) }
+        ≡ root_by (storage_view variable.entry.storage) (description_view variable.entry.whole.now)
+        (locator_view locator)) }
 {
     match (variable.storage, locator) {
         (NamedStorage::Begins { begins, .. }, LocatorBefore::NotLocated) => begun_root(

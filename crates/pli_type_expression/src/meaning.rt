@@ -87,7 +87,8 @@ impl<'a> Denoted<'a> {
 impl<'a> ExpressionMeaning<'a> {
     /// The one value that an expression is: an aggregate in its place is T2 at the expression's first token.
     pub fn one_value(self, expression: &Expression) -> Result<TypedValue, TypeError>
-        ensures { Gives value_view result (one_value (first_token (expression_view expression.now)) (meant_view self.entry)) }
+        ensures { Gives value_view result (one_value (first_token (expression_view expression.now))
+            (meant_view self.entry)) }
     {
         match self {
             ExpressionMeaning::Value(value) => Ok(value),

@@ -23,7 +23,8 @@ fn prefix(
     at: u32,
     operand: TypedValue,
 ) -> Result<TypedValue, TypeError>
-    ensures { Gives value_view result (or_fault WrongOperandType at (spec.prefix_value greatest operator (value_view operand))) }
+    ensures { Gives value_view result (or_fault WrongOperandType at
+        (spec.prefix_value greatest operator (value_view operand))) }
 {
     match prefix_value(alloc, greatest, operator, operand)? {
         Some(value) => Ok(value),

@@ -7,7 +7,8 @@ ghost use Rattle.pli_type.specs.ProcedureCalls as spec;
 ghost use Rattle.pli_type.specs.Typing as typing;
 ghost use Rattle.pli_type.specs.views.ValueView.{value_view};
 ghost use Rattle.pli_base.specs.answers.FailureAnswers.{Gives};
-ghost use Rattle.pli_type_expression.specs.views.TypingView.{argument_view, denoted_view, meant_view, referent_view, segment_view};
+ghost use Rattle.pli_type_expression.specs.views.TypingView.{argument_view, denoted_view, meant_view, referent_view};
+ghost use Rattle.pli_type_expression.specs.views.TypingView.{segment_view};
 ghost use Rattle.pli_type_names.specs.SymbolMeaning.{IsProcedure};
 ghost use Rattle.pli_type_names.specs.UnitNaming.{naming_in};
 ghost use Rattle.pli_type_tree.specs.TypedTree as tree;
@@ -65,7 +66,8 @@ fn handed(
     ensures { IfOk result (λ passed. (more : tree.TypedArguments) → option_map (λ a. argument_before a more) passed
         ≡ spec.passed (description_view description.now)
         (spec.place_of (reference_view referent.entry.reference) (description_view referent.entry.description.now))
-        (spec.passed_value greatest (description_view description.now) (meant_by (referent_view referent.entry))) more) }
+        (spec.passed_value greatest (description_view description.now) (meant_by (referent_view referent.entry)))
+        more) }
 {
     if !is_area(referent.description) {
         return Ok(Some(TypedArgument::ByPlace(referent.reference)));
@@ -123,7 +125,8 @@ fn all_passed(
 ) -> Result<Option<Vec<TypedArgument>>, AllocError>
     requires { length arguments.items ≡ length parameters.now }
     ensures { IfOk result (λ all. option_map (λ v. arguments_view v.items) all
-        ≡ spec.all_passed greatest (map (λ d. description_view d.now) parameters.now) (map argument_view arguments.entry.items)) }
+        ≡ spec.all_passed greatest (map (λ d. description_view d.now) parameters.now)
+        (map argument_view arguments.entry.items)) }
 {
     let mut made = Vec::new(alloc);
     for (description, argument) in parameters.iter().zip(arguments) {
@@ -144,7 +147,8 @@ pub fn pass(
     at: u32,
     arguments: Vec<Argument<'_>>,
 ) -> Result<Vec<TypedArgument>, TypeError>
-    ensures { (named : names.NamedProcedure) → IsProcedure procedure.entry named → Gives (λ v. arguments_view v.items) result
+    ensures { (named : names.NamedProcedure) → IsProcedure procedure.entry named →
+        Gives (λ v. arguments_view v.items) result
         (spec.arguments_passed greatest named at (map argument_view arguments.entry.items)) }
 {
     if arguments.len() != procedure.parameters.len() {

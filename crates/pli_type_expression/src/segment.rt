@@ -5,7 +5,8 @@ ghost use Rattle.pli_base.specs.views.SyntaxView.{joined_view};
 ghost use Rattle.pli_type.specs.Names as names;
 ghost use Rattle.pli_type.specs.Typing as typing;
 ghost use Rattle.pli_base.specs.answers.FailureAnswers.{Gives};
-ghost use Rattle.pli_type_expression.specs.views.TypingView.{denoted_view, locator_view, of_name, role_view, segment_view};
+ghost use Rattle.pli_type_expression.specs.views.TypingView.{denoted_view, locator_view, of_name, role_view};
+ghost use Rattle.pli_type_expression.specs.views.TypingView.{segment_view};
 ghost use Rattle.pli_type.specs.views.ValueView.{value_view};
 ghost use Rattle.pli_type_expression.specs.Segments.{is_empty_function, is_null_function, means_one};
 ghost use Rattle.pli_type_names.specs.UnitNaming.{naming_in};
@@ -86,7 +87,8 @@ pub(crate) fn begun_alone(
     at: u32,
 ) -> Segment
     ensures { Ok (segment_view (naming_in naming.now) result)
-        ≡ typing.begun (naming_in naming.now) ((naming_in naming.now).meaning at) call (locator_view locator) at Absent }
+        ≡ typing.begun (naming_in naming.now) ((naming_in naming.now).meaning at) call
+        (locator_view locator) at Absent }
 {
     if !call {
         return Segment::named(alloc, locator, at);

@@ -8,7 +8,8 @@ ghost use Rattle.pli_type_names.specs.SymbolMeaning.{IsVariable, is_way};
 ghost use Rattle.pli_type_names.specs.views.NameView.{part_view};
 ghost use Rattle.pli_map.specs.views.DescriptionView.{description_view};
 ghost use Rattle.pli_type_tree.specs.TypedTree.{Part};
-ghost use Rattle.pli_type_tree.specs.views.TypedView.{expression_view, reference_view, root_view, stride_view, subscripts_view};
+ghost use Rattle.pli_type_tree.specs.views.TypedView.{expression_view, reference_view, root_view, stride_view};
+ghost use Rattle.pli_type_tree.specs.views.TypedView.{subscripts_view};
 
 use crate::answer::TypeError;
 use crate::locator::{LocatorBefore, root_by};
@@ -132,7 +133,8 @@ pub(crate) fn variable_meant<'a>(
     subscripts: Vec<TypedExpression>,
 ) -> Result<Referent<'a>, TypeError>
     ensures { (named : names.NamedVariable) → IsVariable variable.entry named
-        → Gives referent_view result (spec.variable_meant (role_view role) (locator_view locator) at named (map expression_view subscripts.items)) }
+        → Gives referent_view result (spec.variable_meant (role_view role) (locator_view locator) at named
+        (map expression_view subscripts.items)) }
 {
     let Some(whole) = variable.part else {
         return Err(fault(Code::WrongNumberOfSubscripts, at));

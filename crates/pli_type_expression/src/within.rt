@@ -53,7 +53,8 @@ fn located_of(
     values: Vec<TypedValue>,
     area: Option<Beginning>,
 ) -> Result<Option<TypedValue>, AllocError>
-    ensures { IfOk result (λ given. option_map value_view given ≡ located_of function (map value_view values.items) area) }
+    ensures { IfOk result (λ given. option_map value_view given
+        ≡ located_of function (map value_view values.items) area) }
 {
     let mut values = values.into_iter();
     let Some(value) = values.next() else {

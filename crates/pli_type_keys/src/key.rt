@@ -129,7 +129,8 @@ impl Eq for TemplateKey<'_> {
 impl Hash for TemplateKey<'_> {
     ghost hash_input = { λ k. fed.u64 (digest_of_template (templated k)) };
 
-    ghost respects_eq = { λ x y e. ap (λ t. fed.u64 (digest_of_template t)) ((template_decides (templated x) (templated y)).0 e) };
+    ghost respects_eq = { λ x y e. ap (λ t. fed.u64 (digest_of_template t))
+        ((template_decides (templated x) (templated y)).0 e) };
 
     fn hash<H: Hasher>(&self, state: &mut H) {
         state.write_u64(digest_of_initial(digest_of(self.description), self.initial));

@@ -31,11 +31,13 @@ pub fn blocks_are_of_tree()
 /// A law: the statements of a unit that is read are numbered in the order of the text.
 #[tactic(auto, using(crate::proofs::NumberingHolds::units_are_numbered))]
 pub fn statements_are_numbered()
-    ensures { (texts : Tokens) (u : ExternalProcedure) → unit_of texts ≡ Ok u → (from : ℕ) × AreNumbered from u.statements }
+    ensures { (texts : Tokens) (u : ExternalProcedure) → unit_of texts ≡ Ok u →
+        (from : ℕ) × AreNumbered from u.statements }
 {}
 
 /// A law: the statements of a unit that is read nest within the limit, and a procedure stands directly in the list of a
 /// block.
 pub fn statements_nest()
-    ensures { (texts : Tokens) (u : ExternalProcedure) → unit_of texts ≡ Ok u → Deeper (λ m. ListNests true m u.statements) nesting_limit }
+    ensures { (texts : Tokens) (u : ExternalProcedure) → unit_of texts ≡ Ok u →
+        Deeper (λ m. ListNests true m u.statements) nesting_limit }
 {}

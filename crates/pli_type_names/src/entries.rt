@@ -88,7 +88,8 @@ pub(crate) fn parameters_at<'n, 'a>(
     block: usize,
 ) -> &'n [&'a Description]
     requires { length none.now ≡ 0 }
-    ensures { map (λ d. description_view d.now) result.now ≡ parameters_in (slice_get (map entry_view entries.now) block) }
+    ensures { map (λ d. description_view d.now) result.now ≡ parameters_in
+        (slice_get (map entry_view entries.now) block) }
 {
     let Some(entry) = entries.get(block) else {
         return none;
@@ -98,7 +99,8 @@ pub(crate) fn parameters_at<'n, 'a>(
 
 /// What the block of this number gives, if there is one and it is that of a function.
 pub(crate) fn returned_at<'a>(entries: &[BlockEntry<'a>], block: usize) -> Option<&'a Description>
-    ensures { option_map (λ d. description_view d.now) result ≡ returned_in (slice_get (map entry_view entries.now) block) }
+    ensures { option_map (λ d. description_view d.now) result
+        ≡ returned_in (slice_get (map entry_view entries.now) block) }
 {
     let Some(entry) = entries.get(block) else {
         return None;

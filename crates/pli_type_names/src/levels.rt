@@ -36,7 +36,8 @@ fn member<'a>(
     level: &mut StructureLevel<'a>,
     number: usize,
 ) -> Result<Option<StridedPart<'a>>, AllocError>
-    requires { description_view level.old.element.description.now ≡ Structure (members_view level.old.passed.members.now.items) }
+    requires { description_view level.old.element.description.now
+        ≡ Structure (members_view level.old.passed.members.now.items) }
     ensures same { IfOk result (λ _. SameStructure level.new level.old) }
     ensures part { IfOk result (λ part. option_map part_view part ≡ option_map (placed_in (part_view level.old.element))
         (member_behind 0 (members_view level.old.passed.members.now.items) number)) }
@@ -56,7 +57,8 @@ fn part_from_whole<'a>(
     root: usize,
     path: &[usize],
 ) -> Result<Option<StridedPart<'a>>, AllocError>
-    ensures { IfOk result (λ part. option_map part_view part ≡ part_in (map (option_map own_view) variables.now) root path.now) }
+    ensures { IfOk result (λ part. option_map part_view part
+        ≡ part_in (map (option_map own_view) variables.now) root path.now) }
 {
     let Some(variable) = variable_at(variables, root) else {
         return Ok(None);
@@ -74,7 +76,8 @@ fn part_behind<'a>(
     levels: &mut Vec<StructureLevel<'a>>,
 ) -> Result<Option<StridedPart<'a>>, AllocError>
     requires { All (IsLevel (map (option_map own_view) variables.now)) levels.old.items }
-    ensures part { IfOk result (λ part. option_map part_view part ≡ part_in (map (option_map own_view) variables.now) root path.now) }
+    ensures part { IfOk result (λ part. option_map part_view part
+        ≡ part_in (map (option_map own_view) variables.now) root path.now) }
     ensures levels { IfOk result (λ _. All (IsLevel (map (option_map own_view) variables.now)) levels.new.items) }
 {
     let Some((number, way)) = path.split_last() else {
@@ -99,7 +102,8 @@ fn note<'a>(
     part: &Option<StridedPart<'a>>,
     levels: &mut Vec<StructureLevel<'a>>,
 ) -> Result<(), AllocError>
-    ensures { IfOk result (λ _. (variables : List (Option spec.OwnVariable)) → option_map part_view part.now ≡ part_in variables root way.now
+    ensures { IfOk result (λ _. (variables : List (Option spec.OwnVariable)) →
+        option_map part_view part.now ≡ part_in variables root way.now
         → All (IsLevel variables) levels.old.items → All (IsLevel variables) levels.new.items) }
 {
     let Some(part) = part else {
@@ -128,7 +132,8 @@ pub(crate) fn part_on_way<'a>(
     levels: &mut Vec<StructureLevel<'a>>,
 ) -> Result<Option<StridedPart<'a>>, AllocError>
     requires { All (IsLevel (map (option_map own_view) variables.now)) levels.old.items }
-    ensures part { IfOk result (λ part. option_map part_view part ≡ part_in (map (option_map own_view) variables.now) root path.now) }
+    ensures part { IfOk result (λ part. option_map part_view part
+        ≡ part_in (map (option_map own_view) variables.now) root path.now) }
     ensures levels { IfOk result (λ _. All (IsLevel (map (option_map own_view) variables.now)) levels.new.items) }
 {
     let part = part_behind(alloc, variables, root, path, levels)?;

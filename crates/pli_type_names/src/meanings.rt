@@ -41,8 +41,8 @@ pub(crate) enum SymbolMeaning<'a> {
     },
     /// The procedure that is the block of this number.
     Procedure(usize),
-    /// The external procedure of the entry that has this number among the globals, with its parameters, what it gives if
-    /// it is a function, and the area that OFFSET in its RETURNS names.
+    /// The external procedure of the entry that has this number among the globals, with its parameters, what it gives
+    /// if it is a function, and the area that OFFSET in its RETURNS names.
     Entry {
         number: usize,
         parameters: Vec<&'a Description>,
@@ -90,7 +90,8 @@ fn meant_on_way<'a>(
     levels: &mut Vec<StructureLevel<'a>>,
 ) -> Result<SymbolMeaning<'a>, AllocError>
     requires { All (IsLevel (map (option_map own_view) variables.now)) levels.old.items }
-    ensures meaning { IfOk result (λ meant. meant_view meant ≡ on_way (get_or (map (option_map own_view) variables.now) root None) path.now area) }
+    ensures meaning { IfOk result (λ meant. meant_view meant
+        ≡ on_way (get_or (map (option_map own_view) variables.now) root None) path.now area) }
     ensures levels { IfOk result (λ _. All (IsLevel (map (option_map own_view) variables.now)) levels.new.items) }
 {
     let Some(variable) = variable_at(variables, root) else {
@@ -116,7 +117,8 @@ fn symbol_meaning<'a>(
     levels: &mut Vec<StructureLevel<'a>>,
 ) -> Result<SymbolMeaning<'a>, AllocError>
     requires { All (IsLevel (map (option_map own_view) variables.now)) levels.old.items }
-    ensures meaning { IfOk result (λ meant. meant_view meant ≡ kind_kept (map (option_map own_view) variables.now) number global (symbol_kind_view kind.entry)) }
+    ensures meaning { IfOk result (λ meant. meant_view meant
+        ≡ kind_kept (map (option_map own_view) variables.now) number global (symbol_kind_view kind.entry)) }
     ensures levels { IfOk result (λ _. All (IsLevel (map (option_map own_view) variables.now)) levels.new.items) }
 {
     match kind {
@@ -151,7 +153,12 @@ fn symbol_meanings<'a>(
 ) -> Result<Vec<SymbolMeaning<'a>>, AllocError>
     requires { globals.old ≤ length places.now }
     ensures meanings { IfOk result (λ meanings. map meant_view meanings.items
-        ≡ kept_symbols (record { parameters = parameters.now; places = places.now; globals = globals.old; symbols = map symbol_view symbols.now })) }
+        ≡ kept_symbols (record {
+          parameters = parameters.now;
+          places = places.now;
+          globals = globals.old;
+          symbols = map symbol_view symbols.now;
+        })) }
     ensures counted { IfOk result (λ _. globals.new
         ≡ globals.old + globals_before 63 (map symbol_view symbols.now) (length symbols.now)) }
 {
@@ -185,7 +192,8 @@ fn put_meanings<'r>(
           symbols = block_symbols (resolved_unit_of (unit_view resolved.now)) block;
         }) ∷ []) }
     ensures counted { OnOk result (globals.new ≡ globals.old
-        + globals_before 63 (block_symbols (resolved_unit_of (unit_view resolved.now)) block) (length (block_symbols (resolved_unit_of (unit_view resolved.now)) block))) }
+        + globals_before 63 (block_symbols (resolved_unit_of (unit_view resolved.now)) block)
+        (length (block_symbols (resolved_unit_of (unit_view resolved.now)) block))) }
 {
     let symbols = symbols(alloc, resolved, block)?;
     let parameters = parameter_numbers(resolved, block);

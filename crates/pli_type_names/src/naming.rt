@@ -201,7 +201,8 @@ impl<'a> Naming<'a> {
 
     /// What the symbol under a key means here.
     fn declared(&self, key: SymbolKey) -> NamedAs<'_, 'a>
-        ensures { answer_view result ≡ seen (declared_as 63 (resolved_unit_of (unit_view self.now.unit)) self.now.blocks key) }
+        ensures { answer_view result ≡ seen (declared_as 63 (resolved_unit_of (unit_view self.now.unit)) self.now.blocks
+            key) }
     {
         symbol_seen(&self.around, &self.entries, &self.meanings, key)
     }

@@ -60,7 +60,8 @@ fn put_block_tokens<'r>(
     block: usize,
     tokens: &mut Vec<usize>,
 ) -> Result<(), AllocError>
-    ensures { OnOk result (tokens.new.items ≡ tokens.old.items ++ global_tokens 63 (block_symbols (resolved_unit_of (unit_view resolved.now)) block)) }
+    ensures { OnOk result (tokens.new.items ≡ tokens.old.items
+        ++ global_tokens 63 (block_symbols (resolved_unit_of (unit_view resolved.now)) block)) }
 {
     let symbols = symbols(alloc, resolved, block)?;
     put_tokens(&symbols, tokens)
@@ -68,7 +69,8 @@ fn put_block_tokens<'r>(
 
 /// The tokens of the names of a unit's globals, block after block.
 fn unit_tokens<'r>(alloc: Global, resolved: &'r ResolvedUnit<'r>) -> Result<Vec<usize>, AllocError>
-    ensures { IfOk result (λ tokens. tokens.items ≡ all_tokens 63 (all_symbols (resolved_unit_of (unit_view resolved.now)))) }
+    ensures { IfOk result (λ tokens. tokens.items ≡ all_tokens 63
+        (all_symbols (resolved_unit_of (unit_view resolved.now)))) }
 {
     let outermost = resolved.block_count();
     let mut tokens = Vec::new(alloc);

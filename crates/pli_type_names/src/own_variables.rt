@@ -70,7 +70,8 @@ fn place(
     requires slot { free.old.slot < 18446744073709551615 }
     requires global { free.old.globals < 18446744073709551615 }
     requires based { free.old.based < 18446744073709551615 }
-    ensures begins { result ≡ place_behind parameters.now free.old.slot (get_or places.now free.old.globals 0) free.old.based number class }
+    ensures begins { result ≡ place_behind parameters.now free.old.slot
+        (get_or places.now free.old.globals 0) free.old.based number class }
     ensures slots { free.new.slot ≡ free.old.slot + slots_of class }
     ensures globals { free.new.globals ≡ free.old.globals + globals_of class }
     ensures based { free.new.based ≡ free.old.based + based_of class }
@@ -121,7 +122,8 @@ fn own_variable<'a>(
     requires global { free.old.globals < 18446744073709551615 }
     requires based { free.old.based < 18446744073709551615 }
     ensures variable { option_map own_view result
-        ≡ own_behind parameters.now free.old.slot (get_or places.now free.old.globals 0) free.old.based number (symbol_kind_view kind.entry) }
+        ≡ own_behind parameters.now free.old.slot (get_or places.now free.old.globals 0) free.old.based number
+        (symbol_kind_view kind.entry) }
     ensures slots { free.new.slot ≡ free.old.slot + one_such (is_automatic 63) (symbol_kind_view kind.entry) }
     ensures globals { free.new.globals ≡ free.old.globals + one_global 63 (symbol_kind_view kind.entry) }
     ensures based { free.new.based ≡ free.old.based + one_such (is_based 63) (symbol_kind_view kind.entry) }
@@ -162,11 +164,17 @@ pub(crate) fn own_variables<'a>(
 ) -> Result<Vec<Option<OwnVariable<'a>>>, AllocError>
     requires { globals.old ≤ length places.now }
     ensures variables { IfOk result (λ variables. map (option_map own_view) variables.items
-        ≡ spec.own_variables (record { parameters = parameters.now; places = places.now; globals = globals.old; symbols = map symbol_view symbols.now })) }
+        ≡ spec.own_variables (record {
+          parameters = parameters.now;
+          places = places.now;
+          globals = globals.old;
+          symbols = map symbol_view symbols.now;
+        })) }
     ensures counted { IfOk result (λ _. globals.new
         ≡ globals.old + globals_before 63 (map symbol_view symbols.now) (length symbols.now)) }
     ensures numbers { IfOk result (λ _. numbers.new.items ≡ numbers.old.items
-        ++ each_from (λ number s. get_or places.now (globals.old + globals_before 63 (map symbol_view symbols.now) number) 0) 0 (map symbol_view symbols.now)) }
+        ++ each_from (λ number s. get_or places.now (globals.old
+        + globals_before 63 (map symbol_view symbols.now) number) 0) 0 (map symbol_view symbols.now)) }
 {
     let mut free = Free {
         slot: parameters.len(),

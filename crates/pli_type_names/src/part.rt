@@ -63,7 +63,11 @@ impl<'a> StridedPart<'a> {
     /// A whole variable of its own.
     pub fn whole(alloc: Global, description: &'a Description) -> StridedPart<'a>
         requires { is_stored 63 (description_view description.now) ≡ true }
-        ensures { part_view result ≡ record { offset = 0; description = description_view description.now; strides = [] } }
+        ensures { part_view result ≡ record {
+          offset = 0;
+          description = description_view description.now;
+          strides = [];
+        } }
     {
         StridedPart {
             offset: 0,
@@ -121,7 +125,8 @@ impl<'a> StridedPart<'a> {
     /// A member of it that stands there, where it is a structure.
     pub(crate) fn into_placed(self, member: PlacedPart<'a>) -> StridedPart<'a>
         requires plain { may_stand 63 (description_view member.description.now) ≡ true }
-        requires within { member.offset + size_of (description_view member.description.now) ≤ size_of (description_view self.description.now) }
+        requires within { member.offset + size_of (description_view member.description.now)
+            ≤ size_of (description_view self.description.now) }
         ensures { part_view result ≡ record {
           offset = self.entry.offset + member.entry.offset;
           description = description_view member.entry.description.now;

@@ -68,7 +68,8 @@ impl<'a> PassedMembers<'a> {
     /// The member behind those that are passed.
     pub(crate) fn next(self) -> PlacedPart<'a>
         requires { self.count < length self.members.now.items }
-        ensures { Some (placed_view result) ≡ member_behind 0 (members_view self.entry.members.now.items) self.entry.count }
+        ensures { Some (placed_view result) ≡ member_behind 0
+            (members_view self.entry.members.now.items) self.entry.count }
     {
         let description = &self.members[self.count];
         PlacedPart {

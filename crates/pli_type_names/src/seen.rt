@@ -3,7 +3,9 @@ ghost use Rattle.std.specs.Prelude.{◌≡◌, [], get_or, map, option_map, reve
 ghost use Rattle.pli_map.specs.views.DescriptionView.{description_view};
 ghost use Rattle.pli_type.specs.Beginnings.{root_at};
 ghost use Rattle.pli_type.specs.Names.{Begins};
-ghost use Rattle.pli_type_names.specs.Seen.{KeptNothing, area_from, area_kept, area_under, if_locator, kept_seen, locator_from, locator_kept, locator_under, offset_if, procedure_seen, storage_from};
+ghost use Rattle.pli_type_names.specs.Seen.{KeptNothing, area_from, area_kept, area_under, if_locator, kept_seen};
+ghost use Rattle.pli_type_names.specs.Seen.{locator_from, locator_kept, locator_under, offset_if, procedure_seen};
+ghost use Rattle.pli_type_names.specs.Seen.{storage_from};
 ghost use Rattle.pli_type_names.specs.views.EntryView.{entry_view};
 ghost use Rattle.pli_type_names.specs.views.MeaningView.{answer_view, meant_view, row_view};
 ghost use Rattle.pli_type_names.specs.views.NameView.{part_view};
@@ -28,7 +30,8 @@ fn procedure_seen<'n, 'a>(
     meanings: &[Vec<SymbolMeaning<'_>>],
     block: usize,
 ) -> NamedAs<'n, 'a>
-    ensures { answer_view result ≡ procedure_seen (map row_view meanings.now) (reverse around.now) (slice_get (map entry_view entries.now) block) block }
+    ensures { answer_view result ≡ procedure_seen (map row_view meanings.now) (reverse around.now)
+        (slice_get (map entry_view entries.now) block) block }
 {
     let Some(entry) = entries.get(block) else {
         return NamedAs::Untyped;
@@ -213,7 +216,8 @@ fn storage_from(
     block: usize,
     begins: Location,
 ) -> Option<NamedStorage>
-    ensures { option_map storage_view result ≡ storage_from (map row_view meanings.now) (reverse around.now) block begins }
+    ensures { option_map storage_view result ≡ storage_from (map row_view meanings.now)
+        (reverse around.now) block begins }
 {
     match begins {
         Location::Based { number, locator } => Some(NamedStorage::Based {
@@ -236,7 +240,8 @@ fn meant_seen<'n, 'a>(
     block: usize,
     meant: &'n SymbolMeaning<'a>,
 ) -> NamedAs<'n, 'a>
-    ensures { answer_view result ≡ kept_seen (map row_view meanings.now) (reverse around.now) (map entry_view entries.now) block (meant_view meant.now) }
+    ensures { answer_view result ≡ kept_seen (map row_view meanings.now) (reverse around.now)
+        (map entry_view entries.now) block (meant_view meant.now) }
 {
     match meant {
         SymbolMeaning::Variable {
@@ -283,7 +288,8 @@ pub(crate) fn symbol_seen<'n, 'a>(
     meanings: &'n [Vec<SymbolMeaning<'a>>],
     key: SymbolKey,
 ) -> NamedAs<'n, 'a>
-    ensures { answer_view result ≡ kept_seen (map row_view meanings.now) (reverse around.now) (map entry_view entries.now) key.block
+    ensures { answer_view result ≡ kept_seen (map row_view meanings.now) (reverse around.now)
+        (map entry_view entries.now) key.block
         (get_or (get_or (map row_view meanings.now) key.block []) key.number KeptNothing) }
 {
     let Some(row) = meanings.get(key.block) else {

@@ -1,5 +1,5 @@
--- How many numbers of blocks and of temporaries statements take, at most: four of a region, which is a block or
--- keeps three numbers at most as a group, and one of an item of ALLOCATE.
+-- How many numbers of blocks and of temporaries statements take, at most: four of a region, which is a block
+-- or keeps three numbers at most as a group, and one of an item of ALLOCATE.
 use Rattle.std.specs.Prelude.{ℕ, ◌+◌, length}
 use Rattle.pli_base.specs.Statements.{Statement, Numbered, Body, Procedure, Begin, Do, If, On, Allocate}
 use Rattle.pli_base.specs.Statements.{Statements, Ended, Before, Alternative, NoElse, Else}

@@ -158,7 +158,8 @@ fn assigned<'a>(
     value: &Expression,
 ) -> Result<Form, TypeError>
     ensures { Gives form_view result
-        (spec.assigned (naming_in naming.now) at equals (denoted_view target.entry) (syntax.expression_view value.now)) }
+        (spec.assigned (naming_in naming.now) at equals (denoted_view target.entry)
+        (syntax.expression_view value.now)) }
 {
     let Denoted::Variable(target) = target else {
         drop(target);

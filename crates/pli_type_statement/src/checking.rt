@@ -30,8 +30,8 @@ use pli_type_tree::{
 };
 use std::alloc::{AllocError, Global};
 
-/// Why a unit has no typed tree: all its faults of types, in the order of the text, one for each statement, and of an IF
-/// and a group one for what stands in front of the statements in them; or want of memory.
+/// Why a unit has no typed tree: all its faults of types, in the order of the text, one for each statement, and of an
+/// IF and a group one for what stands in front of the statements in them; or want of memory.
 pub type CheckError = Failure<Vec<Fault>>;
 
 /// In the list of the external procedure, which is block 0, and gives this if it is a function.
@@ -107,7 +107,8 @@ fn typed_unit(
 ) -> Result<TypedUnit, AllocError>
     ensures { IfOk result (λ made. typed.unit_view made
         ≡ unit_with (unit_view tree.now) (signature_view signature) (globals_view walk.entry.templates.globals.items)
-        (groups_view variables.items) walk.entry.next.temporary (typed.statements_view statements.items) (finished walk.entry)) }
+        (groups_view variables.items) walk.entry.next.temporary (typed.statements_view statements.items)
+        (finished walk.entry)) }
 {
     let TypingWalk {
         next,

@@ -5,7 +5,8 @@ ghost use Rattle.pli_type_statement.specs.Parts.{both, if_of, listed_if};
 ghost use Rattle.pli_type_statement.specs.views.HeaderView.{header_view};
 ghost use Rattle.pli_type_tree.specs.TypedTree as plain;
 ghost use Rattle.pli_type_tree.specs.laws.TypedTreeLaws.{boxed_view};
-ghost use Rattle.pli_type_tree.specs.views.TypedView.{expression_view, form_view, head_view, statement_view, statements_view};
+ghost use Rattle.pli_type_tree.specs.views.TypedView.{expression_view, form_view, head_view, statement_view};
+ghost use Rattle.pli_type_tree.specs.views.TypedView.{statements_view};
 
 use crate::headers::Header;
 use pli_type_tree::{BlockHead, Form, TypedExpression, TypedStatement};
@@ -56,7 +57,8 @@ pub(crate) fn if_form(
     alternative: Option<Option<Box<TypedStatement>>>,
 ) -> Option<Form>
     ensures { option_map form_view result
-        ≡ if_of (option_map (λ x. expression_view x.value) tested) (option_map (λ s. statement_view s.value) consequence)
+        ≡ if_of (option_map (λ x. expression_view x.value) tested)
+        (option_map (λ s. statement_view s.value) consequence)
         (option_map boxed_view alternative) }
 {
     let Some(condition) = tested else {

@@ -54,7 +54,8 @@ pub(crate) fn specified(
     temporary: usize,
     control: &Option<Control>,
 ) -> Result<Header, TypeError>
-    ensures { Gives header_view result (header_typed (naming_in naming.now) temporary (option_map control_view control.now)) }
+    ensures { Gives header_view result (header_typed (naming_in naming.now) temporary
+        (option_map control_view control.now)) }
 {
     match control {
         None => Ok(Header::Plain),

@@ -149,7 +149,8 @@ fn controls<'a>(
     range: &TypedRange,
     variable: Denoted<'a>,
 ) -> Result<Box<Referent<'a>>, TypeError>
-    ensures { Gives (λ r. referent_view r.value) result (spec.controls at is_located (typed.range_view range.now) (denoted_view variable.entry)) }
+    ensures { Gives (λ r. referent_view r.value) result (spec.controls at is_located (typed.range_view range.now)
+        (denoted_view variable.entry)) }
 {
     let Denoted::Variable(referent) = variable else {
         drop(variable);
@@ -254,7 +255,8 @@ fn of_parts(
     temporary: usize,
 ) -> Iteration
     ensures { typed.iteration_view result
-        ≡ iteration_of (referent_view variable.entry.value) (typed.conversion_view conversion.value) (value_view start.value)
+        ≡ iteration_of (referent_view variable.entry.value) (typed.conversion_view conversion.value)
+        (value_view start.value)
         (typed.range_view range.value) (option_map (λ x. typed.expression_view x.value) condition) temporary }
 {
     let variable = Box::into_inner(variable);
@@ -310,7 +312,8 @@ pub(crate) fn iteration(
     text: IterationText<'_>,
 ) -> Result<Iteration, TypeError>
     ensures { Gives typed.iteration_view result
-        (spec.iteration (naming_in naming.now) temporary (syntax.reference_view text.entry.variable.now) text.entry.equals
+        (spec.iteration (naming_in naming.now) temporary (syntax.reference_view text.entry.variable.now)
+        text.entry.equals
         (syntax.expression_view text.entry.first.now) (option_map range_view text.entry.range.now)
         (option_map syntax.expression_view text.entry.condition.now)) }
 {

@@ -64,7 +64,8 @@ fn returned_value(
     value: TypedValue,
 ) -> Result<Form, TypeError>
     ensures { Gives form_view result
-        (spec.returned_value greatest area at first around.now.begins (around_view around.now).value (value_view value)) }
+        (spec.returned_value greatest area at first around.now.begins (around_view around.now).value
+        (value_view value)) }
 {
     let Some(description) = around.value else {
         drop(value);

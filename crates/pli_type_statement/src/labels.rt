@@ -75,8 +75,8 @@ fn is_in_block(list: &ListLabels, is_inside: bool) -> bool
     list.block.is_some() || is_inside
 }
 
-/// How many static links outward a label is from a list, where it is so many from the list around, and so many among the
-/// labels that last in the innermost block there.
+/// How many static links outward a label is from a list, where it is so many from the list around, and so many among
+/// the labels that last in the innermost block there.
 fn gone_into(list: &ListLabels, outward: Option<usize>, lasting: Option<usize>) -> Option<usize>
     requires outward { IfSome outward (λ links. links < 18446744073709551615) }
     requires lasting { IfSome lasting (λ links. links < 18446744073709551615) }

@@ -15,7 +15,8 @@ use std::alloc::{AllocError, Global};
 
 /// Copies of descriptions.
 fn copies(alloc: Global, descriptions: &[&Description]) -> Result<Vec<Description>, AllocError>
-    ensures { IfOk result (λ made. map description_view made.items ≡ map (λ d. description_view d.now) descriptions.now) }
+    ensures { IfOk result (λ made. map description_view made.items
+        ≡ map (λ d. description_view d.now) descriptions.now) }
 {
     let mut made = Vec::new(alloc);
     for description in descriptions {
@@ -29,7 +30,8 @@ fn copy_of(
     alloc: Global,
     description: Option<&Description>,
 ) -> Result<Option<Description>, AllocError>
-    ensures { IfOk result (λ made. option_map description_view made ≡ option_map (λ d. description_view d.now) description.entry) }
+    ensures { IfOk result (λ made. option_map description_view made
+        ≡ option_map (λ d. description_view d.now) description.entry) }
 {
     match description {
         Some(description) => Ok(Some(description.copy(alloc)?)),

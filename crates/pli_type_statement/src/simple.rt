@@ -55,7 +55,8 @@ pub(crate) fn simple(
     requires simple { is_compound (source.body_view body.now) ≡ false }
     requires room { temporary + taken_of (source.body_view body.now) ≤ 9223372036854775808 }
     ensures { Gives form_view result
-        (simple_typed (naming_in naming.now) (surroundings_of (around_view around.now)) temporary at (source.body_view body.now)) }
+        (simple_typed (naming_in naming.now) (surroundings_of (around_view around.now)) temporary at
+        (source.body_view body.now)) }
 {
     match body {
         Body::Null | Body::Declare(_) => Ok(Form::Null),

@@ -8,7 +8,9 @@ ghost use Rattle.pli_type.specs.Temporaries.{behind, kept_by, temporaries_of};
 ghost use Rattle.pli_type_statement.specs.Headers.{Header as PlainHeader, header_typed};
 ghost use Rattle.pli_type_statement.specs.NumbersTaken.{taken_among, taken_in, taken_of};
 ghost use Rattle.pli_type_statement.specs.Simple.{is_compound, simple_typed};
-ghost use Rattle.pli_type_statement.specs.Walking.{Finishes, HasRoom, IsPlaced, ended_as, in_block, unit_ended, Walks, WalksBlock, WalksBody, WalksList, around, based_names, next_at, unit_at};
+ghost use Rattle.pli_type_statement.specs.Walking.{Finishes, HasRoom, IsPlaced, ended_as, in_block, unit_ended, Walks};
+ghost use Rattle.pli_type_statement.specs.Walking.{WalksBlock, WalksBody, WalksList, around, based_names, next_at};
+ghost use Rattle.pli_type_statement.specs.Walking.{unit_at};
 ghost use Rattle.pli_type_statement.specs.views.AroundView.{around_view};
 ghost use Rattle.pli_type_statement.specs.views.HeaderView.{header_view};
 ghost use Rattle.pli_type_tree.specs.TypedTree as plain;
@@ -58,8 +60,13 @@ fn type_simple(
     requires simple { is_compound (source.body_view body.now) ≡ false }
     requires room { HasRoom (next_at walk.old) (taken_of (source.body_view body.now)) }
     ensures walked { IfOk result (λ form. Walks plain.Form walk.old walk.new
-        (record { block = walk.old.next.block; temporary = walk.old.next.temporary + temporaries_of (based_names walk.old) (source.body_view body.now) })
-        (spec.of_own (simple_typed (spec.naming_at (unit_at walk.old) (around walk.old)) (around walk.old) walk.old.next.temporary at
+        (record {
+          block = walk.old.next.block;
+          temporary = walk.old.next.temporary
+              + temporaries_of (based_names walk.old) (source.body_view body.now);
+        })
+        (spec.of_own (simple_typed (spec.naming_at (unit_at walk.old) (around walk.old))
+        (around walk.old) walk.old.next.temporary at
         (source.body_view body.now))) (option_map form_view form)) }
     ensures simple { is_compound (source.body_view body.now) ≡ false }
 {
@@ -86,7 +93,8 @@ fn type_condition(
 ) -> Result<Option<Box<TypedExpression>>, AllocError>
     requires { IsPlaced walk.old }
     ensures { IfOk result (λ tested. Walks plain.TypedExpression walk.old walk.new (next_at walk.old)
-        (spec.of_own (spec.condition (spec.naming_at (unit_at walk.old) (around walk.old)) (syntax.expression_view expression.now)))
+        (spec.of_own (spec.condition (spec.naming_at (unit_at walk.old) (around walk.old))
+        (syntax.expression_view expression.now)))
         (option_map (λ x. expression_view x.value) tested)) }
 {
     let tested = condition(alloc, &walk.naming, expression);
@@ -102,7 +110,11 @@ fn type_header(
     requires placed { IsPlaced walk.old }
     requires room { HasRoom (next_at walk.old) 4 }
     ensures { IfOk result (λ header. Walks PlainHeader walk.old walk.new
-        (record { block = walk.old.next.block; temporary = walk.old.next.temporary + kept_by (option_map source.control_view control.now) })
+        (record {
+          block = walk.old.next.block;
+          temporary = walk.old.next.temporary
+              + kept_by (option_map source.control_view control.now);
+        })
         (spec.of_own (header_typed (spec.naming_at (unit_at walk.old) (around walk.old)) walk.old.next.temporary
         (option_map source.control_view control.now))) (option_map header_view header)) }
 {
@@ -149,7 +161,8 @@ fn finish_unit(
     head: BlockHead,
     list: Option<Vec<TypedStatement>>,
 ) -> Result<Option<Form>, AllocError>
-    ensures { IfOk result (λ form. Finishes walk.old walk.new (plain.On condition head.number) (unit_ended walk.old head)
+    ensures { IfOk result (λ form. Finishes walk.old walk.new (plain.On condition head.number)
+        (unit_ended walk.old head)
         (option_map (λ list. statements_view list.items) list) (option_map form_view form)) }
 {
     let Some(statements) = list else {
@@ -180,7 +193,8 @@ fn type_statement(
     requires room { HasRoom (next_at walk.old) (taken_in (source.statement_view statement.now)) }
     ensures { IfOk result (λ typed. Walks plain.TypedStatement walk.old walk.new
         (behind (based_names walk.old) (next_at walk.old) (source.statement_view statement.now))
-        (spec.statement_typed (unit_at walk.old) (around walk.old) (next_at walk.old) (source.statement_view statement.now))
+        (spec.statement_typed (unit_at walk.old) (around walk.old) (next_at walk.old)
+        (source.statement_view statement.now))
         (option_map statement_view typed)) }
 {
     let form = type_body(alloc, walk, statement.number, statement.at, &statement.body)?;
@@ -198,7 +212,8 @@ fn type_body<'a>(
 ) -> Result<Option<Form>, AllocError>
     requires placed { IsPlaced walk.old }
     requires room { HasRoom (next_at walk.old) (taken_of (source.body_view body.now)) }
-    ensures { IfOk result (λ form. WalksBody walk.old walk.new number at (source.body_view body.now) (option_map form_view form)) }
+    ensures { IfOk result (λ form. WalksBody walk.old walk.new number at (source.body_view body.now)
+        (option_map form_view form)) }
 {
     match body {
         Body::Procedure(procedure) => {
@@ -272,8 +287,10 @@ fn type_block<'a>(
     requires room { HasRoom (next_at walk.old) (4 + taken_among (source.statements_view statements.now)) }
     requires deep { begins ≤ 1 + length (around_view walk.old.surroundings).lists }
     ensures { IfOk result (λ block. WalksBlock walk.old walk.new
-        (in_block walk.old is_on_unit begins (option_map (λ d. description_view d.now) value.entry) (source.statements_view statements.now))
-        number (source.statements_view statements.now) block.head (option_map (λ list. statements_view list.items) block.list)) }
+        (in_block walk.old is_on_unit begins (option_map (λ d. description_view d.now) value.entry)
+        (source.statements_view statements.now))
+        number (source.statements_view statements.now) block.head
+        (option_map (λ list. statements_view list.items) block.list)) }
 {
     let block = enter_block(alloc, walk, is_on_unit, begins, value, statements)?;
     let list = type_statements(alloc, walk, statements)?;
@@ -291,7 +308,8 @@ fn type_group(
     requires placed { IsPlaced walk.old }
     requires room { HasRoom (next_at walk.old) (taken_among (source.statements_view statements.now)) }
     ensures { IfOk result (λ typed. WalksList walk.old walk.new
-        (spec.in_group (source.statements_view statements.now) (around walk.old)) (source.statements_view statements.now)
+        (spec.in_group (source.statements_view statements.now) (around walk.old))
+        (source.statements_view statements.now)
         (option_map (λ list. statements_view list.items) typed)) }
 {
     let labels = labels_of(alloc, statements)?;
@@ -311,7 +329,8 @@ pub(crate) fn type_statements(
 ) -> Result<Option<Vec<TypedStatement>>, AllocError>
     requires placed { IsPlaced walk.old }
     requires room { HasRoom (next_at walk.old) (taken_among (source.statements_view statements.now)) }
-    ensures { IfOk result (λ typed. WalksList walk.old walk.new (around walk.old) (source.statements_view statements.now)
+    ensures { IfOk result (λ typed. WalksList walk.old walk.new (around walk.old)
+        (source.statements_view statements.now)
         (option_map (λ list. statements_view list.items) typed)) }
 {
     let mut typed = Vec::new(alloc);

@@ -26,7 +26,11 @@ impl<'a> Surroundings<'a> {
         labels: Vec<u32>,
     ) -> Result<(), AllocError>
         ensures lists { OnOk result (lists_view self.new.lists.items
-            ≡ lists_view self.old.lists.items ++ record { block = block; is_on_unit = is_on_unit; labels = labels.items } ∷ []) }
+            ≡ lists_view self.old.lists.items ++ record {
+              block = block;
+              is_on_unit = is_on_unit;
+              labels = labels.items;
+            } ∷ []) }
         ensures begins { self.new.begins ≡ self.old.begins }
         ensures value { self.new.value ≡ self.old.value }
     {

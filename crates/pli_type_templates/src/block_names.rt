@@ -39,7 +39,8 @@ pub(crate) fn block_names<'r>(
     alloc: Global,
     resolved: &'r ResolvedUnit<'r>,
 ) -> Result<Vec<BlockNames<'r>>, AllocError>
-    ensures symbols { IfOk result (λ made. map block_symbols made.items ≡ all_symbols (resolved_unit_of (unit_view resolved.now))) }
+    ensures symbols { IfOk result (λ made. map block_symbols made.items
+        ≡ all_symbols (resolved_unit_of (unit_view resolved.now))) }
     ensures known { IfOk result (λ made. All AreKnown made.items) }
 {
     let outermost = resolved.block_count();

@@ -94,7 +94,8 @@ fn alike_behind(
 
 /// Puts the name of a global, if it has one beyond its unit.
 fn put_name(global: &UnitGlobal<'_>, names: &mut Vec<Name>) -> Result<(), AllocError>
-    ensures { OnOk result (names.new.items ≡ names.old.items ++ option_to_list (name_in (unit_global_view global.now))) }
+    ensures { OnOk result (names.new.items ≡ names.old.items
+        ++ option_to_list (name_in (unit_global_view global.now))) }
 {
     match global {
         UnitGlobal::OwnVariable { .. } => Ok(()),

@@ -7,7 +7,8 @@ ghost use Rattle.pli_type.specs.NamedUnits.{global_of, globals_of, kind_of_class
 ghost use Rattle.pli_type_templates.specs.Groups.{AreMembers, global_made};
 ghost use Rattle.pli_type_templates.specs.ItemNames.{AreOfItems};
 ghost use Rattle.pli_type_templates.specs.views.ItemView.{HasMadeItem, items_view, made_template, rows_view};
-ghost use Rattle.pli_type_templates.specs.views.PlacedView.{HasGlobal, HasGlobalItem, global_found, placed_view, unit_global_view};
+ghost use Rattle.pli_type_templates.specs.views.PlacedView.{HasGlobal, HasGlobalItem, global_found, placed_view};
+ghost use Rattle.pli_type_templates.specs.views.PlacedView.{unit_global_view};
 
 use crate::groups::made_in;
 use crate::items::ValuedItem;

@@ -122,7 +122,8 @@ fn made_variables<'a>(
     requires { AreMembers (rows_view members.now) (map symbol_view symbols.now) }
     ensures templates { IfOk result (λ made. map made_template made.items
         ≡ templates_of (is_such wanted) (map symbol_view symbols.now)) }
-    ensures items { IfOk result (λ made. (marks : List PlacedMark) → All (AreOfItems marks) (map symbol_view symbols.now)
+    ensures items { IfOk result (λ made. (marks : List PlacedMark) →
+        All (AreOfItems marks) (map symbol_view symbols.now)
         → All (HasMadeItem marks) made.items) }
 {
     let mut made = Vec::new(alloc);
@@ -223,7 +224,8 @@ pub(crate) fn lifetime_groups<'a>(
 ) -> Result<Vec<VariableGroup>, AllocError>
     requires members { AreMembers (rows_view members.now) (map symbol_view symbols.now) }
     requires items { All (AreOfItems (marks_of items.now)) (map symbol_view symbols.now) }
-    ensures { IfOk result (λ groups. groups_view groups.items ≡ templates_of (is_such wanted) (map symbol_view symbols.now)) }
+    ensures { IfOk result (λ groups. groups_view groups.items
+        ≡ templates_of (is_such wanted) (map symbol_view symbols.now)) }
 {
     let made = made_variables(alloc, wanted, symbols, members)?;
     grouped(alloc, items, &made)

@@ -2,8 +2,8 @@
 ghost use Rattle.std.specs.Prelude.{◌≡◌, true, Some};
 ghost use Rattle.pli_type_templates.specs.NotedNames.{IsNoted, IsSame};
 
-/// An item of DECLARE: the number of the mark that declares it among those of its unit, and its own among the items of the
-/// mark, each counted from 0.
+/// An item of DECLARE: the number of the mark that declares it among those of its unit, and its own among the items of
+/// the mark, each counted from 0.
 #[derive(Clone, Copy)]
 pub(crate) struct ItemNumber {
     pub mark: usize,

@@ -7,7 +7,8 @@ ghost use Rattle.pli_base.specs.views.StatementView.{unit_view};
 ghost use Rattle.pli_declare_outline.specs.Outlines.{outline_of};
 ghost use Rattle.pli_declare_outline.specs.views.OutlineView.{mark_view, marks_view};
 ghost use Rattle.pli_type_templates.specs.ItemNames.{HasFewMarks, HasFewRegions, IsNameOf, items_of};
-ghost use Rattle.pli_type_templates.specs.NotedNames.{AreOfOne, IsNoted, IsOnly, KeepNotes, NoteItems, NoteMarks, NoteNames, TellItems};
+ghost use Rattle.pli_type_templates.specs.NotedNames.{AreOfOne, IsNoted, IsOnly, KeepNotes, NoteItems, NoteMarks};
+ghost use Rattle.pli_type_templates.specs.NotedNames.{NoteNames, TellItems};
 ghost use Rattle.pli_type_templates.specs.declared.item_number.ItemNumber.{ItemNumber};
 
 use crate::item_number::{ItemNumber, is_same_item, noted_with};
@@ -22,8 +23,8 @@ use std::alloc::{AllocError, Global};
 #[derive(Drop)]
 pub(crate) struct ItemNumbers<'a> {
     pub unit: &'a Procedure,
-    /// Under the token of each name in a DECLARE its item; none under one of names of several items, of which a text has
-    /// none.
+    /// Under the token of each name in a DECLARE its item; none under one of names of several items, of which a text
+    /// has none.
     numbers: IndexMap<u32, Option<ItemNumber>>,
     ghost tell: { TellItems (get nat_eq numbers) (outline_of (unit_view unit.now)).marks },
 }
@@ -117,7 +118,8 @@ impl<'a> ItemNumbers<'a> {
 
     /// The item of all names at a token; none where it is not known.
     fn item_of(&self, at: u32) -> Option<ItemNumber>
-        ensures { (number : ItemNumber) (item : tree.Item) → IsNameOf (outline_of (unit_view self.now.unit.now)).marks at number item
+        ensures { (number : ItemNumber) (item : tree.Item) →
+            IsNameOf (outline_of (unit_view self.now.unit.now)).marks at number item
             → IsOnly result number }
     {
         self.numbers.get(&at).copied().flatten()

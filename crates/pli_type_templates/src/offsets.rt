@@ -5,8 +5,8 @@ ghost use Rattle.pli_type_templates.specs.Plans.{AreNested, spread, spread_over}
 use crate::plan::ArrayLevel;
 use std::alloc::AllocError;
 
-/// Puts the bytes on which a scalar begins for each element of the arrays above it, in row-major order, until there are as
-/// many as wanted.
+/// Puts the bytes on which a scalar begins for each element of the arrays above it, in row-major order, until there are
+/// as many as wanted.
 #[cycle(put_offsets)]
 pub(crate) fn put_offsets(
     levels: &[ArrayLevel],

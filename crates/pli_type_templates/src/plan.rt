@@ -121,7 +121,8 @@ fn array_from<'a>(
     requires plain { is_plain 63 (description_view element.now) ≡ true }
     requires room { first + count_of bounds.now * stride_of (description_view element.now) ≤ 1000000 }
     ensures { IfOk result (λ made. (plan_view made.plan
-        ≡ planned.OfArray (record { count = count_of bounds.now; distance = stride_of (description_view element.now) }) (plan_from first (description_view element.now)))
+        ≡ planned.OfArray (record { count = count_of bounds.now; distance = stride_of (description_view element.now) })
+        (plan_from first (description_view element.now)))
         × (made.end ≡ first + count_of bounds.now * stride_of (description_view element.now))) }
 {
     let count = count_of(bounds);
@@ -144,7 +145,8 @@ fn members_from<'a>(
 ) -> Result<Planned<'a>, AllocError>
     requires plain { all_plain 63 (members_view members.now) ≡ true }
     requires room { first + end_behind 0 (members_view members.now) ≤ 1000000 }
-    ensures { IfOk result (λ made. (plan_view made.plan ≡ planned.OfStructure (plans_from first 0 (members_view members.now)))
+    ensures { IfOk result (λ made. (plan_view made.plan ≡ planned.OfStructure
+        (plans_from first 0 (members_view members.now)))
         × (made.end ≡ first + end_behind 0 (members_view members.now))) }
 {
     let mut plans = Vec::with_capacity(alloc, members.len())?;

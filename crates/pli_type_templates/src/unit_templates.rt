@@ -114,7 +114,8 @@ fn lifetime_rows<'a>(
 ) -> Result<Vec<Vec<VariableGroup>>, AllocError>
     requires known { All AreKnown blocks.now }
     requires items { All (All (AreOfItems (marks_of items.now))) (map block_symbols blocks.now) }
-    ensures { IfOk result (λ made. map row_view made.items ≡ map (templates_of (is_such wanted)) (map block_symbols blocks.now)) }
+    ensures { IfOk result (λ made. map row_view made.items ≡ map (templates_of (is_such wanted))
+        (map block_symbols blocks.now)) }
 {
     let mut made = Vec::new(alloc);
     for block in blocks {
@@ -129,8 +130,10 @@ fn unit_globals<'a>(
     blocks: &'a [BlockNames<'a>],
 ) -> Result<Vec<PlacedGlobal<'a>>, AllocError>
     requires { All AreKnown blocks.now }
-    ensures globals { IfOk result (λ made. map placed_view made.items ≡ block_globals 63 (map block_symbols blocks.now)) }
-    ensures items { IfOk result (λ made. (marks : List PlacedMark) → All (All (AreOfItems marks)) (map block_symbols blocks.now)
+    ensures globals { IfOk result (λ made. map placed_view made.items
+        ≡ block_globals 63 (map block_symbols blocks.now)) }
+    ensures items { IfOk result (λ made. (marks : List PlacedMark) →
+        All (All (AreOfItems marks)) (map block_symbols blocks.now)
         → All (HasGlobalItem marks) made.items) }
 {
     let mut globals = Vec::new(alloc);

@@ -1,5 +1,6 @@
 //! Values in INITIAL, as scalars hold them.
-ghost use Rattle.std.specs.Prelude.{◌≡◌, ◌≤◌, ◌++◌, IfOk, get_or, length, nat_le, option_map, unsigned_abs, false, true};
+ghost use Rattle.std.specs.Prelude.{◌≡◌, ◌≤◌, ◌++◌, IfOk, get_or, length, nat_le, option_map, unsigned_abs, false};
+ghost use Rattle.std.specs.Prelude.{true};
 ghost use Rattle.std.specs.Option.{unwrap_or};
 ghost use Rattle.pli_map.specs.Values.{first_value};
 ghost use Rattle.pli_map.specs.views.DescriptionView.{description_view};
@@ -57,7 +58,8 @@ fn fit_bits(alloc: Global, bits: &[bool], size: usize) -> Result<Bits, AllocErro
     Ok(new)
 }
 
-/// The value with which a scalar begins that has no initial value: zero, blanks, the empty string, zero bits, or null (own).
+/// The value with which a scalar begins that has no initial value: zero, blanks, the empty string, zero bits, or null
+/// (own).
 #[tactic(auto, using(crate::proofs::StoredPlans::few_bits))]
 fn first_value(alloc: Global, description: &Description) -> Result<Option<Value>, AllocError>
     requires { is_compiled_scalar (description_view description.now) ≡ true }
@@ -83,7 +85,8 @@ fn first_value(alloc: Global, description: &Description) -> Result<Option<Value>
 /// What stands in a scalar that a value does not suit: the value with which it begins.
 fn unsuited(alloc: Global, description: &Description, value: Value) -> Result<Value, AllocError>
     requires { is_compiled_scalar (description_view description.now) ≡ true }
-    ensures { IfOk result (λ held. value_view held ≡ unwrap_or (first_value (description_view description.now)) (value_view value)) }
+    ensures { IfOk result (λ held. value_view held ≡ unwrap_or (first_value (description_view description.now))
+        (value_view value)) }
 {
     match first_value(alloc, description)? {
         Some(first) => Ok(first),
@@ -131,7 +134,8 @@ fn held_characters(
     text: &[u8],
 ) -> Result<Value, AllocError>
     requires { is_compiled_scalar (description_view description.now) ≡ true }
-    ensures { IfOk result (λ held. value_view held ≡ as_held (description_view description.now) (plain.Characters text.now)) }
+    ensures { IfOk result (λ held. value_view held ≡ as_held (description_view description.now)
+        (plain.Characters text.now)) }
 {
     match description {
         Description::Character(length) => {
@@ -182,7 +186,8 @@ pub(crate) fn held(
     written: &InitialValue,
 ) -> Result<Value, AllocError>
     requires { is_compiled_scalar (description_view description.now) ≡ true }
-    ensures { IfOk result (λ held. value_view held ≡ as_held (description_view description.now) (value_of written.now)) }
+    ensures { IfOk result (λ held. value_view held ≡ as_held (description_view description.now)
+        (value_of written.now)) }
 {
     match written {
         InitialValue::Integer { value, .. } => held_integer(alloc, description, value.number()),

@@ -1,7 +1,9 @@
 //! Strings of bits (X3.74), packed eight to a byte.
-ghost use Rattle.std.specs.Prelude.{◌≡◌, ◌≤◌, ◌<◌, ◌+◌, ◌*◌, ◌++◌, ◌∷◌, [], length, slice_index_or, take, drop, false, IfOk, OnErr, MatchOption, Some, None};
+ghost use Rattle.std.specs.Prelude.{◌≡◌, ◌≤◌, ◌<◌, ◌+◌, ◌*◌, ◌++◌, ◌∷◌, [], length, slice_index_or, take, drop, false};
+ghost use Rattle.std.specs.Prelude.{IfOk, OnErr, MatchOption, Some, None};
 ghost use Rattle.std.specs.Ordering.{bool_cmp};
-ghost use Rattle.pli_value.specs.Strings.{order_of, concatenation, substring, substring_from, fitted, conjunction, disjunction, negation, index_of, is_true};
+ghost use Rattle.pli_value.specs.Strings.{order_of, concatenation, substring, substring_from, fitted, conjunction};
+ghost use Rattle.pli_value.specs.Strings.{disjunction, negation, index_of, is_true};
 ghost use Rattle.pli_value.specs.Conversions.{bit_character, bit_characters};
 
 use crate::character::{self, STRING_LIMIT};
@@ -13,8 +15,8 @@ use std::marker::Model;
 /// How many bits a string has at most that is searched in little room.
 const SHORT: usize = 256;
 
-/// A bit string of at most 32,767 bits: eight to a byte, the first bit highest, and nothing behind the last one (own). Contracts see
-/// the list of its bits.
+/// A bit string of at most 32,767 bits: eight to a byte, the first bit highest, and nothing behind the last one (own).
+/// Contracts see the list of its bits.
 #[derive(Drop)]
 pub struct Bits {
     bytes: Vec<u8>,
@@ -262,8 +264,8 @@ fn character_of(bit: bool) -> u8
     if bit { b'1' } else { b'0' }
 }
 
-/// INDEX (X3.74): the first place, from 1 on, at which the sought string stands; 0 where it is nowhere, or where one of the two is
-/// empty.
+/// INDEX (X3.74): the first place, from 1 on, at which the sought string stands; 0 where it is nowhere, or where one of
+/// the two is empty.
 pub fn index(bits: &Bits, sought: &Bits) -> usize
     ensures { result ≡ index_of (bit_characters bits.now) (bit_characters sought.now) }
 {

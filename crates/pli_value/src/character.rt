@@ -36,8 +36,8 @@ fn at(characters: &[u8], place: usize) -> u8
     characters.get(place).copied().unwrap_or(b' ')
 }
 
-/// INDEX (X3.74): the first place, from 1 on, at which the sought string stands; 0 where it is nowhere, or where one of the two is
-/// empty.
+/// INDEX (X3.74): the first place, from 1 on, at which the sought string stands; 0 where it is nowhere, or where one of
+/// the two is empty.
 pub fn index(characters: &[u8], sought: &[u8]) -> usize
     ensures { result ≡ index_of characters.now sought.now }
 {

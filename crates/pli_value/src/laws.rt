@@ -1,11 +1,14 @@
 //! Laws and worked examples of the operations on values.
 ghost use Rattle.pli_value.specs.Locators.{SameLocatorIsEqual};
-ghost use Rattle.pli_value.specs.examples.NumberExamples.{GreatestNumbers, WidestNumbers, Quotients, Remainders, SignsAndOrders};
+ghost use Rattle.pli_value.specs.examples.NumberExamples.{GreatestNumbers, WidestNumbers, Quotients, Remainders};
+ghost use Rattle.pli_value.specs.examples.NumberExamples.{SignsAndOrders};
 ghost use Rattle.pli_value.specs.Numbers.{RemaindersAreLeast};
-ghost use Rattle.pli_value.specs.examples.StringExamples.{CharacterOrders, BitOrders, Places, Parts, Assigned, BitOperations, Converted, Conditions, Packed};
+ghost use Rattle.pli_value.specs.examples.StringExamples.{CharacterOrders, BitOrders, Places, Parts, Assigned};
+ghost use Rattle.pli_value.specs.examples.StringExamples.{BitOperations, Converted, Conditions, Packed};
 ghost use Rattle.pli_value.specs.Strings.{IndexIsTheFirstPlace};
 
-/// A law: what MOD gives is the least number from 0 on from which the first operand differs by a multiple of the second.
+/// A law: what MOD gives is the least number from 0 on from which the first operand differs by a multiple of the
+/// second.
 pub fn remainders_are_least()
     ensures { RemaindersAreLeast }
 {}

@@ -7,7 +7,8 @@ ghost use Rattle.pli_value.specs.Locators.{is_null, same_locator};
 pub enum Locator {
     /// The null pointer.
     Null,
-    /// A pointer to a generation, by its number, and there to a position: that of a block of an area, or 0 outside areas.
+    /// A pointer to a generation, by its number, and there to a position: that of a block of an area, or 0 outside
+    /// areas.
     Pointer { generation: u32, position: u32 },
     /// An offset: the position of a block of an area, or 0 where it is null.
     Offset(u32),

@@ -65,8 +65,8 @@ pub fn divide(left: i64, right: i64, precision: u8) -> Result<i64, Raised>
     }
 }
 
-/// MOD (own): the least number from 0 on from which the first operand differs by a multiple of the second. It has no more digits
-/// than the second.
+/// MOD (own): the least number from 0 on from which the first operand differs by a multiple of the second. It has no
+/// more digits than the second.
 #[inline]
 pub fn modulo(left: i64, right: i64) -> Result<i64, Raised>
     ensures { result ≡ remainder left right }

@@ -2,8 +2,8 @@
 ghost use Rattle.std.specs.Prelude.{◌≡◌, ◌≤◌, ◌+◌, IfSome};
 ghost use Rattle.pli_value.specs.Strings.{part_of, rest_of};
 
-/// How many elements of a string stand before a part that is named by its first place, from 1 on, and its length, and how many the
-/// part has; none where it does not lie within the string.
+/// How many elements of a string stand before a part that is named by its first place, from 1 on, and its length, and
+/// how many the part has; none where it does not lie within the string.
 #[inline]
 pub fn part_of(elements: usize, first: i64, count: i64) -> Option<(usize, usize)>
     ensures part { result ≡ part_of elements first count }

@@ -1,7 +1,7 @@
 //! Modules of version 1, as builds gave them when numbers had at most 31 binary digits.
 
-/// Modules, one a line, of a main procedure M with the statements of the same number below: two digits for each byte, how
-/// a run of 2,000 steps ends, and what it prints, with `/` for the end of a line. They run so for good.
+/// Modules, one a line, of a main procedure M with the statements of the same number below: two digits for each byte,
+/// how a run of 2,000 steps ends, and what it prints, with `/` for the end of a line. They run so for good.
 ///
 /// 1. `DCL X FIXED BIN(31); X = 2147483647; PUT LIST(X + 1);`
 /// 2. `DCL (X, Y) FIXED BIN(31) INIT(65536); ON FOFL PUT LIST('F'); PUT LIST(X * Y, X * 32767, -X - 2147483647,

@@ -21,8 +21,8 @@ static LISTINGS: Row = (
     b"OK\nOK\n1 X\nOK\nM SOURCE 1\nOK\n",
 );
 
-/// How many bytes a read moves at most, how many reads are made at most, and how many calls the reader and the writer take
-/// before they fail.
+/// How many bytes a read moves at most, how many reads are made at most, and how many calls the reader and the writer
+/// take before they fail.
 #[derive(Clone, Copy)]
 struct Limits {
     piece: usize,
@@ -86,7 +86,8 @@ fn commands_within(reads: u32) -> usize {
         .count()
 }
 
-/// Whether the first run fails so where only so many reads succeed, and just the commands that end in them are answered.
+/// Whether the first run fails so where only so many reads succeed, and just the commands that end in them are
+/// answered.
 fn breaks_off(alloc: Global, calls: u32, limits: Limits, fault: ServeFault) -> bool {
     let (session, answers) = FIRST_RUN;
     let (result, bytes) = served(alloc, session, limits);

@@ -5,9 +5,9 @@ use std::process::Abort;
 /// Modules, one a line: `M: PROC OPTIONS(MAIN); END;`;
 /// `M: PROC OPTIONS(MAIN); DCL X BIT EXT, Q ENTRY(BIT); CALL Q(X); END;` with a procedure Q that changes X;
 /// two units that call each other, share variables and have each instruction once, with the greatest static link,
-/// statement and offset that a deck can have; one that counts to 40 in a loop, with a call, a BEGIN, an ON-unit that takes
-/// FIXEDOVERFLOW, blocks in an area, and a structure and an array with initial values. These four are of version 1;
-/// four more are the same in version 2, with numbers of 63 binary digits in the last two.
+/// statement and offset that a deck can have; one that counts to 40 in a loop, with a call, a BEGIN, an ON-unit that
+/// takes FIXEDOVERFLOW, blocks in an area, and a structure and an array with initial values. These four are of version
+/// 1; four more are the same in version 2, with numbers of 63 binary digits in the last two.
 pub static MODULES: &str = "\
 504c494d01000100000000014d00000027504c494401014d0100ffff000000000000\
 0000000100ffff0000000000000000000001000109000000

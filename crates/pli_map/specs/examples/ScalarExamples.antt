@@ -10,7 +10,8 @@ use Rattle.pli_map.specs.Subscripts.{first_path, subscripts_of}
 -- one; five members; two times three elements; three elements of two members; none in an area
 abbrev pub CountedScalars : Type 0
 CountedScalars = (scalars_in (Character 4) ≡ 1) × (scalars_in mixed ≡ 5) × (scalars_in table ≡ 6)
-    × (scalars_in pairs ≡ 6) × (scalars_in (Area 8) ≡ 0) × (is_filled pairs ≡ true) × (is_filled (Array (up_to 0 ∷ []) pairs) ≡ false)
+    × (scalars_in pairs ≡ 6) × (scalars_in (Area 8) ≡ 0) × (is_filled pairs ≡ true)
+    × (is_filled (Array (up_to 0 ∷ []) pairs) ≡ false)
 
 -- an element of `pairs`: FIXED BINARY(31) and FIXED BINARY(15)
 abbrev pub pair : Description

@@ -8,7 +8,8 @@ use std::alloc::Global;
 use std::process::Abort;
 use std::test::*;
 
-/// Whether a wide number is put where it lies, and only there, and is read again; and nothing where the bytes end before.
+/// Whether a wide number is put where it lies, and only there, and is read again; and nothing where the bytes end
+/// before.
 fn numbers_lie(rt: &impl Abort, alloc: Global) -> bool {
     let mut bytes = [9; 10];
     let put = put_number_at(&mut bytes, 1, 63, -3) && !put_number_at(&mut bytes, 8, 31, 1);

@@ -1,4 +1,4 @@
-use Rattle.std.proofs.Common.{Some, ◌+◌, suc, length, ap, sym, ◌∙◌, arith}
+use Rattle.std.proofs.Common.{Some, suc, length, ap, sym, ◌∙◌, arith}
 use Rattle.pli_world.specs.Conditions.{handler, or_older}
 use Rattle.pli_machine_activations.specs.views.MachineView.{activations_of}
 use Rattle.pli_machine_activations.proofs.SlotPlaces.{how_many}

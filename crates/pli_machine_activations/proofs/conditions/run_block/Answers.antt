@@ -1,4 +1,4 @@
-use Rattle.std.proofs.Common.{None, Some, [], map, refl, sym, ap, ◌∙◌}
+use Rattle.std.proofs.Common.{None, Some, map, refl, sym, ap, ◌∙◌}
 use Rattle.std.proofs.lemmas.Result.{IfOk-weaker}
 use Rattle.pli_store.specs.views.StorageView.{place_view}
 use Rattle.pli_machine_step.specs.Machine.{calls, runs_block}

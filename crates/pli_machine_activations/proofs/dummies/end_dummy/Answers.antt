@@ -1,7 +1,6 @@
-use Rattle.std.proofs.Common.{◌∷◌, [], refl, ap, ◌∙◌, rules}
+use Rattle.std.proofs.Common.{◌∷◌, refl, ap, ◌∙◌, rules}
 use Rattle.std.proofs.lemmas.Fn.{filter_same}
-use Rattle.pli_world.specs.Storage.{without}
-use Rattle.pli_store.specs.views.StorageView.{place_view, storage_view}
+use Rattle.pli_store.specs.views.StorageView.{place_view}
 use Rattle.pli_machine_activations.specs.views.MachineView.{activation_view, activations_of, world_of}
 use Rattle.pli_machine_activations.proofs.EndLemmas.{same_world}
 use Rattle.pli_machine_activations.proofs.GivenPlaces.{but_one}

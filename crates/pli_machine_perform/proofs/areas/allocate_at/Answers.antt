@@ -10,7 +10,7 @@ use Rattle.pli_world.specs.Locating.{block_made}
 use Rattle.pli_store.specs.views.StorageView.{with_storage}
 use Rattle.pli_world.specs.Storage.{Place}
 use Rattle.pli_machine_step.specs.Machine.{Operand, OfValue, At, again_at, allocates_in, handled, pushes, used_up, with_operands}
-use Rattle.pli_machine_operate.specs.views.OperandView.{stack, taken_operand, taken_place}
+use Rattle.pli_machine_operate.specs.views.OperandView.{stack, taken_operand}
 use Rattle.pli_machine_activations.specs.views.MachineView.{Running, leads, frame_view, frames_of, world_of, left_of}
 use Rattle.pli_machine_activations.specs.answers.Used.{behind_use}
 use Rattle.pli_machine_activations.specs.views.ImageView.{image_of}

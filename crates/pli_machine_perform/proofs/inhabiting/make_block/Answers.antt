@@ -3,7 +3,7 @@ use Rattle.pli_map.specs.views.DescriptionView.{description_view}
 use Rattle.pli_store.specs.views.StorageView.{place_view, with_storage}
 use Rattle.pli_type_tree.specs.Templates.{variable_of}
 use Rattle.pli_type_tree.specs.views.TemplateView.{initial_view}
-use Rattle.pli_machine_perform.proofs.AreaMoves.{block_by, no_block, located_answers}
+use Rattle.pli_machine_perform.proofs.AreaMoves.{no_block, located_answers}
 use Rattle.pli_machine_perform.proofs.inhabiting.make_block.Goals as goal
 
 pub returns-then-is_area-clause-answer : goal.returns-then-is_area-clause-answer

@@ -5,7 +5,6 @@ use Rattle.pli_world.specs.Storage.{Place}
 use Rattle.pli_machine_step.specs.Machine.{Operand, Goes, copies, given, place_off, used_up, with_operands}
 use Rattle.pli_machine_operate.specs.views.OperandView.{stack, taken_operand, taken_place}
 use Rattle.pli_machine_activations.specs.views.MachineView.{leads, frame_view, frames_of, world_of, left_of}
-use Rattle.pli_machine_activations.specs.answers.Used.{behind_use}
 use Rattle.pli_machine_perform.specs.views.ActView.{copied_at}
 use Rattle.pli_machine_perform.proofs.UsedMoves.{none_off, off_taken, used_leads, ending, ended_after, twice_used}
 use Rattle.pli_machine_perform.proofs.instructions.copy.Goals as goal

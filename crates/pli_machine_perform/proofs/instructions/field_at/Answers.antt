@@ -1,4 +1,4 @@
-use Rattle.std.proofs.Common.{◌∷◌, List, refl, sym, ap, ◌∙◌}
+use Rattle.std.proofs.Common.{List, refl, sym, ap, ◌∙◌}
 use Rattle.pli_map.specs.views.DescriptionView.{description_view}
 use Rattle.pli_world.specs.World.{led_on}
 use Rattle.pli_machine_step.specs.Machine.{Operand, AtPlace, given, pushes, used_up}

@@ -1,4 +1,4 @@
-use Rattle.std.proofs.Common.{◌∷◌, List, refl, sym, ap, ◌∙◌}
+use Rattle.std.proofs.Common.{List, refl, sym, ap, ◌∙◌}
 use Rattle.pli_value.specs.Value.{value_view}
 use Rattle.pli_world.specs.World.{stored}
 use Rattle.pli_machine_step.specs.Machine.{Operand, Goes, given, used_up, with_operands}

@@ -1,4 +1,4 @@
-use Rattle.std.proofs.Common.{◌≤◌, ◌∙◌, ◌+◌, refl, ap, option_map, arith}
+use Rattle.std.proofs.Common.{◌≤◌, ◌+◌, refl, ap, option_map, arith}
 use Rattle.pli_base.specs.views.StatementView as source
 use Rattle.pli_type_statement.specs.Headers.{header_typed}
 use Rattle.pli_type_statement.specs.views.HeaderView.{header_view}
