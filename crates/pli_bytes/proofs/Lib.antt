@@ -16,6 +16,7 @@ pub mod Rising
 pub mod ScalarPaths
 pub mod Scalars
 pub mod ScalarsOn
+pub mod ShortBytes
 pub mod Split
 pub mod ValuesOn
 pub mod WrittenValues

@@ -8,6 +8,7 @@ mod laying;
 mod putting;
 mod reading;
 mod scalar;
+mod short;
 
 pub use beginning::lay_first;
 pub use laws::{parts_are_their_bytes, scalars_are_places};
@@ -15,3 +16,4 @@ pub use laying::lay;
 pub use putting::{append_at, put_number_at, put_value_at};
 pub use reading::{number_at, text_at, value_at};
 pub use scalar::put_on;
+pub use short::{put_short_at, short_at, short_bits};

@@ -14,7 +14,7 @@ use byteorder::{BigEndian, ByteOrder};
 use pli_map::{Description, load_value};
 use pli_value::Value;
 use pli_value::bit::Bits;
-use pli_value::character::{STRING_LIMIT, fit_varying};
+use pli_value::character::{STRING_LIMIT, fit_varying, roomy_copy};
 use std::alloc::{AllocError, Global};
 
 /// The value that a scalar of this description holds, which lies at an offset of the bytes; zero where the description
@@ -58,11 +58,11 @@ fn load_first(
     load_value(alloc, description, &bytes[..size])
 }
 
-/// Characters as a value.
+/// Characters as a value, with room for some more.
 fn characters(alloc: Global, text: &[u8]) -> Result<Value, AllocError>
     ensures { IfOk result (λ v. value_view v ≡ Characters text.now) }
 {
-    Ok(Value::Characters(Vec::from_slice(alloc, text)?))
+    Ok(Value::Characters(roomy_copy(alloc, text)?))
 }
 
 /// Bits as a value, of which there are no more than 32,767.

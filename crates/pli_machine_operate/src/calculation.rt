@@ -250,19 +250,14 @@ fn fit_text(description: &Description, mut text: Vec<u8>) -> Result<Calculation,
     }
 }
 
-/// Bits fitted to a description, of at most 32,767 bits.
-fn fit_bits(
-    alloc: Global,
-    description: &Description,
-    bits: &Bits,
-) -> Result<Calculation, AllocError>
-    ensures { IfOk result (λ c. calculation_view c ≡ fitted_to (description_view description.now)
-        (plain.Bits bits.now)) }
+/// Bits fitted to a description, of at most 32,767 bits. Takes no memory where there are so many.
+fn fit_bits(alloc: Global, description: &Description, bits: Bits) -> Result<Calculation, AllocError>
+    ensures { IfOk result (λ c. calculation_view c ≡ fitted_to (description_view description.now) (plain.Bits bits)) }
 {
     match description {
         Description::Bit(size) if *size > BIT_LIMIT => Ok(Calculation::OutOfString),
         Description::Bit(size) => {
-            Ok(Calculation::Gives(Value::Bits(bit::fit(alloc, bits, *size as usize)?)))
+            Ok(Calculation::Gives(Value::Bits(bit::fit_whole(alloc, bits, *size as usize)?)))
         }
         _ => Ok(Calculation::Misfits),
     }
@@ -280,7 +275,7 @@ pub fn fit(
     match value {
         Value::Number(number) => Ok(as_calculation(fit_number(description, number))),
         Value::Characters(text) => fit_text(description, text),
-        Value::Bits(bits) => fit_bits(alloc, description, &bits),
+        Value::Bits(bits) => fit_bits(alloc, description, bits),
         Value::Locator(_) => Ok(Calculation::Misfits),
     }
 }

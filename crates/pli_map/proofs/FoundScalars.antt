@@ -57,6 +57,13 @@ le_cases a b = elim (cases_lt a b) [ inl h ↦ inl (omega arith) | inr h ↦ inr
 pub quotient_cut : (o s far : ℕ) → o < far → (o / min s far ≡ o / s) × (o % min s far ≡ o % s)
 quotient_cut o s far below = quotient_at o s far below (le_cases far s)
 
+-- the same of the stride of a description, where that is cut to a number of 33 binary digits
+pub quotient_is : (offset : ℕ) (d : Description) (stride : ℕ) → offset < 4294967296 → stride ≡ min (stride_of d) 4294967296
+    → (offset / stride ≡ offset / stride_of d) × (offset % stride ≡ offset % stride_of d)
+quotient_is offset d stride below is =
+    let cut = quotient_cut offset (stride_of d) 4294967296 below in
+    (ap (λ n. offset / n) is ∙ cut.0, ap (λ n. offset % n) is ∙ cut.1)
+
 -- there is no such element
 pub no_element : (limit index q count c : ℕ) (f : ℕ → ℕ) (rest : Option ℕ) → index ≡ q → index < limit → count ≡ min c limit → count ≤ index
     → None ≡ option_map (λ k. min k limit) (if nat_lt q c then option_map f rest else None)

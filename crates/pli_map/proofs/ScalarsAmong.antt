@@ -1,9 +1,10 @@
 -- Scalars that stand among the members of a structure.
-use Rattle.std.proofs.Common.{◌≡◌, ℕ, ◌+◌, ◌<◌, true, Option, Some, None, refl, ap, sym, ◌∙◌, arith}
+use Rattle.std.proofs.Common.{◌≡◌, ℕ, ◌+◌, ◌*◌, ◌/◌, ◌%◌, ◌<◌, min, Bool, true, false, nat_lt, List, Option, Some, None, option_map, if◌then◌else◌, lt-ltb, refl, ap, sym, ◌∙◌, arith}
 use Rattle.std.specs.Option.{is_some}
-use Rattle.pli_map.specs.Description.{Description, Structure, Members, MemberThen}
-use Rattle.pli_map.specs.Scalars.{first_scalar, scalar_behind}
-use Rattle.pli_map.specs.Sizes.{size_of}
+use Rattle.pli_map.specs.declared.description.Bounds.{Bounds}
+use Rattle.pli_map.specs.Description.{Description, Array, Structure, Members, MemberThen}
+use Rattle.pli_map.specs.Scalars.{first_scalar, scalar_behind, scalars_in, stands_here}
+use Rattle.pli_map.specs.Sizes.{count_of, size_of, stride_of}
 use Rattle.pli_map.proofs.ScalarLawsHold.{whole_found}
 use Rattle.pli_map.proofs.ScalarParts.{structure_finds, first_finds, others_find}
 use Rattle.pli_map.proofs.ScalarPlaces.{start_of}
@@ -34,3 +35,23 @@ module _ (at : ℕ) (d : Description) (ds left : Members) (o : ℕ) (part : Desc
       ∙ ap (λ n. is_some (scalar_behind at (MemberThen d ds) n part)) here
       ∙ ap (λ p. is_some (scalar_behind at (MemberThen d ds) (start_of at d + 0) p)) (sym same)
       ∙ ap is_some (first_finds at d ds 0 d 0 sized (whole_found d))
+
+-- ---- in an array of structures
+
+pub is_some_mapped : (rest : Option ℕ) (f : ℕ → ℕ) → is_some (option_map f rest) ≡ is_some rest
+is_some_mapped None f = refl
+is_some_mapped (Some k) f = refl
+
+some_there : (stands test : Bool) (rest : Option ℕ) (f : ℕ → ℕ) → test ≡ true → is_some rest ≡ true
+    → is_some (if stands then Some 0 else if test then option_map f rest else None) ≡ true
+some_there true test rest f t r = refl
+some_there false test rest f t r = rw t (is_some_mapped rest f ∙ r)
+
+-- what is found in the element that an offset leads to is found in the array
+pub some_in_array : (bounds : List Bounds) (e : Description) (o index inner count : ℕ) (part : Description) → index ≡ o / stride_of e → inner ≡ o % stride_of e
+    → count ≡ min (count_of bounds) 18446744073709551615 → index < count → is_some (first_scalar e inner part) ≡ true
+    → is_some (first_scalar (Array bounds e) o part) ≡ true
+some_in_array bounds e o index inner count part index_is inner_is count_is below found =
+    some_there (stands_here (Array bounds e) o part) (nat_lt (o / stride_of e) (count_of bounds)) (first_scalar e (o % stride_of e) part)
+    (λ k. o / stride_of e * scalars_in e + k) (lt-ltb _ _ (omega (arith, index_is, count_is, below)))
+    (ap (λ n. is_some (first_scalar e n part)) (sym inner_is) ∙ found)

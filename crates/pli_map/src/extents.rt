@@ -4,7 +4,7 @@ ghost use Rattle.pli_map.specs.Sizes.{count_of, size_of, stride_of, end_behind};
 ghost use Rattle.pli_map.specs.views.DescriptionView.{description_view, members_view};
 
 use crate::description::{Bounds, Description};
-use crate::sizes::{alignment, fixed_binary_size};
+use crate::sizes::{aligned, alignment, fixed_binary_size};
 
 /// A number of bytes that an offset of 32 bits is below.
 pub const FAR: u64 = 4_294_967_296;
@@ -31,7 +31,7 @@ pub fn far_size(description: &Description) -> u64
 fn far_array(bounds: &[Bounds], element: &Description) -> u64
     ensures { result ≡ min (count_of bounds.now * stride_of (description_view element.now)) 4294967296 }
 {
-    let stride = far_size(element).next_multiple_of(u64::from(alignment(element)));
+    let stride = aligned(far_size(element), u64::from(alignment(element)));
     every_element(bounds).saturating_mul(stride).min(FAR)
 }
 
@@ -41,7 +41,7 @@ fn far_end(members: &[Description]) -> u64
 {
     let mut end: u64 = 0;
     for member in members {
-        let start = end.next_multiple_of(u64::from(alignment(member)));
+        let start = aligned(end, u64::from(alignment(member)));
         end = (start + far_size(member)).min(FAR);
     }
     end
@@ -51,7 +51,7 @@ fn far_end(members: &[Description]) -> u64
 pub fn far_stride(element: &Description) -> u64
     ensures { result ≡ min (stride_of (description_view element.now)) 4294967296 }
 {
-    far_size(element).next_multiple_of(u64::from(alignment(element)))
+    aligned(far_size(element), u64::from(alignment(element)))
 }
 
 /// How many elements an array of these bounds has; 2^64 - 1 stands for every greater number.

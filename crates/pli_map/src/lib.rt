@@ -24,7 +24,9 @@ pub use laws::{
 };
 pub use layout::{Layout, OVER_LIMIT, SIZE_LIMIT};
 pub use parts::{PathStep, PlacedPart, place};
-pub use scalars::{first_scalar, is_aggregate, is_area, is_scalar, scalars_in, stands_among};
+pub use scalars::{
+    first_scalar, is_aggregate, is_area, is_scalar, scalars_in, stands_among, stands_in,
+};
 pub use sizes::{alignment, fixed_binary_size, measure, size};
 pub use stored::{load_value, store_value};
 pub use table::Table;

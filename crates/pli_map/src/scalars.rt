@@ -2,7 +2,7 @@
 ghost use Rattle.std.specs.Prelude.{◌≡◌, ◌+◌, ◌*◌, ◌/◌, ◌%◌, ◌≤◌, ◌<◌, min, nat_lt, true, if◌then◌else◌, IfSome, None};
 ghost use Rattle.std.specs.Prelude.{option_map};
 ghost use Rattle.std.specs.Option.{is_some};
-ghost use Rattle.pli_map.specs.Description.{Structure};
+ghost use Rattle.pli_map.specs.Description.{Array, Structure};
 ghost use Rattle.pli_map.specs.Scalars.{is_aggregate, is_area, is_scalar, scalars_in, scalars_among, stands_here};
 ghost use Rattle.pli_map.specs.Scalars.{first_scalar, scalar_behind};
 ghost use Rattle.pli_map.specs.Sizes.{alignment_of, count_of, size_of, stride_of};
@@ -10,7 +10,7 @@ ghost use Rattle.pli_map.specs.views.DescriptionView.{description_view, members_
 
 use crate::description::{Bounds, Description, are_same_scalars};
 use crate::extents::{every_element, far_size, far_stride};
-use crate::sizes::{alignment, fixed_binary_size};
+use crate::sizes::{aligned, alignment, fixed_binary_size};
 
 /// Whether a description is an array or a structure.
 #[inline]
@@ -112,7 +112,7 @@ pub fn stands_among(members: &[Description], offset: u32, part: &Description) ->
         let Some(room) = scalar_room(member) else {
             return false;
         };
-        let start = at.next_multiple_of(room.1);
+        let start = aligned(at, room.1);
         if wanted == start && room.0 > 0 {
             return are_same_scalars(member, part);
         }
@@ -122,6 +122,62 @@ pub fn stands_among(members: &[Description], offset: u32, part: &Description) ->
         }
     }
     false
+}
+
+/// Whether a part of this description stands so many bytes after the beginning of a whole. A scalar in an array of
+/// such, and one that is a member of a structure after other scalars in an array of such, take a short way. Takes no
+/// memory, and time for the members.
+pub fn stands_in(whole: &Description, offset: u32, part: &Description) -> bool
+    ensures { result ≡ is_some (first_scalar (description_view whole.now) offset (description_view part.now)) }
+{
+    match whole {
+        Description::Array { bounds, element } => {
+            stands_in_elements(bounds, element, offset, part)
+                || first_scalar(whole, offset, part).is_some()
+        }
+        _ => first_scalar(whole, offset, part).is_some(),
+    }
+}
+
+/// Whether a scalar stands so in an array of such; `false` leaves it open.
+fn stands_in_elements(
+    bounds: &[Bounds],
+    element: &Description,
+    offset: u32,
+    part: &Description,
+) -> bool
+    ensures { result ≡ true → is_some (first_scalar (Array bounds.now (description_view element.now)) offset
+        (description_view part.now)) ≡ true }
+{
+    let (index, inner) = divided(offset, far_stride(element));
+    if index >= every_element(bounds) {
+        return false;
+    }
+    stands_in_element(element, inner, part)
+}
+
+/// Whether a scalar stands so in one of them; `false` leaves it open.
+#[inline(always)]
+fn stands_in_element(element: &Description, offset: u32, part: &Description) -> bool
+    ensures { result ≡ true → is_some (first_scalar (description_view element.now) offset (description_view part.now))
+        ≡ true }
+{
+    match element {
+        Description::Structure(members) => stands_among(members, offset, part),
+        _ => is_itself(element, offset, part),
+    }
+}
+
+/// Whether a scalar is the part, at no distance; `false` leaves it open.
+#[inline(always)]
+fn is_itself(whole: &Description, offset: u32, part: &Description) -> bool
+    ensures { result ≡ true → is_some (first_scalar (description_view whole.now) offset (description_view part.now))
+        ≡ true }
+{
+    if offset != 0 {
+        return false;
+    }
+    are_same_scalars(whole, part)
 }
 
 /// How many bytes a scalar takes, and its alignment; `None` for what is none.
@@ -190,7 +246,7 @@ fn scalar_of_member(members: &[Description], offset: u32, part: &Description) ->
     let mut at: u64 = 0;
     let mut before: usize = 0;
     for member in members {
-        let start = at.next_multiple_of(u64::from(alignment(member)));
+        let start = aligned(at, u64::from(alignment(member)));
         if u64::from(offset) < start {
             return None;
         }

@@ -1,5 +1,5 @@
 //! How many bytes a description takes, and on which bytes it may stand (own).
-ghost use Rattle.std.specs.Prelude.{◌≡◌, ◌<◌, ◌≤◌, ◌+◌, ◌*◌, min, max, SomeIff};
+ghost use Rattle.std.specs.Prelude.{◌≡◌, ◌<◌, ◌≤◌, ◌+◌, ◌*◌, ◌^◌, min, max, SomeIff};
 ghost use Rattle.std.specs.Int.{next_multiple_of};
 ghost use Rattle.pli_map.specs.Sizes.{count_of, alignment_of, greatest_alignment, size_of, end_behind, stride_of};
 ghost use Rattle.pli_map.specs.Sizes.{number_bytes};
@@ -58,6 +58,24 @@ pub fn fixed_binary_size(precision: u64) -> u32
         0..=15 => 2,
         16..=31 => 4,
         _ => 8,
+    }
+}
+
+/// The next multiple of an alignment at or after a place. Those of 1, 2, 4 and 8 bytes need no division.
+#[inline(always)]
+pub fn aligned(place: u64, alignment: u64) -> u64
+    requires nonzero { 0 < alignment }
+    requires fits { next_multiple_of place alignment < 2 ^ 64 }
+    ensures value { result ≡ next_multiple_of place alignment }
+    ensures lower_bound { place ≤ result }
+    ensures upper_bound { result < place + alignment }
+{
+    match alignment {
+        1 => place.next_multiple_of(1),
+        2 => place.next_multiple_of(2),
+        4 => place.next_multiple_of(4),
+        8 => place.next_multiple_of(8),
+        _ => place.next_multiple_of(alignment),
     }
 }
 

@@ -4,8 +4,10 @@ use Rattle.std.proofs.lemmas.Option.{IfSome_then}
 use Rattle.pli_bytes.specs.Contents.{value_in}
 use Rattle.pli_map.specs.Description.{Description, Bit, FixedBinary, Pointer}
 use Rattle.pli_map.specs.Scalars.{is_scalar}
+use Rattle.pli_value.specs.Short.{short_view}
 use Rattle.pli_value.specs.Value.{Value, Bits, Number, Characters, Located}
 use Rattle.pli_value.specs.declared.locator.Locator.{Locator}
+use Rattle.pli_value.specs.declared.short_bits.ShortBits.{ShortBits}
 use Rattle.pli_world.specs.Storage as plain
 use Rattle.pli_world.specs.World.{World, Yields, held}
 use Rattle.pli_store.specs.answers.Found.{LeadsTo}
@@ -41,6 +43,14 @@ module _ (s : Storage) (p : plain.Place) (part : GenerationPart) (l : LeadsTo (s
   bit_read is r found =
       IfSome_then r found
       (λ b value. value_read (Bits (b ∷ [])) (ap is_scalar is)
+      (ap (λ (d : Description). value_in bytes (record { offset = part.offset; description = d })) is ∙ value))
+
+  pub short_read : (count : ℕ) → p.description ≡ Bit count → (r : Option ShortBits)
+      → IfSome r (λ b. value_in bytes (record { offset = part.offset; description = Bit count }) ≡ Bits (short_view b))
+      → IfSome r (λ b. held p (with_storage s w) ≡ Yields (Bits (short_view b)) (with_storage s w))
+  short_read count is r found =
+      IfSome_then r found
+      (λ b value. value_read (Bits (short_view b)) (ap is_scalar is)
       (ap (λ (d : Description). value_in bytes (record { offset = part.offset; description = d })) is ∙ value))
 
   pub pointer_read : p.description ≡ Pointer → (r : Option Locator)

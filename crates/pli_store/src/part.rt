@@ -1,12 +1,13 @@
 //! Where a place leads in storage.
-ghost use Rattle.std.specs.Prelude.{◌≡◌, ◌<◌, ◌/◌, ◌%◌, ◌∷◌, [], ◌&&◌, true, nat_eq, nat_lt, IfSome};
+ghost use Rattle.std.specs.Prelude.{◌≡◌, ◌≤◌, ◌<◌, ◌/◌, ◌%◌, ◌∷◌, [], ◌&&◌, true, nat_eq, nat_lt, IfSome};
 ghost use Rattle.std.specs.Option.{is_some};
 ghost use Rattle.pli_map.specs.Description as tree;
 ghost use Rattle.pli_map.specs.Scalars.{first_scalar};
 ghost use Rattle.pli_map.specs.Sizes.{number_bytes, size_of};
 ghost use Rattle.pli_map.specs.views.DescriptionView.{description_view, members_view};
 
-use pli_map::{Bounds, Description, are_same_scalars, first_scalar, stands_among};
+use pli_map::{Bounds, Description, are_same_scalars, first_scalar, stands_among, stands_in};
+use pli_value::short::SHORT_LIMIT;
 
 /// Where a part stands: the index of its generation among those that live, and its offset there, in bytes.
 #[derive(Clone, Copy)]
@@ -44,6 +45,31 @@ pub fn is_one_bit(description: &Description) -> bool
 {
     match description {
         Description::Bit(length) => *length == 1,
+        _ => false,
+    }
+}
+
+/// How many bits a string has, where a description is of BIT and these are few.
+#[inline(always)]
+pub fn short_length(description: &Description) -> Option<usize>
+    ensures length { IfSome result (λ count. description_view description.now ≡ tree.Bit count) }
+    ensures few { IfSome result (λ count. count ≤ 63) }
+{
+    match description {
+        Description::Bit(length) if usize::from(*length) <= SHORT_LIMIT => {
+            Some(usize::from(*length))
+        }
+        _ => None,
+    }
+}
+
+/// Whether a description is of strings of so many bits.
+#[inline(always)]
+pub fn is_of_bits(description: &Description, count: usize) -> bool
+    ensures { result ≡ true → description_view description.now ≡ tree.Bit count }
+{
+    match description {
+        Description::Bit(length) => usize::from(*length) == count,
         _ => false,
     }
 }
@@ -140,8 +166,8 @@ fn is_member(members: &[Description], offset: u32, part: &Description) -> bool
 }
 
 /// Whether a part of this description stands so many bytes behind the beginning of a whole. A scalar that stands alone,
-/// one that is a member of a structure behind other scalars, and a number and one bit in an array of one dimension,
-/// take the short way.
+/// one that is a member of a structure behind other scalars, one that is such a member in an array of structures, and a
+/// number and one bit in an array of one dimension, take the short way.
 #[inline(always)]
 pub fn is_part(whole: &Description, offset: u32, part: &Description) -> bool
     ensures { result ≡ is_some (first_scalar (description_view whole.now) offset (description_view part.now)) }
@@ -155,16 +181,16 @@ pub fn is_part(whole: &Description, offset: u32, part: &Description) -> bool
                 Description::FixedBinary(has) if bounds.len() == 1 && *has == *wanted => {
                     is_number_in(bounds[0], *has, offset)
                 }
-                _ => first_scalar(whole, offset, part).is_some(),
+                _ => stands_in(whole, offset, part),
             }
         }
         (Description::Array { bounds, element }, Description::Bit(1)) => match &**element {
             Description::Bit(1) if bounds.len() == 1 => is_bit_in(bounds[0], offset),
-            _ => first_scalar(whole, offset, part).is_some(),
+            _ => stands_in(whole, offset, part),
         },
         (Description::Structure(members), _) => {
             is_member(members, offset, part) || first_scalar(whole, offset, part).is_some()
         }
-        _ => first_scalar(whole, offset, part).is_some(),
+        _ => stands_in(whole, offset, part),
     }
 }

@@ -6,15 +6,16 @@ ghost use Rattle.pli_map.specs.views.DescriptionView.{description_view};
 ghost use Rattle.pli_store.specs.answers.Found.{PartStands};
 ghost use Rattle.pli_store.specs.answers.Puts.{ValuesPut, ValuesPutOrSame, LengthenedOrSame};
 ghost use Rattle.pli_store.specs.views.GenerationView.{generation_view};
+ghost use Rattle.pli_value.specs.Short.{short_view};
 ghost use Rattle.pli_value.specs.Value.{value_view, Number, Bits, Located};
 
 use crate::bits::put_bit_at;
 use crate::generation::Generation;
 use crate::part::GenerationPart;
 use crate::pointers::put_pointer_at;
-use pli_bytes::{append_at, put_number_at, put_value_at};
+use pli_bytes::{append_at, put_number_at, put_short_at, put_value_at};
 use pli_map::Description;
-use pli_value::{Locator, Value, number};
+use pli_value::{Locator, ShortBits, Value, number};
 
 /// Whether a number of so many binary digits may be this.
 #[inline(always)]
@@ -68,6 +69,22 @@ pub fn put_bit(generations: &mut Vec<Generation<'_>>, part: GenerationPart, bit:
 {
     let generation = &mut generations[part.at];
     put_bit_at(&mut generation.bytes, part.offset, bit)
+}
+
+/// The same of a string of few bits; `false` where it has no room.
+#[inline(always)]
+pub fn put_short(
+    generations: &mut Vec<Generation<'_>>,
+    part: GenerationPart,
+    bits: ShortBits,
+) -> bool
+    requires { PartStands (map generation_view generations.old.items) part (Bit bits.count) }
+    ensures { ValuesPutOrSame result (map generation_view generations.old.items)
+        (map generation_view generations.new.items)
+        part (Bit bits.count) (Bits (short_view bits) ∷ []) }
+{
+    let generation = &mut generations[part.at];
+    put_short_at(&mut generation.bytes, part.offset, bits)
 }
 
 /// The same of a pointer; `false` where it has no room, and for an offset.

@@ -3,11 +3,12 @@ ghost use Rattle.std.specs.Prelude.{◌≡◌, ◌≤◌, ◌++◌, List, ◌∷
 ghost use Rattle.std.specs.Prelude.{MatchOption, MatchResult, OnErr};
 ghost use Rattle.std.specs.Option.{option_map};
 ghost use Rattle.pli_bytes.specs.Contents.{values_of};
-ghost use Rattle.pli_map.specs.Description.{FixedBinary, Pointer};
+ghost use Rattle.pli_map.specs.Description.{Bit, FixedBinary, Pointer};
 ghost use Rattle.pli_map.specs.Scalars.{scalars_of};
 ghost use Rattle.pli_map.specs.Sizes.{size_of};
 ghost use Rattle.pli_map.specs.Values.{are_held};
 ghost use Rattle.pli_map.specs.views.DescriptionView.{description_view};
+ghost use Rattle.pli_value.specs.Short.{short_view};
 ghost use Rattle.pli_value.specs.Value as plain;
 ghost use Rattle.pli_value.specs.Value.{value_view, Number, Characters, Bits, Located};
 ghost use Rattle.pli_world.specs.Storage.{generation_in, live_bytes, without};
@@ -26,17 +27,19 @@ use crate::fault::StoreFault;
 use crate::generation::{Generation, Made};
 use crate::living::Target;
 use crate::part::{
-    GenerationPart, greatest_length, is_number_at, is_one_bit, is_part, is_pointer,
-    number_precision,
+    GenerationPart, greatest_length, is_number_at, is_of_bits, is_one_bit, is_part, is_pointer,
+    number_precision, short_length,
 };
 use crate::place::Place;
 use crate::pointers::pointer_at;
-use crate::putting::{holds_number, lengthen, put_bit, put_number, put_pointer, put_value};
+use crate::putting::{
+    holds_number, lengthen, put_bit, put_number, put_pointer, put_short, put_value,
+};
 use crate::spare::SpareBytes;
-use pli_bytes::{number_at, put_value_at, text_at, value_at};
+use pli_bytes::{number_at, put_value_at, short_at, text_at, value_at};
 use pli_map::{Description, are_same_scalars, far_size, holds, is_area, is_scalar};
 use pli_run::RunError;
-use pli_value::{Locator, Value};
+use pli_value::{Locator, ShortBits, Value};
 use std::alloc::{AllocError, Global};
 
 /// How many bytes may live at once (own).
@@ -280,6 +283,34 @@ impl<'m> Storage<'m> {
         }
     }
 
+    /// The bits that the place of a scalar of BIT of so many bits holds, which are few; `None` where it holds none, and
+    /// for a place in a block.
+    #[inline]
+    fn short_in(&self, place: Place<'_>, count: usize) -> Option<ShortBits>
+        requires length { description_view place.description.now ≡ Bit count }
+        requires few { count ≤ 63 }
+        ensures { (w : World) → IfSome result (λ s. held (place_view place.entry) (with_storage self.now w)
+            ≡ Yields (Bits (short_view s)) (with_storage self.now w)) }
+    {
+        match self.scalar_part(place) {
+            Some(part) => short_at(&self.generations[part.at].bytes, part.offset, count),
+            None => None,
+        }
+    }
+
+    /// The bits that the place of a scalar of BIT of at most 63 bits holds; `None` where it holds none, or nothing, and
+    /// for a place in a block, of which `held` tells. Those of a string alone are found at once.
+    #[inline]
+    pub fn short_at(&self, place: Place<'_>) -> Option<ShortBits>
+        ensures { (w : World) → IfSome result (λ s. held (place_view place.entry) (with_storage self.now w)
+            ≡ Yields (Bits (short_view s)) (with_storage self.now w)) }
+    {
+        match short_length(place.description) {
+            Some(count) => self.short_in(place, count),
+            None => None,
+        }
+    }
+
     /// The pointer that the place of a scalar of POINTER holds, which is not alone.
     #[inline(never)]
     fn far_pointer(&self, place: Place<'_>) -> Option<Locator>
@@ -446,6 +477,21 @@ impl<'m> Storage<'m> {
         match self.lone(place) {
             Some(at) => Some(GenerationPart { at, offset: 0 }),
             None => self.part(place).ok(),
+        }
+    }
+
+    /// Bits put at the place of a scalar of BIT of as many; where they are not, nothing has changed, and `stored` tells
+    /// why. At a string alone they are put at once.
+    #[inline]
+    pub fn put_short(&mut self, place: Place<'_>, bits: ShortBits) -> bool
+        ensures { ValuePut result self.old self.new (place_view place.entry) (Bits (short_view bits)) }
+    {
+        if !is_of_bits(place.description, bits.count) {
+            return false;
+        }
+        match self.scalar_part(place) {
+            Some(part) => put_short(&mut self.generations, part, bits),
+            None => false,
         }
     }
 

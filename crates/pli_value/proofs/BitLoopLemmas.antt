@@ -1,8 +1,8 @@
 -- Strings of bits that are made bit by bit: what stands there so far, and one bit more.
-use Rattle.std.proofs.Common.{◌≡◌, ℕ, zero, suc, ◌+◌, ◌-◌, List, [], ◌∷◌, ◌++◌, length, take, map, replicate, get_or, refl, sym, ap, ◌∙◌, arith}
+use Rattle.std.proofs.Common.{◌≡◌, ℕ, zero, suc, ◌+◌, ◌-◌, ◌<◌, ◌≤◌, Bool, false, List, [], ◌∷◌, ◌++◌, length, take, drop, map, replicate, get_or, refl, sym, ap, ◌∙◌, arith}
 use Rattle.std.specs.List.{range_with_len}
-use Rattle.std.proofs.lemmas.List.{get_or-map, length-take, length-map, get_or-take, length-append, length-replicate}
-use Rattle.std.proofs.lemmas.List.FromFn.{length-map-range_with_len, map-range_with_len_more, fill_by_all}
+use Rattle.std.proofs.lemmas.List.{get_or-map, length-take, length-drop, length-map, get_or-take, get_or-drop, length-append, length-replicate}
+use Rattle.std.proofs.lemmas.List.FromFn.{length-map-range_with_len, get_or-map-range_with_len, map-range_with_len_more, fill_by_all}
 use Rattle.pli_value.specs.Strings.{fitted}
 
 -- what a function gives at the first so many places
@@ -22,6 +22,22 @@ tabulated_counted f n now is = ap length is ∙ length-map-range_with_len f 0 n
 pub map_is_tabulated : {A B : Type 0} → (g : A → B) (s : List A) (d : A) → map g s ≡ tabulated (λ k. g (get_or s k d)) (length s)
 map_is_tabulated g s d =
     fill_by_all (λ k. g (get_or s k d)) (map g s) (length s) (g d) (length-map s g) (λ k below. get_or-map g s k d (g d) below)
+
+-- two functions that give the same at each place
+pub same_tabulated : (f g : ℕ → Bool) (n : ℕ) → ((k : ℕ) → k < n → f k ≡ g k) → tabulated f n ≡ tabulated g n
+same_tabulated f g n same =
+    fill_by_all g (tabulated f n) n false (length-map-range_with_len f 0 n)
+    (λ k below. get_or-map-range_with_len f 0 n k k false below (omega arith) ∙ same k below)
+
+-- a string, and a part of one, element by element
+pub itself_tabulated : (s : List Bool) (n : ℕ) → length s ≡ n → s ≡ tabulated (λ k. get_or s k false) n
+itself_tabulated s n counted = fill_by_all (λ k. get_or s k false) s n false counted (λ k below. refl)
+
+pub piece_tabulated : (s : List Bool) (before n : ℕ) → before + n ≤ length s → take n (drop before s) ≡ tabulated (λ k. get_or s (before + k) false) n
+piece_tabulated s before n within =
+    fill_by_all (λ k. get_or s (before + k) false) (take n (drop before s)) n false
+    (omega (arith, length-take n (drop before s), length-drop before s))
+    (λ k below. get_or-take n (drop before s) k false below ∙ get_or-drop before s k false)
 
 -- elements that are all the default
 replicated : {A : Type 0} → (d : A) (m j : ℕ) → get_or (replicate m d) j d ≡ d

@@ -1,6 +1,9 @@
 pub mod BitLoopLemmas
+pub mod ByteLemmas
+pub mod ByteLoopLemmas
 pub mod OrderLemmas
 pub mod PackedLaws
 pub mod PackingLaws
 pub mod PlaceLemmas
 pub mod RemainderLaws
+pub mod ShortLemmas

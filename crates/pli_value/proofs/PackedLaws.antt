@@ -16,17 +16,34 @@ same_byte : (f g : ℕ → Bool) → f 0 ≡ g 0 → f 1 ≡ g 1 → f 2 ≡ g 2
 same_byte f g a b c d e h i j = rw (a, b, c, d, e, h, i, j)
 
 -- a bit of the string is one of its bytes
-bit_is : (n : ℕ) (bytes : List ℕ) (place : ℕ) → IsPacked n bytes → get_or (unpacked n bytes) place false ≡ packed_bit bytes place
+pub bit_is : (n : ℕ) (bytes : List ℕ) (place : ℕ) → IsPacked n bytes → get_or (unpacked n bytes) place false ≡ packed_bit bytes place
 bit_is n bytes place it = elim (cases_lt place n) [
   | inl below ↦ bit_at_place n bytes place below
   | inr over ↦ sym (bit_behind n bytes place over) ∙ sym (it.blank place over)
 ]
 
-bit_in_byte : (n : ℕ) (bytes : List ℕ) (k i : ℕ) → IsPacked n bytes → i < 8 → get_or (unpacked n bytes) (8 * k + i) false ≡ nat_eq (bit_at (slice_index bytes k) (7 - i)) 1
+pub bit_in_byte : (n : ℕ) (bytes : List ℕ) (k i : ℕ) → IsPacked n bytes → i < 8 → get_or (unpacked n bytes) (8 * k + i) false ≡ nat_eq (bit_at (slice_index bytes k) (7 - i)) 1
 bit_in_byte n bytes k i it below =
     let byte : (8 * k + i) / 8 ≡ k = omega arith in
     let bit : (8 * k + i) % 8 ≡ i = omega arith in
     bit_is n bytes (8 * k + i) it ∙ ap (λ m. nat_eq (bit_at (slice_index bytes m) (7 - (8 * k + i) % 8)) 1) byte ∙ ap (λ m. nat_eq (bit_at (slice_index bytes k) (7 - m)) 1) bit
+
+-- the same of a place that is told otherwise, and of the first byte
+pub bit_there : (n : ℕ) (bytes : List ℕ) (p q : ℕ) → IsPacked n bytes → p ≡ q → packed_bit bytes p ≡ get_or (unpacked n bytes) q false
+bit_there n bytes p q it is = ap (packed_bit bytes) is ∙ sym (bit_is n bytes q it)
+
+pub bit_in_first : (n : ℕ) (bytes : List ℕ) (q j : ℕ) → IsPacked n bytes → q < 8 → j ≡ 7 - q
+    → nat_eq (bit_at (get_or bytes 0 0) j) 1 ≡ get_or (unpacked n bytes) q false
+bit_in_first n bytes q j it below is =
+    let here : 8 * 0 + q ≡ q = omega arith in
+    ap (λ (m : ℕ). nat_eq (bit_at (get_or bytes 0 0) m) 1) is
+    ∙ sym (bit_in_byte n bytes 0 q it below)
+    ∙ ap (λ (m : ℕ). get_or (unpacked n bytes) m false) here
+
+-- what a string shows of bytes that hold it
+pub bit_shown : (n : ℕ) (bytes : List ℕ) (s : List Bool) (p q : ℕ) → IsPacked n bytes → unpacked n bytes ≡ s → p ≡ q
+    → packed_bit bytes p ≡ get_or s q false
+bit_shown n bytes s p q it is same = bit_there n bytes p q it same ∙ ap (λ (bits : List Bool). get_or bits q false) is
 
 byte_at : (n : ℕ) (bytes : List ℕ) (k : ℕ) → IsPacked n bytes → slice_index bytes k < 256 → slice_index bytes k ≡ byte_of (λ i. get_or (unpacked n bytes) (8 * k + i) false)
 byte_at n bytes k it small =

@@ -2,6 +2,7 @@ pub mod Conversions
 pub mod Locators
 pub mod Numbers
 pub mod Packing
+pub mod Short
 pub mod Strings
 pub mod Value
 pub mod examples

@@ -1,12 +1,16 @@
 //! Strings of bits (X3.74), packed eight to a byte.
-ghost use Rattle.std.specs.Prelude.{◌≡◌, ◌≤◌, ◌<◌, ◌+◌, ◌*◌, ◌++◌, ◌∷◌, [], length, slice_index_or, take, drop, false};
-ghost use Rattle.std.specs.Prelude.{IfOk, OnErr, MatchOption, Some, None};
+ghost use Rattle.std.specs.Prelude.{◌≡◌, ℕ, ◌≤◌, ◌<◌, ◌+◌, ◌-◌, ◌*◌, ◌++◌, ◌∷◌, [], length, map, nat_eq};
+ghost use Rattle.std.specs.Prelude.{slice_index_or, take, drop, false, IfOk, OnErr, MatchOption, Some, None};
+ghost use Rattle.std.specs.Int.{bit_at};
+ghost use Rattle.std.specs.List.{range_with_len};
 ghost use Rattle.std.specs.Ordering.{bool_cmp};
 ghost use Rattle.pli_value.specs.Strings.{order_of, concatenation, substring, substring_from, fitted, conjunction};
 ghost use Rattle.pli_value.specs.Strings.{disjunction, negation, index_of, is_true};
 ghost use Rattle.pli_value.specs.Conversions.{bit_character, bit_characters};
+ghost use Rattle.pli_value.specs.Packing.{packed_bit};
 
 use crate::character::{self, STRING_LIMIT};
+use crate::packing::{across, byte_at, bytes_of, first_of, turned, window};
 use crate::part::{part_of, rest_of};
 use std::alloc::{AllocError, Global};
 use std::cmp::Ordering;
@@ -98,11 +102,46 @@ impl Bits {
         requires within { count ≤ 8 * length bytes.now }
         ensures { IfOk result (λ bits. bits ≡ unpacked count bytes.now) }
     {
-        let mut bits = Bits::new(alloc);
-        for place in 0..count {
-            bits.push(bytes[place / 8] >> (7 - place % 8) & 1 == 1)?;
-        }
+        let bits = cut(alloc, bytes, 0, count)?;
         Ok(bits)
+    }
+
+    /// The bits that stand in bytes, of which there are as many as they need, with nothing after the last one.
+    #[inline]
+    fn of_bytes(bytes: Vec<u8>, count: usize) -> Bits
+        requires { IsPacked count bytes.items }
+        ensures { result ≡ unpacked count bytes.items }
+    {
+        Bits { bytes, count }
+    }
+
+    /// Eight bits from 8 times a number on, the first one highest; zeros after the end.
+    #[inline(always)]
+    fn octet(&self, number: usize) -> u8
+        ensures { (i : ℕ) → i < 8 → nat_eq (bit_at result (7 - i)) 1 ≡ slice_index_or self.now (8 * number + i) false }
+    {
+        byte_at(self.bytes.as_slice(), number)
+    }
+
+    /// Eight bits from 8 times a number on, where these begin so many bits further on; zeros before them and after
+    /// them.
+    #[inline]
+    fn octet_after(&self, before: usize, number: usize) -> u8
+        requires { number ≤ 4096 }
+        ensures none { (i : ℕ) → i < 8 → 8 * number + i < before → nat_eq (bit_at result (7 - i)) 1 ≡ false }
+        ensures some { (i : ℕ) → i < 8 → before ≤ 8 * number + i
+            → nat_eq (bit_at result (7 - i)) 1 ≡ slice_index_or self.now (8 * number + i - before) false }
+    {
+        let bytes = self.bytes.as_slice();
+        let place = 8 * number;
+        if before <= place {
+            return window(bytes, place - before);
+        }
+        let shift = before - place;
+        if shift > 7 {
+            return 0;
+        }
+        across(0, byte_at(bytes, 0), 8 - shift)
     }
 
     /// An equal string.
@@ -133,22 +172,26 @@ pub fn compare(left: &Bits, right: &Bits) -> Ordering
 pub fn and(alloc: Global, left: &Bits, right: &Bits) -> Result<Bits, AllocError>
     ensures { IfOk result (λ both. both ≡ conjunction left.now right.now) }
 {
-    let mut both = Bits::new(alloc);
-    for place in 0..left.length().max(right.length()) {
-        both.push(left.at(place) & right.at(place))?;
+    let count = left.length().max(right.length());
+    let size = bytes_of(count);
+    let mut both = Vec::with_capacity(alloc, size)?;
+    for number in 0..size {
+        both.push(left.octet(number) & right.octet(number))?;
     }
-    Ok(both)
+    Ok(Bits::of_bytes(both, count))
 }
 
 /// `|` (X3.74): the shorter string is extended with zeros.
 pub fn or(alloc: Global, left: &Bits, right: &Bits) -> Result<Bits, AllocError>
     ensures { IfOk result (λ joined. joined ≡ disjunction left.now right.now) }
 {
-    let mut joined = Bits::new(alloc);
-    for place in 0..left.length().max(right.length()) {
-        joined.push(left.at(place) | right.at(place))?;
+    let count = left.length().max(right.length());
+    let size = bytes_of(count);
+    let mut joined = Vec::with_capacity(alloc, size)?;
+    for number in 0..size {
+        joined.push(left.octet(number) | right.octet(number))?;
     }
-    Ok(joined)
+    Ok(Bits::of_bytes(joined, count))
 }
 
 /// Whether a condition holds (X3.74): a bit of the string is one.
@@ -165,26 +208,56 @@ pub fn is_true(bits: &Bits) -> bool
 
 /// `^` (X3.74).
 pub fn not(alloc: Global, bits: &Bits) -> Result<Bits, AllocError>
-    ensures { IfOk result (λ turned. turned ≡ negation bits.now) }
+    ensures { IfOk result (λ new. new ≡ negation bits.now) }
 {
-    let mut turned = Bits::new(alloc);
-    for place in 0..bits.length() {
-        turned.push(!bits.at(place))?;
+    let count = bits.length();
+    let size = bytes_of(count);
+    let mut new = Vec::with_capacity(alloc, size)?;
+    for number in 0..size {
+        let byte = turned(bits.octet(number));
+        new.push(first_of(byte, count - 8 * number))?;
     }
-    Ok(turned)
+    Ok(Bits::of_bytes(new, count))
 }
 
-/// Puts so many bits of a string, behind so many of it, at the end of another.
-fn append(to: &mut Bits, bits: &Bits, before: usize, count: usize) -> Result<(), AllocError>
-    requires room { length to.old + count ≤ 32767 }
+/// So many of the bits that stand in bytes, after so many of them; zeros after the bytes.
+fn cut(alloc: Global, bytes: &[u8], before: usize, count: usize) -> Result<Bits, AllocError>
+    requires place { before ≤ 32767 }
+    requires limit { count ≤ 32767 }
+    ensures { IfOk result (λ bits. bits ≡ map (λ k. packed_bit bytes.now (before + k)) (range_with_len 0 count)) }
+{
+    let size = bytes_of(count);
+    let mut packed = Vec::with_capacity(alloc, size)?;
+    for number in 0..size {
+        let byte = window(bytes, before + 8 * number);
+        packed.push(first_of(byte, count - 8 * number))?;
+    }
+    Ok(Bits::of_bytes(packed, count))
+}
+
+/// So many bits of a string, after so many of it.
+fn piece(alloc: Global, bits: &Bits, before: usize, count: usize) -> Result<Bits, AllocError>
     requires within { before + count ≤ length bits.now }
     requires bound { length bits.now ≤ 32767 }
-    ensures { IfOk result (λ _. to.new ≡ to.old ++ take count (drop before bits.now)) }
+    ensures { IfOk result (λ part. part ≡ take count (drop before bits.now)) }
 {
-    for passed in 0..count {
-        to.push(bits.at(before + passed))?;
+    let part = cut(alloc, bits.bytes(), before, count)?;
+    Ok(part)
+}
+
+/// One string after the other, which are short enough together.
+fn join(alloc: Global, left: &Bits, right: &Bits) -> Result<Bits, AllocError>
+    requires { length left.now + length right.now ≤ 32767 }
+    ensures { IfOk result (λ both. both ≡ left.now ++ right.now) }
+{
+    let before = left.length();
+    let more = right.length();
+    let size = bytes_of(before + more);
+    let mut both = Vec::with_capacity(alloc, size)?;
+    for number in 0..size {
+        both.push(left.octet(number) | right.octet_after(before, number))?;
     }
-    Ok(())
+    Ok(Bits::of_bytes(both, before + more))
 }
 
 /// `||` (X3.74): one string behind the other; none where the result has more than [`STRING_LIMIT`] bits.
@@ -195,8 +268,7 @@ pub fn concat(alloc: Global, left: &Bits, right: &Bits) -> Result<Option<Bits>, 
     if left.length() + right.length() > STRING_LIMIT {
         return Ok(None);
     }
-    let mut both = left.copy(alloc)?;
-    append(&mut both, right, 0, right.length())?;
+    let both = join(alloc, left, right)?;
     Ok(Some(both))
 }
 
@@ -211,8 +283,7 @@ pub fn substr(
 {
     match part_of(bits.length(), first, count) {
         Some((before, count)) => {
-            let mut part = Bits::new(alloc);
-            append(&mut part, bits, before, count)?;
+            let part = piece(alloc, bits, before, count)?;
             Ok(Some(part))
         }
         None => Ok(None),
@@ -225,8 +296,7 @@ pub fn rest(alloc: Global, bits: &Bits, first: i64) -> Result<Option<Bits>, Allo
 {
     match rest_of(bits.length(), first) {
         Some((before, count)) => {
-            let mut part = Bits::new(alloc);
-            append(&mut part, bits, before, count)?;
+            let part = piece(alloc, bits, before, count)?;
             Ok(Some(part))
         }
         None => Ok(None),
@@ -238,10 +308,20 @@ pub fn fit(alloc: Global, bits: &Bits, size: usize) -> Result<Bits, AllocError>
     requires { size ≤ 32767 }
     ensures { IfOk result (λ new. new ≡ fitted false size bits.now) }
 {
-    let mut new = Bits::new(alloc);
-    for place in 0..size {
-        new.push(bits.at(place))?;
+    let new = cut(alloc, bits.bytes(), 0, size)?;
+    Ok(new)
+}
+
+/// The same of a string that is handed over. It takes no memory where the string has so many bits already.
+pub fn fit_whole(alloc: Global, bits: Bits, size: usize) -> Result<Bits, AllocError>
+    requires { size ≤ 32767 }
+    ensures { IfOk result (λ new. new ≡ fitted false size bits) }
+{
+    let count = bits.length();
+    if count == size {
+        return Ok(bits);
     }
+    let new = fit(alloc, &bits, size)?;
     Ok(new)
 }
 

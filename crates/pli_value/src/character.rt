@@ -15,6 +15,9 @@ use std::cmp::Ordering;
 /// The most characters, or bits, of a string (own).
 pub const STRING_LIMIT: usize = 32_767;
 
+/// How many characters more a copy has room for (own).
+const ROOM: usize = 64;
+
 /// The order of two strings by their codes, the shorter one extended with blanks (X3.74).
 pub fn compare(left: &[u8], right: &[u8]) -> Ordering
     ensures { result ≡ order_of 32 nat_cmp left.now right.now }
@@ -62,6 +65,15 @@ pub fn concat(alloc: Global, left: &[u8], right: &[u8]) -> Result<Option<Vec<u8>
     both.extend_from_slice(left)?;
     both.extend_from_slice(right)?;
     Ok(Some(both))
+}
+
+/// An equal string with room for some more characters, which are joined to it without other memory.
+pub fn roomy_copy(alloc: Global, characters: &[u8]) -> Result<Vec<u8>, AllocError>
+    ensures { IfOk result (λ copy. copy.items ≡ characters.now) }
+{
+    let mut copy = Vec::with_capacity(alloc, characters.len() + ROOM)?;
+    copy.extend_from_slice(characters)?;
+    Ok(copy)
 }
 
 /// SUBSTR (X3.74) with a length; none where the part does not lie within the string.

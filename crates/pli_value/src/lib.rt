@@ -6,7 +6,10 @@ pub mod character;
 mod laws;
 mod locator;
 pub mod number;
+mod packing;
 pub mod part;
+pub mod short;
+mod short_bits;
 mod value;
 
 pub use laws::{
@@ -14,4 +17,5 @@ pub use laws::{
     string_examples,
 };
 pub use locator::Locator;
+pub use short_bits::ShortBits;
 pub use value::Value;

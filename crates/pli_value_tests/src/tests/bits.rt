@@ -1,7 +1,8 @@
+use pli_bytes::{put_short_at, short_bits};
 use pli_value::bit::{
     Bits, and, bits_to_char, compare, concat, fit, index, is_true, not, or, rest, substr,
 };
-use pli_value::{Locator, Value};
+use pli_value::{Locator, Value, short};
 use std::alloc::Global;
 use std::process::Abort;
 use std::test::*;
@@ -71,10 +72,51 @@ fn are_nine(rt: &impl Abort, alloc: Global, bits: &Bits) -> bool {
         )
 }
 
+/// Whether seventeen bits are what they were where they are cut at any place and joined again.
+fn are_joined_again(rt: &impl Abort, alloc: Global, bits: &Bits) -> bool {
+    for count in 0..18 {
+        let front = substr(alloc, bits, 1, count).expect(rt, "memory");
+        let back = rest(alloc, bits, count + 1).expect(rt, "memory");
+        let (Some(front), Some(back)) = (front, back) else {
+            return false;
+        };
+        let both = concat(alloc, &front, &back).expect(rt, "memory");
+        if !is_part(rt, alloc, both, b"01011001110001011") {
+            return false;
+        }
+    }
+    true
+}
+
+/// Whether seventeen bits are so where they are kept as numbers.
+fn are_short_joined(rt: &impl Abort, alloc: Global, bits: &Bits) -> bool {
+    for count in 0..18 {
+        let front = substr(alloc, bits, 1, count).expect(rt, "memory");
+        let back = rest(alloc, bits, count + 1).expect(rt, "memory");
+        let (Some(front), Some(back)) = (front, back) else {
+            return false;
+        };
+        let (Some(front), Some(back)) = (short_bits(&front), short_bits(&back)) else {
+            return false;
+        };
+        let Some(both) = short::concat(front, back) else {
+            return false;
+        };
+        let mut bytes = [0; 3];
+        if !put_short_at(&mut bytes, 0, both) || bytes.as_slice() != [89, 197, 128].as_slice() {
+            return false;
+        }
+    }
+    true
+}
+
 #[test]
 fn parts(rt: HostRuntime) {
     let bits = string(&rt, rt.alloc());
-    let are_right = are_parts(&rt, rt.alloc(), &bits) && are_nine(&rt, rt.alloc(), &bits);
+    let are_right = are_parts(&rt, rt.alloc(), &bits)
+        && are_nine(&rt, rt.alloc(), &bits)
+        && are_joined_again(&rt, rt.alloc(), &bits)
+        && are_short_joined(&rt, rt.alloc(), &bits);
     drop(bits);
     assert!(rt; are_right);
 }

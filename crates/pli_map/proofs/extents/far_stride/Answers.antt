@@ -5,5 +5,5 @@ use Rattle.pli_map.proofs.extents.far_stride.Goals as goal
 
 pub returns : goal.returns
 returns c =
-    c.next_multiple_of.ensures.value
+    c.aligned.ensures.value
     ∙ cut_stride (description_view c.args.element.now) c.far_size.result c.from.result c.far_size.ensures (c.from.ensures ∙ c.alignment.ensures.value)

@@ -1,10 +1,9 @@
-use Rattle.std.proofs.Common.{◌≡◌, ℕ, ◌+◌, ◌-◌, ◌*◌, ◌/◌, ◌%◌, ◌<◌, min, Some, None, option_map, refl, sym, ap, ◌∙◌, arith}
+use Rattle.std.proofs.Common.{◌≡◌, ◌+◌, ◌-◌, ◌*◌, ◌/◌, ◌%◌, min, Some, None, option_map, refl, sym, ap, ◌∙◌, arith}
 use Rattle.std.specs.Int.{next_multiple_of}
-use Rattle.pli_map.specs.Description.{Description}
 use Rattle.pli_map.specs.Scalars.{scalars_in, first_scalar}
 use Rattle.pli_map.specs.Sizes.{count_of, stride_of}
 use Rattle.pli_map.specs.views.DescriptionView.{description_view}
-use Rattle.pli_map.proofs.FoundScalars.{found_here, behind_member, none_before_member, none_in_member, some_in_member, quotient_cut, no_element, none_in_element, some_in_element}
+use Rattle.pli_map.proofs.FoundScalars.{found_here, behind_member, none_before_member, none_in_member, some_in_member, quotient_is, no_element, none_in_element, some_in_element}
 use Rattle.pli_map.proofs.Members.{next_member}
 use Rattle.pli_map.proofs.scalars.+first_scalar.Goals as goal
 
@@ -12,11 +11,11 @@ pub scalar_of_member-loop-member-preserved : goal.scalar_of_member-loop-member-p
 scalar_of_member-loop-member-preserved t c =
     let l = c.loop-member in
     let left = next_member c.args.members.now l.member-index c.member-item.result c.loop-member-test.true c.member-item.is in
-    let start = c.next_multiple_of-start.ensures.value ∙ ap (λ n. next_multiple_of l.at n) (c.from.ensures ∙ c.alignment.ensures.value) in
+    let start = c.aligned-start.ensures.value ∙ ap (λ n. next_multiple_of l.at n) (c.from.ensures ∙ c.alignment.ensures.value) in
     let before : c.saturating_add-before.result ≡ min (l.before + c.scalars_in.result) 18446744073709551615 = c.saturating_add-before.ensures in
     record {
       whole = behind_member 18446744073709551615 _ l.at l.before c.args.offset _ _ (description_view c.member-item.result) (description_view c.args.part.now)
-          c.next_multiple_of-start.result left start l.invariant.whole c.far_size.result c.saturating_add-before.result c.far_size.ensures (omega arith)
+          c.aligned-start.result left start l.invariant.whole c.far_size.result c.saturating_add-before.result c.far_size.ensures (omega arith)
           (omega arith) (before ∙ ap (λ n. min (l.before + n) 18446744073709551615) c.scalars_in.ensures);
       near = omega arith;
     }
@@ -25,34 +24,28 @@ pub scalar_of_member-returns-then-from-start : goal.scalar_of_member-returns-the
 scalar_of_member-returns-then-from-start t c =
     let l = c.loop-member in
     let left = next_member c.args.members.now l.member-index c.member-item.result c.loop-member-test.true c.member-item.is in
-    let start = c.next_multiple_of-start.ensures.value ∙ ap (λ n. next_multiple_of l.at n) (c.from.ensures ∙ c.alignment.ensures.value) in
+    let start = c.aligned-start.ensures.value ∙ ap (λ n. next_multiple_of l.at n) (c.from.ensures ∙ c.alignment.ensures.value) in
     none_before_member 18446744073709551615 _ l.at l.before c.args.offset _ _ (description_view c.member-item.result) (description_view c.args.part.now)
-    c.next_multiple_of-start.result left start l.invariant.whole (omega arith)
+    c.aligned-start.result left start l.invariant.whole (omega arith)
 
 pub scalar_of_member-returns-in_err-inner : goal.scalar_of_member-returns-in_err-inner
 scalar_of_member-returns-in_err-inner t c =
     let l = c.loop-member in
     let left = next_member c.args.members.now l.member-index c.member-item.result c.loop-member-test.true c.member-item.is in
-    let start = c.next_multiple_of-start.ensures.value ∙ ap (λ n. next_multiple_of l.at n) (c.from.ensures ∙ c.alignment.ensures.value) in
+    let start = c.aligned-start.ensures.value ∙ ap (λ n. next_multiple_of l.at n) (c.from.ensures ∙ c.alignment.ensures.value) in
     rw c.from_residual.ensures
     (none_in_member 18446744073709551615 _ l.at l.before c.args.offset _ _ (description_view c.member-item.result) (description_view c.args.part.now)
-    c.next_multiple_of-start.result left start l.invariant.whole c.far_size.result (c.args.offset - c.next_multiple_of-start.result) c.far_size.ensures
+    c.aligned-start.result left start l.invariant.whole c.far_size.result (c.args.offset - c.aligned-start.result) c.far_size.ensures
     (omega arith) (omega arith) refl (rw c.from-then-from-end.ensures at c.in_err-inner.ensures))
 
 pub scalar_of_member-returns-then-from-end : goal.scalar_of_member-returns-then-from-end
 scalar_of_member-returns-then-from-end t c =
     let l = c.loop-member in
     let left = next_member c.args.members.now l.member-index c.member-item.result c.loop-member-test.true c.member-item.is in
-    let start = c.next_multiple_of-start.ensures.value ∙ ap (λ n. next_multiple_of l.at n) (c.from.ensures ∙ c.alignment.ensures.value) in
+    let start = c.aligned-start.ensures.value ∙ ap (λ n. next_multiple_of l.at n) (c.from.ensures ∙ c.alignment.ensures.value) in
     some_in_member 18446744073709551615 _ l.at l.before c.args.offset _ _ (description_view c.member-item.result) (description_view c.args.part.now)
-    c.next_multiple_of-start.result left start l.invariant.whole c.far_size.result (c.args.offset - c.next_multiple_of-start.result) c.in_ok-inner.inner
+    c.aligned-start.result left start l.invariant.whole c.far_size.result (c.args.offset - c.aligned-start.result) c.in_ok-inner.inner
     c.saturating_add.result c.far_size.ensures (omega arith) (omega arith) refl (rw c.from-then-from-end.ensures at c.in_ok-inner.ensures) c.saturating_add.ensures
-
-abbrev quotient_is : (offset : ℕ) (d : Description) (stride : ℕ) → offset < 4294967296 → stride ≡ min (stride_of d) 4294967296
-    → (offset / stride ≡ offset / stride_of d) × (offset % stride ≡ offset % stride_of d)
-quotient_is offset d stride below is =
-    let cut = quotient_cut offset (stride_of d) 4294967296 below in
-    (ap (λ n. offset / n) is ∙ cut.0, ap (λ n. offset % n) is ∙ cut.1)
 
 pub scalar_of_element-returns-then-index-every_element : goal.scalar_of_element-returns-then-index-every_element
 scalar_of_element-returns-then-index-every_element t c =

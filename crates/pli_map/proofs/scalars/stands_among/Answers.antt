@@ -12,7 +12,7 @@ loop-member-preserved c =
     let l = c.loop-member in
     let d = description_view c.member-item.result in
     let left = next_member c.args.members.now l.member-index c.member-item.result c.loop-member-test.true c.member-item.is in
-    let start : c.next_multiple_of-start.result ≡ start_of l.at d = c.next_multiple_of-start.ensures.value ∙ ap (next_multiple_of l.at) c.in-Some.ensures.alignment in
+    let start : c.aligned-start.result ≡ start_of l.at d = c.aligned-start.ensures.value ∙ ap (next_multiple_of l.at) c.in-Some.ensures.alignment in
     record {
       found = λ e. l.invariant.found
           (some_behind l.at d _ _ c.args.offset (description_view c.args.part.now) left _ (omega (arith, start, c.in-Some.ensures.size)) e);
@@ -25,7 +25,7 @@ returns-then-room-gt0 c = λ e.
     let l = c.loop-member in
     let d = description_view c.member-item.result in
     let left = next_member c.args.members.now l.member-index c.member-item.result c.loop-member-test.true c.member-item.is in
-    let start : c.next_multiple_of-start.result ≡ start_of l.at d = c.next_multiple_of-start.ensures.value ∙ ap (next_multiple_of l.at) c.in-Some.ensures.alignment in
+    let start : c.aligned-start.result ≡ start_of l.at d = c.aligned-start.ensures.value ∙ ap (next_multiple_of l.at) c.in-Some.ensures.alignment in
     found_among (members_view c.args.members.now) c.args.offset (description_view c.args.part.now)
     (l.invariant.found (some_first l.at d _ _ c.args.offset (description_view c.args.part.now) left (omega (arith, start)) (omega (arith, c.in-Some.ensures.size))
     (c.are_same_scalars.ensures e)))

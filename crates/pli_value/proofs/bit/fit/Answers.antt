@@ -1,20 +1,12 @@
-use Rattle.std.proofs.Common.{◌≡◌, ℕ, Bool, false, get_or, length, sym, ap, ◌∙◌, arith}
-use Rattle.pli_value.proofs.BitLoopLemmas.{tabulated, tabulated_counted, tabulated_more, fitted_is_tabulated}
+use Rattle.std.proofs.Common.{◌+◌, false, get_or, length, sym, ◌∙◌, arith}
+use Rattle.pli_value.specs.Packing.{packed_bit}
+use Rattle.pli_value.proofs.BitLoopLemmas.{same_tabulated, fitted_is_tabulated}
+use Rattle.pli_value.proofs.PackedLaws.{bit_shown}
 use Rattle.pli_value.proofs.bit.fit.Goals as goal
-
-pub push-requires : goal.push-requires
-push-requires c =
-    let f : ℕ → Bool = λ k. get_or c.args.bits.now k false in
-    let counted : length c.loop-place.new ≡ c.loop-place.place = tabulated_counted f c.loop-place.place c.loop-place.new c.loop-place.invariant in
-    omega (arith, c.requires)
-
-pub loop-place-preserved : goal.loop-place-preserved
-loop-place-preserved c =
-    let f : ℕ → Bool = λ k. get_or c.args.bits.now k false in
-    tabulated_more f c.loop-place.place c.loop-place.new _ _ c.loop-place.invariant c.in_ok-push.ensures.pushed (cc)
 
 pub returns : goal.returns
 returns c =
-    let f : ℕ → Bool = λ k. get_or c.args.bits.now k false in
-    let all : c.loop-place.place ≡ c.args.size = omega (arith) in
-    c.loop-place.invariant ∙ ap (tabulated f) all ∙ sym (fitted_is_tabulated false c.args.size c.args.bits.now)
+    c.in_ok-new.ensures
+    ∙ same_tabulated (λ k. packed_bit c.bytes.result.now (0 + k)) (λ k. get_or c.args.bits.now k false) c.args.size
+    (λ k below. bit_shown (length c.args.bits.now) c.bytes.result.now c.args.bits.now (0 + k) k c.bytes.ensures.packed c.bytes.ensures.value (omega arith))
+    ∙ sym (fitted_is_tabulated false c.args.size c.args.bits.now)

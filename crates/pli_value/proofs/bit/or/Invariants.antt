@@ -1,6 +1,6 @@
-use Rattle.std.proofs.Common.{◌≡◌, false, get_or, ◌||◌}
-use Rattle.pli_value.proofs.BitLoopLemmas.{tabulated}
+use Rattle.std.proofs.Common.{false, get_or, ◌||◌}
+use Rattle.pli_value.proofs.ByteLoopLemmas.{AreFilled}
 use Rattle.pli_value.proofs.bit.or.Given as goal
 
-abbrev pub invariant-loop-place : goal.invariant-loop-place
-invariant-loop-place l = l.joined ≡ tabulated (λ k. get_or l.left k false || get_or l.right k false) l.place
+abbrev pub invariant-loop-number : goal.invariant-loop-number
+invariant-loop-number l = AreFilled (λ k. get_or l.left k false || get_or l.right k false) l.count l.number l.joined.items
