@@ -3,7 +3,8 @@
 
 Each NAME.pli stands beside NAME.py, which does the same in the same way and prints the same words. PROGRAM with its words;
 left out, it is bin/pliwb --proved. Times are of the processor, medians of five, each without what comes before the first
-statement: for the workbench that is a session that only builds, for CPython a program of one word.
+statement: for the workbench that is a session that only builds; CPython tells the time itself, from when it has compiled
+the program.
 """
 import math
 import resource
@@ -15,6 +16,16 @@ from pathlib import Path
 TOP = Path(__file__).resolve().parent.parent
 FOLDER = TOP / "bench" / "speed"
 ROUNDS = 5
+# what CPython runs a program by: it compiles it, and tells the processor seconds of its run on standard error
+TOLD = """
+import sys, time
+with open(sys.argv[1]) as file:
+    program = compile(file.read(), sys.argv[1], "exec")
+begun = time.process_time()
+exec(program, {"__name__": "__main__"})
+sys.stdout.flush()
+print(time.process_time() - begun, file=sys.stderr)
+"""
 
 
 def session(text, run):
@@ -42,6 +53,13 @@ def timed(words, given):
     return statistics.median(seconds for seconds, _ in rounds), rounds[0][1]
 
 
+def timed_by_python(path):
+    """The median of the processor seconds of some runs of a program by CPython, and what was printed."""
+    words = [sys.executable, "-c", TOLD, str(path)]
+    rounds = [subprocess.run(words, capture_output=True, check=True, text=True) for _ in range(ROUNDS)]
+    return statistics.median(float(it.stderr.split()[-1]) for it in rounds), rounds[0].stdout
+
+
 def words_in(answers):
     """The words that a session's run printed."""
     behind = answers.partition("BUILT\n")[2]
@@ -53,7 +71,6 @@ def main():
     chosen = program[1] if program[:1] == ["--only"] else ""
     program = program[2:] if chosen else program
     program = program or [str(TOP / "bin" / "pliwb"), "--proved"]
-    idle, _ = timed([sys.executable, "-c", "pass"], b"")
     ratios = []
     print("| Program | Here | CPython | Ratio |")
     print("|---|---|---|---|")
@@ -63,10 +80,10 @@ def main():
         text = path.read_text()
         built, _ = timed(program, session(text, False))
         here, answers = timed(program, session(text, True))
-        there, printed = timed([sys.executable, str(path.with_suffix(".py"))], b"")
+        there, printed = timed_by_python(path.with_suffix(".py"))
         if words_in(answers) != printed.split():
             sys.exit(f"{path.stem}: {' '.join(words_in(answers))[:200]} was printed, and {printed[:200]} by CPython")
-        here, there = max(here - built, 0.001), max(there - idle, 0.001)
+        here = max(here - built, 0.001)
         ratios.append(here / there)
         print(f"| {path.stem.replace('_', ' ')} | {here:.3f} s | {there:.3f} s | {here / there:.2f} |", flush=True)
     mean = math.exp(sum(map(math.log, ratios)) / len(ratios))

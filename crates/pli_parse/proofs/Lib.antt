@@ -28,3 +28,4 @@ pub mod StatementSpelledTools
 pub mod StatementSpelledUnits
 pub mod UnitFaults
 pub mod WordsFirst
+pub mod WorkedExamples

@@ -11,3 +11,4 @@ pub mod ReadFaults
 pub mod ReadEnds
 pub mod TokensRise
 pub mod ReadStops
+pub mod WorkedExamples

@@ -22,7 +22,6 @@ ghost use Rattle.pli_parse_expression.specs.examples.Examples.{TooManyOperators,
 ghost use Rattle.pli_base.specs.Words.{Tokens};
 
 /// Worked examples: what is read at the front of tokens, and the faults.
-#[tactic(auto, unfolding(pli_base::specs::Reading::misfit, pli_base::specs::Reading::taken, crate::specs::Reading::infix_from, crate::specs::Reading::expression_of, crate::specs::Reading::further_from, crate::specs::Reading::listed_at, crate::specs::Reading::list_at, crate::specs::Reading::arguments_at, crate::specs::Reading::joined_from, crate::specs::Reading::reference_of, crate::specs::Reading::prefix_of, crate::specs::Reading::parenthesis_of, crate::specs::Reading::constant_at, crate::specs::Reading::operand_of, crate::specs::Reading::inside, crate::specs::Reading::expression_at, crate::specs::Reading::reference_at, crate::specs::Operators::operator_at, crate::specs::Operators::joining_at, pli_base::specs::Words::name_first, pli_base::specs::Words::behind, crate::specs::Operators::begins_expression))]
 pub fn worked_examples()
     ensures sign_and_sum { SignAndSum }
     ensures differences { Differences }
@@ -92,14 +91,12 @@ pub fn one_reference()
 {}
 
 /// A law: the test for an assignment accepts tokens exactly where they are a reference, `=` and one expression.
-#[tactic(auto, using(crate::proofs::AcceptedIsSpelled::accepted_is_assignment, crate::proofs::SpelledIsAccepted::assignment_accepted))]
 pub fn assignments_are_recognized()
     ensures accepted { (p : ℕ) (ts : Tokens) → is_assignment ts ≡ true → IsAssignment p ts }
     ensures spelled { (p : ℕ) (ts : Tokens) → IsAssignment p ts → is_assignment ts ≡ true }
 {}
 
 /// A law: a fault of reading stands at one of the tokens from the first on, or, where they have ended, at the last.
-#[tactic(auto, using(crate::proofs::ReadFaults::expression_fault_stands, crate::proofs::ReadFaults::reference_fault_stands))]
 pub fn faults_stand_at_tokens()
     ensures expressions { (levels p : ℕ) (ts : Tokens) (f : Fault) → expression_at levels 0 p ts ≡ Err f →
         FaultStands p ts f }
@@ -109,7 +106,6 @@ pub fn faults_stand_at_tokens()
 
 /// A law: a fault of reading is the first fault of the tokens: those before its token can be completed to an expression
 /// within the limits, and with it they cannot; or all can, and they have ended. Tokens have no first fault elsewhere.
-#[tactic(auto, using(crate::proofs::ReadStops::expression_first_fault, crate::proofs::ReadStops::reference_first_fault))]
 pub fn first_faults()
     ensures expressions { (levels p : ℕ) (ts : Tokens) (f : Fault) →
         expression_at levels 0 p ts ≡ Err f → IsFirstFault (SpellsOutermost levels) p ts f }
@@ -123,7 +119,6 @@ pub fn first_faults()
 {}
 
 /// A law: the tokens of the tree that is read rise in the order of the text, from the first that is read to the last.
-#[tactic(auto, using(crate::proofs::TokensRise::expression_read_rises, crate::proofs::TokensRise::reference_read_rises))]
 pub fn tokens_of_trees_rise()
     ensures expressions { (levels p : ℕ) (ts : Tokens) (x : Front (Counted Expression)) →
         expression_at levels 0 p ts ≡ Ok x → Rises p (expression_tokens x.value.tree) x.next }
@@ -133,7 +128,6 @@ pub fn tokens_of_trees_rise()
 
 /// A law: an expression that is spelled within the limits is read exactly before tokens that do not continue it, which
 /// its last operand tells; and no longer front of the tokens spells one.
-#[tactic(auto, using(crate::proofs::SpelledIsRead::expression_ends_read, crate::proofs::ReadEnds::expression_at_ends, crate::proofs::ReadEnds::expression_longest))]
 pub fn longest_expressions()
     ensures ended { (levels p : ℕ) (ts more : Tokens) (e : Expression) → SpellsOutermost levels p ts e →
         ExpressionEnds e more →
@@ -147,7 +141,6 @@ pub fn longest_expressions()
 {}
 
 /// A law: the same of a reference.
-#[tactic(auto, using(crate::proofs::SpelledIsRead::reference_ends_read, crate::proofs::ReadEnds::reference_at_ends, crate::proofs::ReadEnds::reference_longest))]
 pub fn longest_references()
     ensures ended { (levels p : ℕ) (ts more : Tokens) (r : Reference) → SpellsReferenceAlone levels p ts r →
         ReferenceEnds r more →
