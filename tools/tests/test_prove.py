@@ -33,6 +33,13 @@ def repository():
     return uses, {name: known.get(name) or schedule.guessed(TOP / "crates" / name) for name in uses}
 
 
+def least(uses, minutes, places):
+    """What no order can do better than: what stands below a crate is shared out, then the longest chain goes on with it."""
+    lengths = schedule.chains(uses, minutes)
+    work = {name: sum(minutes[it] for it in schedule.below(uses, name) if it != name) for name in uses}
+    return max(work[name] / places + lengths[name] for name in uses)
+
+
 class Reads(unittest.TestCase):
     def test_list(self):
         uses = {"low": [], "left": ["low"], "right": ["low"], "app": ["right", "left"], "apart": ["low"]}
@@ -78,8 +85,7 @@ class Repository(unittest.TestCase):
     def test_length(self):
         uses, minutes = repository()
         for places in (1, 2, 3, 4, 8):
-            least = max(max(schedule.chains(uses, minutes).values()), sum(minutes.values()) / places)
-            self.assertLessEqual(schedule.length(uses, minutes, places), 1.1 * least)
+            self.assertLessEqual(schedule.length(uses, minutes, places), 1.1 * least(uses, minutes, places))
 
 
 if __name__ == "__main__":
