@@ -16,7 +16,7 @@ import threading
 import time
 
 TOP = os.path.dirname(os.path.dirname(os.path.abspath(__file__)))
-BEGIN, END = '<!-- measured: written by bench/gate.py -->', '<!-- end of what is measured -->'
+BEGIN, END = '<!-- measured -->', '<!-- end of what is measured -->'
 TICKS = os.sysconf('SC_CLK_TCK')
 
 
