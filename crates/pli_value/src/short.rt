@@ -1,6 +1,6 @@
 //! Strings of few bits (X3.74), as numbers, which take no memory.
-ghost use Rattle.std.specs.Prelude.{◌≡◌, ℕ, ◌+◌, ◌-◌, ◌^◌, ◌<◌, ◌≤◌, ◌∷◌, [], false, length, take, drop, nat_eq};
-ghost use Rattle.std.specs.Prelude.{slice_index_or, Some, IfSome};
+ghost use Rattle.std.specs.Prelude.{◌≡◌, ◌≢◌, ℕ, ◌+◌, ◌-◌, ◌^◌, ◌<◌, ◌≤◌, ◌∷◌, [], false, length, take, drop, nat_eq};
+ghost use Rattle.std.specs.Prelude.{slice_index_or, Some, None, MatchOption};
 ghost use Rattle.std.specs.Int.{bit_at};
 ghost use Rattle.pli_value.specs.Short.{bits_of, short_view};
 ghost use Rattle.pli_value.specs.Strings.{concatenation, conjunction, disjunction, fitted, negation, substring};
@@ -78,7 +78,7 @@ impl ShortBits {
     /// The bit that the string has alone, if it has one.
     #[inline(always)]
     pub fn lone(self) -> Option<bool>
-        ensures { IfSome result (λ b. short_view self ≡ b ∷ []) }
+        ensures { MatchOption result (length (short_view self) ≢ 1) (λ b. short_view self ≡ b ∷ []) }
     {
         if self.count != 1 {
             return None;
@@ -116,7 +116,8 @@ pub fn not(bits: ShortBits) -> ShortBits
 /// `||` (X3.74): one string after the other; none where the result has more than [`SHORT_LIMIT`] bits.
 #[inline]
 pub fn concat(left: ShortBits, right: ShortBits) -> Option<ShortBits>
-    ensures { IfSome result (λ both. concatenation (short_view left) (short_view right) ≡ Some (short_view both)) }
+    ensures { MatchOption result (63 < length (short_view left) + length (short_view right))
+        (λ both. concatenation (short_view left) (short_view right) ≡ Some (short_view both)) }
 {
     let count = left.count + right.count;
     if count > SHORT_LIMIT {
@@ -128,7 +129,8 @@ pub fn concat(left: ShortBits, right: ShortBits) -> Option<ShortBits>
 /// SUBSTR (X3.74) with a length; none where the part does not lie within the string.
 #[inline]
 pub fn substr(bits: ShortBits, first: i64, count: i64) -> Option<ShortBits>
-    ensures { IfSome result (λ part. substring (short_view bits) first count ≡ Some (short_view part)) }
+    ensures { MatchOption result (substring (short_view bits) first count ≡ None)
+        (λ part. substring (short_view bits) first count ≡ Some (short_view part)) }
 {
     match part_of(bits.count, first, count) {
         Some(found) => Some(bits.part(found.0, found.1)),
@@ -139,7 +141,8 @@ pub fn substr(bits: ShortBits, first: i64, count: i64) -> Option<ShortBits>
 /// SUBSTR (X3.74) without a length: all from a place on.
 #[inline]
 pub fn rest(bits: ShortBits, first: i64) -> Option<ShortBits>
-    ensures { IfSome result (λ part. substring_from (short_view bits) first ≡ Some (short_view part)) }
+    ensures { MatchOption result (substring_from (short_view bits) first ≡ None)
+        (λ part. substring_from (short_view bits) first ≡ Some (short_view part)) }
 {
     match rest_of(bits.count, first) {
         Some(found) => Some(bits.part(found.0, found.1)),

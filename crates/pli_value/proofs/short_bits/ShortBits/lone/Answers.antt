@@ -1,5 +1,6 @@
-use Rattle.pli_value.proofs.ShortLemmas.{lone_shown}
+use Rattle.std.proofs.Common.{arith}
+use Rattle.pli_value.proofs.ShortLemmas.{counted}
 use Rattle.pli_value.proofs.short_bits.ShortBits.lone.Goals as goal
 
-pub returns : goal.returns
-returns c = lone_shown c.args.self.count c.args.self.number c.if-self-ne1.false c.args.self.small
+pub returns-then-self-ne1 : goal.returns-then-self-ne1
+returns-then-self-ne1 c = λ is. omega (arith, counted c.args.self.count c.args.self.number, is, c.if-self-ne1.true)
