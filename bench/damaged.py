@@ -34,12 +34,15 @@ OPERANDS = {
     0x01: "4", 0x02: "4", 0x03: "2i", 0x04: "2i", 0x05: "1 2i", 0x06: "2b 1", 0x07: "2g 1", 0x08: "2b", 0x09: "1", 0x0A: "1", 0x0B: "1e",
     0x0D: "1 2", 0x0E: "2g", 0x0F: "2D", 0x10: "4 2D", 0x11: "4l 4l 4", 0x12: "2v", 0x16: "2t", 0x17: "2D", 0x18: "1", 0x1E: "1p", 0x24: "1k",
     0x30: "2g", 0x31: "2g", 0x32: "2g", 0x33: "2t", 0x34: "2t 2i", 0x35: "2D", 0x38: "1c 2b", 0x39: "1c", 0x3A: "1c", 0x3D: "2", 0x3E: "2",
+    0x40: "1d", 0x41: "1w 1d", 0x42: "1f",
 }  # fmt: skip
-LAST_INSTRUCTION = 0x3F
-RANGES = {"e": (1, 13), "k": (0, 5), "c": (0, 2), "l": (-32767, 32767)}
+RANGES = {"e": (1, 13), "k": (0, 5), "c": (0, 2), "l": (-32767, 32767), "d": (1, 8), "w": (0, 1), "f": (2, 4)}
 
-# The versions, each with the bytes of a number as a value, and the greatest precision.
-VERSIONS = {1: (4, 31), 2: (8, 63)}
+# The versions, each with the bytes of a number as a value, the greatest precision, the last tag of a description and the last instruction.
+VERSIONS = {1: (4, 31, 9, 0x3F), 2: (8, 63, 9, 0x3F), 3: (8, 63, 13, 0x43)}
+
+# The tags of what an array may consist of whose bounds are all `*`.
+ELEMENTS = {1, 2, 3, 4, 5, 6, 10, 11, 12}
 
 
 sys.setrecursionlimit(10 * MOST_LEVELS)
@@ -99,10 +102,11 @@ class Deck:
 
     def __init__(self, given, versions=VERSIONS):
         self.bytes = given = Bytes(given)
-        self.number_size, self.most_digits = VERSIONS[given.begin(b"PLID", versions)]
+        self.number_size, self.most_digits, self.last_tag, self.last_instruction = VERSIONS[given.begin(b"PLID", versions)]
         given.name()
         given.number(1, 0, 1)
-        self.described = self.signature()
+        self.taken, self.returned = [], []
+        self.signature()
         self.descriptions = given.list(lambda: self.description(1))
         self.templates = given.list(lambda: (given.number(2), [(given.number(4), self.value()) for _ in range(given.number(4))]))
         self.values = given.list(self.value)
@@ -115,15 +119,15 @@ class Deck:
         self.look_at_templates()
 
     def signature(self):
-        """The descriptions that a signature names."""
-        named = [self.bytes.number(2) for _ in range(self.bytes.number(1, 0, 64))]
+        """The descriptions that a signature names, of parameters and of a result."""
+        self.taken += [self.bytes.number(2) for _ in range(self.bytes.number(1, 0, 64))]
         result = self.bytes.number(2)
-        return named if result == NONE else named + [result]
+        self.returned += [] if result == NONE else [result]
 
-    def description(self, level):
+    def description(self, level, is_element=False):
         given = self.bytes
-        tag = given.number(1, 1, 9)
-        if level > MOST_LEVELS:
+        tag = given.number(1, 1, self.last_tag)
+        if level > MOST_LEVELS or is_element and tag not in ELEMENTS:
             raise Fault(5)
         if tag == 1:
             return tag, given.number(1, 1, self.most_digits)
@@ -144,6 +148,8 @@ class Deck:
             return tag, count, self.description(level + 1)
         if tag == 9:
             return tag, [self.description(level + 1) for _ in range(given.number(2, 1))]
+        if tag == 13:
+            return tag, given.number(1, 1, 8), self.description(level + 1, is_element=True)
         return (tag,)
 
     def value(self):
@@ -169,7 +175,7 @@ class Deck:
             given.name()
         if kind < 4:
             return kind, given.number(2)
-        self.described += self.signature()
+        self.signature()
         return kind, None
 
     def block(self):
@@ -186,7 +192,7 @@ class Deck:
     def instruction(self):
         """What an instruction names: kinds of numbers, and the numbers."""
         given, named = self.bytes, []
-        for operand in OPERANDS.get(given.number(1, 1, LAST_INSTRUCTION), "").split():
+        for operand in OPERANDS.get(given.number(1, 1, self.last_instruction), "").split():
             size, kind = int(operand[0]), operand[1:]
             within = (1, self.most_digits) if kind == "p" else RANGES.get(kind, ())
             named.append((kind, given.number(size, *within, signed=kind == "l")))
@@ -201,13 +207,17 @@ class Deck:
     def look_at_numbers(self):
         counts = {"b": self.blocks, "g": self.globals, "D": self.descriptions, "v": self.values, "t": self.templates}
         named = [named for instruction in self.code for named in instruction if named[0] in counts]
-        named += [("D", number) for number in self.described]
+        named += [("D", number) for number in self.returned]
         named += [("D", number) for number, _ in self.templates]
+        stored = [number for kind, number in named if kind == "D"]
+        named += [("D", number) for number in self.taken]
         named += [("t", number) for _, number in self.globals if number is not None]
         named += [("b", parent) for parent, _, _ in self.blocks if parent != NONE]
         named += [("t", number) for _, templates, _ in self.blocks for number in templates]
         beyond = any(number >= len(counts[kind]) for kind, number in named)
         if beyond or not self.blocks or any(first >= len(self.code) for _, _, first in self.blocks):
+            raise Fault(7)
+        if any(has_star(self.descriptions[number]) for number in stored):
             raise Fault(7)
 
     def look_at_templates(self):
@@ -222,6 +232,14 @@ class Deck:
 
     def size_of(self, number):
         return extent(self.descriptions[number])[0]
+
+
+def has_star(description):
+    """Whether a `*` stands in a description."""
+    tag, *rest = description
+    if tag == 8:
+        return has_star(rest[1])
+    return any(map(has_star, rest[0])) if tag == 9 else tag > 9
 
 
 def rounded(at, alignment):

@@ -44,7 +44,8 @@ MEMBERS = "X Y Z".split()
 GRAMMAR = """
     unit = M : PROC { inside } END M ;
     inside = 2x body | OPTIONS ( MAIN ) body | RECURSIVE returning body | ( first ) ; DCL first odims type body
-        | ( first , second ) returning ; DCL second type , first type body | ! ( first , second ) ; DCL first type body
+        | ( first , second ) returning ; DCL second type , first type body | ( first ) ; DCL first starred body
+        | ( first , second ) ; DCL first starred , second starred body | ! ( first , second ) ; DCL first type body
         | ! ( first ) OPTIONS ( MAIN ) ; DCL first type body | ! ( first ) ; DCL first scalar body | ! OPTIONS ( MAIN ) returning body
         | ! returning returning body | ! many_parameters
     body = ; [ DCL items ; rest ]
@@ -74,7 +75,11 @@ GRAMMAR = """
     precision = ( 15 ) | ( 31 ) | ( 63 ) | ( 3 ) | ( 101B ) | ( 32 , 0 ) | ! ( 0 ) | ! ( 64 ) | ! ( 1000000B )
     character = CHAR length
     bit = BIT length
-    length = 3x | ( 5 ) | ( 80 ) | ( 1000 ) | ( 32767 ) | ! ( 0 ) | ! ( 32768 )
+    length = 3x | ( 5 ) | ( 80 ) | ( 1000 ) | ( 32767 ) | ! ( 0 ) | ! ( 32768 ) | ! ( * )
+    starred = any_characters | BIT ( * ) | ( stars ) type | ( stars ) any_characters | dims BIT ( * ) | ! ( * , bounds ) type
+        | ! ( stars ) area | ! AREA ( * ) | ! ~ any_characters storage
+    any_characters = CHAR ( * ) | CHAR ( * ) VAR
+    stars = 2x * | * , stars
     offset = OFFSET in_area | ! OFFSET ( name )
     storage = STATIC | AUTO | CTL | BASED | EXT | INT | ~ STATIC EXT | ~ CTL EXT | ! ~ STATIC CTL | ! ~ AUTO EXT | ! EXT INT
         | ! ~ BASED EXT | ! INT INT
@@ -87,6 +92,7 @@ GRAMMAR = """
     dims = ( bounds ) | ! ( 1 , 1 , 1 , 1 , 1 , 1 , 1 , 1 , 2 )
     bounds = 3x bound | bound , bounds
     bound = 2 | 3 | 0 : 2 | - 1 : 1 | 5 : 5 | 1000 | - 32767 : 32767 | ! 0 | ! 3 : 2 | ! - 4 | ! 32768 | ! - 32768 : 1
+        | ! *
 
     structure = one new odims top , two member otype , two member odims otype | one new odims top , two member , three member otype
         | one new odims top , two member odims otype , two member , three member otype , three member otype
@@ -106,7 +112,7 @@ GRAMMAR = """
         | ! ~ ENTRY STATIC | ! ~ ENTRY bit
     described = ENTRY ( parts )
     parts = 2x described_part | described_part , parts
-    described_part = 4x odims type | area | ! dims area | ! ~ type STATIC | ! BUILTIN | ! ENTRY
+    described_part = 4x odims type | area | 2x starred | ! dims area | ! ~ type STATIC | ! BUILTIN | ! ENTRY
     returning = RETURNS ( result )
     result = 3x type | ! AREA | ! ~ type INT
     builtin = function BUILTIN | ! new BUILTIN | ! function dims BUILTIN | ! function BUILTIN EXT | ! 2 function BUILTIN

@@ -32,6 +32,8 @@ NO_VARIABLE = {"ENTRY", "BUILTIN"}
 LEVEL_1_ONLY = STORAGE | SCOPE | NO_VARIABLE
 NOT_OF_PARAMETERS = LEVEL_1_ONLY | {"INITIAL"}
 
+STAR = "*"
+
 MOST_DIGITS = 63
 MOST = {"FIXED": MOST_DIGITS, "BINARY": MOST_DIGITS, "CHARACTER": 32_767, "BIT": 32_767, "AREA": 1_000_000}
 MOST_DIMENSIONS = 8
@@ -76,18 +78,35 @@ class Description:
 
     @staticmethod
     def bound(written):
+        if written == STAR:
+            return STAR
         return (1, value(written)) if isinstance(written, str) else (value(written[0]), value(written[2]))
 
     def number(self, word, otherwise):
-        """The number behind an attribute."""
-        return value(self.given[word][0]) if word in self.given else otherwise
+        """The number behind an attribute; a `*` is none."""
+        return otherwise if self.is_any(word) or word not in self.given else value(self.given[word][0])
+
+    def is_any(self, word):
+        """Whether a `*` stands behind an attribute."""
+        return word in self.given and self.given[word][0] == STAR
+
+    def has_any_length(self):
+        return any(self.is_any(word) for word in ("CHARACTER", "BIT", "AREA"))
+
+    def is_open(self):
+        """Whether a `*` stands for its length or for a bound."""
+        return STAR in self.bounds or self.has_any_length()
 
     def precision(self):
         return self.number("FIXED", self.number("BINARY", 15))
 
     def bad_bounds(self):
-        bad = [1 for low, high in self.bounds if not -FARTHEST_BOUND <= low <= high <= FARTHEST_BOUND]
+        bad = [1 for bound in self.bounds if bound != STAR and not -FARTHEST_BOUND <= bound[0] <= bound[1] <= FARTHEST_BOUND]
         return bool(bad) or len(self.bounds) > MOST_DIMENSIONS
+
+    def bad_stars(self, is_parameter):
+        """Whether a `*` stands for a bound that must be written: only all bounds of a parameter may be such."""
+        return STAR in self.bounds and not (is_parameter and set(self.bounds) == {STAR})
 
     def count(self):
         """The elements of its own dimensions."""
@@ -113,8 +132,8 @@ class Description:
         """Whether a variable without members has less than a type; FIXED and BINARY are both written."""
         return not self.data or self.data == {"number"} and not {"FIXED", "BINARY"} <= self.has
 
-    def codes(self):
-        """The codes that attributes have wherever they stand."""
+    def codes(self, is_parameter=False):
+        """The codes that attributes have, a parameter's or any other's."""
         if not self.agrees():
             yield 3
         if "RETURNS" in self.has and "ENTRY" not in self.has:
@@ -122,7 +141,9 @@ class Description:
         for word, code in [("FIXED", 5), ("BINARY", 5), ("CHARACTER", 6), ("BIT", 6), ("AREA", 6)]:
             if not 1 <= self.number(word, 1) <= MOST[word]:
                 yield code
-        if self.bad_bounds():
+        if self.has_any_length() and (not is_parameter or "AREA" in self.has):
+            yield 6
+        if self.bad_bounds() or self.bad_stars(is_parameter):
             yield 7
         if "OFFSET" in self.given and not names_area(self.block, self.given["OFFSET"][0]):
             yield 12
@@ -148,10 +169,10 @@ class Description:
 
     def part_codes(self):
         """The codes of a part, which is a parameter's description."""
-        codes = {*self.codes()}
+        codes = {*self.codes(is_parameter=True)}
         codes |= {3} if self.has & NOT_OF_PARAMETERS else set()
         codes |= {4} if self.lacks() else set()
-        if not codes & {3, 4, 5, 6, 7} and array_size(*self.element(), self)[0] > MOST_BYTES:
+        if not codes & {3, 4, 5, 6, 7} and not self.is_open() and array_size(*self.element(), self)[0] > MOST_BYTES:
             codes.add(15)
         return codes
 
@@ -230,7 +251,7 @@ class Item(Named):
     def codes(self):
         """Its own codes, but A15."""
         has, description = self.description.has, self.description
-        yield from description.codes()
+        yield from description.codes(self.is_parameter)
         if not self.stands_well():
             yield 3
         if not self.members and not has & NO_VARIABLE and description.lacks():
@@ -264,7 +285,7 @@ class Item(Named):
             if not self.holds(constant):
                 return False
         levels = [item.description for item in self.levels()]
-        return any(level.bad_bounds() for level in levels) or given <= prod(level.count() for level in levels)
+        return any(level.bad_bounds() or STAR in level.bounds for level in levels) or given <= prod(level.count() for level in levels)
 
     def holds(self, constant):
         """Whether a constant has the item's type and range; strings are fitted."""
@@ -276,7 +297,7 @@ class Item(Named):
         return data <= {"number"} and abs(value(constant)) < 2 ** min(self.description.precision(), MOST_DIGITS)
 
     def size_is_known(self):
-        return not 3 <= min(self.codes(), default=99) <= 7 and all(member.size_is_known() for member in self.members)
+        return not 3 <= min(self.codes(), default=99) <= 7 and not self.description.is_open() and all(member.size_is_known() for member in self.members)
 
     def size(self):
         """Size and alignment in bytes."""

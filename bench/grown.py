@@ -95,7 +95,9 @@ class Grower:
         return self.enclosed(self.several(self.bound))
 
     def bound(self):
-        """[int ":"] int"""
+        """"*" | [int ":"] int"""
+        if self.chance(6):
+            return ["*"]
         return (self.integer() + [":"] if self.chance(2) else []) + self.integer()
 
     def integer(self):
@@ -118,7 +120,7 @@ class Grower:
             zero = self.maybe(lambda: [",", "0"])
             return [self.any(["FIXED", "BINARY", "BIN"]), *self.maybe(lambda: self.enclosed(self.number() + zero))]
         if choice < 6:
-            return [self.any(["CHARACTER", "CHAR", "BIT", "AREA"]), *self.maybe(lambda: self.enclosed(self.number()))]
+            return [self.any(["CHARACTER", "CHAR", "BIT", "AREA"]), *self.maybe(lambda: self.enclosed(self.length()))]
         if choice < 7:
             return ["OFFSET", *self.maybe(lambda: self.enclosed(self.name()))]
         if choice < 8:
@@ -126,6 +128,10 @@ class Grower:
         if choice < 9:
             return [self.any(["INIT", "INITIAL"]), *self.enclosed(self.several(self.initial))]
         return self.entry(depth)
+
+    def length(self):
+        """number | "*" """
+        return ["*"] if self.chance(4) else self.number()
 
     def entry(self, depth):
         """ENTRY ["(" [pd {"," pd}] ")"] | RETURNS "(" attr {attr} ")" """

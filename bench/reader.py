@@ -297,7 +297,9 @@ class Declarations(Expressions):
         return [("dimensions", *self.enclosed(lambda: self.one_or_more(self.bound)))] if self.text() == "(" else []
 
     def bound(self):
-        """[int ":"] int"""
+        """"*" | [int ":"] int"""
+        if self.text() == "*":
+            return self.take()
         first = self.integer()
         return (first, ":", self.integer()) if self.accept(":") else first
 
@@ -338,7 +340,11 @@ class Declarations(Expressions):
         """What may stand in the parentheses behind an attribute."""
         if word in ("FIXED", "BINARY"):
             return self.precision
-        return {"OFFSET": self.name, "BASED": self.qualified}.get(word, self.number)
+        return {"OFFSET": self.name, "BASED": self.qualified}.get(word, self.length)
+
+    def length(self):
+        """number | "*" """
+        return self.take() if self.text() == "*" else self.number()
 
     def precision(self):
         """number ["," "0"]"""

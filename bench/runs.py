@@ -8,8 +8,9 @@ It prints how many units agreed, and of those that did not the ten shortest, eac
   300 programs grown so of which some variables are CONTROLLED, which ALLOCATE and FREE change, at the same numbers of steps;
   300 programs grown so with pointers and BASED variables, and 300 with areas and offsets too, at the same numbers of steps;
   300 programs grown so with conditions and ON-units (conditions.py), and 300 with these and storage of all classes, at the same;
+  300 programs grown so with `*` for lengths and bounds of parameters, at the same;
   3,000 units whose expressions have operands, arguments and targets of wrong types now and then: all their diagnostics; 500 with
-  CONTROLLED variables, 500 with pointers, 500 with areas, and 500 with conditions and storage of all classes.
+  CONTROLLED variables, 500 with pointers, 500 with areas, 500 with conditions and storage of all classes, and 500 with `*`.
 Each token of a unit is typed on a line of its own, so that the line of a diagnostic tells the token. All is the same every time.
 Without PROGRAM meaning.py is run alone.
 """
@@ -22,11 +23,11 @@ from compared import compare
 from conditions import Conditions
 
 PROGRAMS = 300
-FAULTY, FAULTY_STACKS, FAULTY_POINTERS, FAULTY_AREAS, FAULTY_CONDITIONS = 3000, 500, 500, 500, 500
+FAULTY, FAULTY_STACKS, FAULTY_POINTERS, FAULTY_AREAS, FAULTY_CONDITIONS, FAULTY_STARS = 3000, 500, 500, 500, 500, 500
 SEED = 19741130
 FEW_STEPS, MANY_STEPS = 40, 5000
 SESSIONS = Path(__file__).resolve().parent.parent / "crates" / "pli_sessions" / "data"
-FOLDERS = ["examples", "units", "conditions", "storage"]
+FOLDERS = ["examples", "units", "conditions", "storage", "extents"]
 
 # The variables that each program has, with their kinds: a number, characters or bits, and how one is written.
 VARIABLES = """
@@ -74,6 +75,18 @@ ROUTINES = """
         DO U = 1 TO 3 ; Z ( U ) = W + U ; IF Z ( U ) > 20 THEN RETURN ; END ; END FILL ;
     DOWN : PROC ( Z ) ; DCL Z FIXED BIN ( 15 ) , W CHAR ( 2 ) ; W = Z ; IF Z > 0 THEN CALL DOWN ( Z - 1 ) ; ELSE IF F THEN GOTO AWAY ;
         BEGIN ; DCL W FIXED BIN ( 7 ) ; W = Z ; PUT LIST ( W ) ; IF W = 3 THEN RETURN ; END ; PUT LIST ( W ) ; END DOWN ;
+""".split()
+
+
+STARRED = """
+    SHOW : PROC ( Z ) ; DCL Z CHAR ( * ) ; PUT LIST ( LENGTH ( Z ) , Z ) ; IF Z = 'A' THEN Z = '*' || Z ; ELSE Z = LENGTH ( Z ) + 1 ; END SHOW ;
+    SPIN : PROC ( Z ) ; DCL Z CHAR ( * ) VAR ; DO Z = '' REPEAT Z || '*' WHILE ( LENGTH ( Z ) < 2 & Z ^= '*' ) ; CALL SHOW ( Z ) ; END ;
+        Z = 12 ; PUT LIST ( Z , LENGTH ( Z ) ) ; END SPIN ;
+    EACH : PROC ( Z , W ) ; DCL Z ( * ) FIXED BIN ( 15 ) , W FIXED BIN ( 15 ) , U FIXED BIN ( 15 ) ; DO U = LBOUND ( Z , 1 ) TO HBOUND ( Z , 1 ) ;
+        Z ( U ) = Z ( U ) + W ; END ; IF W > 2 THEN PUT LIST ( Z ( W ) ) ; IF W = 1 THEN CALL EACH ( Z , 2 ) ; END EACH ;
+    GRID : PROC ( Z , W ) ; DCL Z ( * , * ) CHAR ( * ) , W ( * ) CHAR ( * ) ; PUT LIST ( LBOUND ( Z , 1 ) , HBOUND ( Z , 2 ) , LENGTH ( W ( 2 ) ) , Z ( 0 , 1 ) ) ;
+        Z ( 1 , 1 ) = W ( 1 ) ; W ( 2 ) = Z ( 0 , 2 ) || 'Z' ; IF ALLOCATION ( H ) > 1 THEN FREE H ; PUT LIST ( HBOUND ( W , 1 ) , W ( 1 ) ) ; CALL SHOW ( W ( 2 ) ) ; END GRID ;
+    MASK : PROC ( Z , W ) RETURNS ( BIT ( 8 ) ) ; DCL Z BIT ( * ) , W ( 2 ) BIT ( * ) ; IF Z THEN Z = ^ Z ; W ( 1 ) = Z ; RETURN ( Z || W ( 2 ) ) ; END MASK ;
 """.split()
 
 
@@ -499,6 +512,34 @@ class StorageGrower(AreaGrower, StackGrower):
         return [*words[:start], *STACKED, *first, *words[start:-3], *PUSH, *words[-3:]]
 
 
+class StarGrower(StackGrower):
+    """Programs with `*` for lengths and bounds of parameters."""
+
+    def bits(self, depth):
+        if self.below(4):
+            return super().bits(depth)
+        masked = self.chosen(["B"], ["Y", "(", "1", ")"], ["F"], self.expression("bits", depth))
+        return ["MASK", "(", *masked, ",", *(self.chosen(["B"], ["A"], ["T"], ["(", "Y", ")"]) if self.slip() else self.chosen(["Y"], ["S", ".", "Y"], ["Y1"])), ")"]
+
+    def call(self):
+        if self.below(3) == 0:
+            return super().call()
+        text = self.chosen(["C"], ["D"], ["V"], ["M", "(", "0", ",", *self.subscript(2), ")"], ["H", "(", "1", ")"], ["T", "(", "1", ")", ".", "Q", "(", "2", ")"], self.expression("characters", 2), self.expression("number", 1),
+                           self.expression("bits", 1))
+        if self.slip():
+            text = self.chosen(["A"], ["M"], ["S"], ["AWAY"], ["R"], text + [",", "1"])
+        array = self.chosen(["A"], ["A2"])
+        grid = ["M", ",", "H"]
+        if self.slip():
+            array = self.chosen(["M"], ["(", "A", ")"], ["1"], ["H"], ["S"], ["A", "(", "1", ")"], ["Y"])
+            grid = self.chosen(["A", ",", "H"], ["M", ",", "M"], ["M", ",", "A"], ["M", ",", "'A'"], ["(", "M", ")", ",", "H"], ["M"], ["H", ",", "M"])
+        return ["CALL", *self.chosen(["SHOW", "(", *text, ")"], ["SPIN", "(", *self.chosen(["V"], ["W"], text), ")"], ["EACH", "(", *array, ",", *self.chosen(["1"], ["2"], ["3"], ["I"], ["4"]), ")"], ["GRID", "(", *grid, ")"]), ";"]
+
+    def unit(self):
+        words = super().unit()
+        return [*words[:-3], *STARRED, *words[-3:]]
+
+
 class ConditionGrower(Conditions, Grower):
     """Programs with conditions."""
 
@@ -517,7 +558,7 @@ def as_program(words):
 def shown(program):
     """What is not the same in all programs."""
     text = " ".join(program[0][1])
-    for part in (VARIABLES, STACKED, POINTING, AREAS, ROUTINES, PUSH, HANG, HEAP):
+    for part in (VARIABLES, STACKED, POINTING, AREAS, ROUTINES, PUSH, HANG, HEAP, STARRED):
         text = text.replace(" ".join(part), "..")
     return text
 
@@ -562,6 +603,9 @@ def main():
     agree &= compare("programs with conditions and all storage", workbench, [as_program(whole.unit()) for _ in range(PROGRAMS)], steps, shown)
     faulted = [as_program(faulty.unit()) for _ in range(FAULTY_CONDITIONS)]
     agree &= compare("units with wrong types, conditions and all storage", workbench, faulted, [MANY_STEPS], shown)
+    sound, faulty = StarGrower(mutations.Numbers(SEED + 11), False), StarGrower(mutations.Numbers(SEED + 12), True)
+    agree &= compare("programs with asterisks", workbench, [as_program(sound.unit()) for _ in range(PROGRAMS)], steps, shown)
+    agree &= compare("units with wrong types and asterisks", workbench, [as_program(faulty.unit()) for _ in range(FAULTY_STARS)], [MANY_STEPS], shown)
     sys.exit(not agree)
 
 

@@ -105,7 +105,7 @@ class Reader(faults.Placed):
 
 
 # descriptions: (NUMBER, p), (CHARACTERS, n), (VARYING, n), (BITS, n), (POINTER, None), (OFFSET, None), (AREA, bytes), ("array", bounds, element),
-# ("structure", members)
+# ("structure", members); a parameter's may have a `*` for n, or for all of its bounds
 
 
 def described(description):
@@ -117,8 +117,12 @@ def described(description):
     if description.data == {"area"}:
         return AREA, faults.rounded(description.number("AREA", 1000), 8)
     if description.data == {"characters"}:
-        return (VARYING if "VARYING" in description.has else CHARACTERS), description.number("CHARACTER", 1)
-    return BITS, description.number("BIT", 1)
+        return (VARYING if "VARYING" in description.has else CHARACTERS), length_of(description, "CHARACTER")
+    return BITS, length_of(description, "BIT")
+
+
+def length_of(description, word):
+    return faults.STAR if description.is_any(word) else description.number(word, 1)
 
 
 def element_of(item):
@@ -201,6 +205,24 @@ def is_procedure(meant):
     if isinstance(meant, faults.Item):
         return "ENTRY" in meant.description.has
     return isinstance(meant, faults.Named) and meant.tree is not None and meant.tree[0] == "procedure"
+
+
+def is_open(description):
+    """Whether a `*` stands in a description."""
+    kind, given = description[:2]
+    if kind == "array":
+        return faults.STAR in given or is_open(description[2])
+    return given == faults.STAR
+
+
+def agrees(parameter, given):
+    """Whether an argument of a description is passed by reference: a `*` of the parameter agrees with everything of its form."""
+    if parameter[0] != given[0]:
+        return False
+    if parameter[0] == "array":
+        pairs = zip(parameter[1], given[1])
+        return len(parameter[1]) == len(given[1]) and all(p in (faults.STAR, g) for p, g in pairs) and agrees(parameter[2], given[2])
+    return parameter == given or parameter[1] == faults.STAR
 
 
 def is_aggregate(description):
@@ -524,7 +546,7 @@ class Types:
     @staticmethod
     def is_good(given, parameter):
         if is_aggregate(parameter) or is_aggregate(given.description) or given.kind == AREA:
-            return given.description[0] != "structure" and given.description == parameter
+            return given.description[0] != "structure" and agrees(parameter, given.description)
         return converts(given, Value(parameter))
 
     @staticmethod
@@ -701,7 +723,7 @@ class Types:
 
     def assigned(self, target, source, at, block):
         if is_aggregate(target.description):
-            is_good = self.argument(source, block).description == target.description
+            is_good = self.argument(source, block).description == target.description and not is_open(target.description)
         elif target.kind == AREA:
             is_good = self.value(source, block).kind == AREA and is_reference(source)
         else:

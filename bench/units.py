@@ -7,7 +7,8 @@ It prints how many programs agreed, and of those that did not the ten shortest, 
   200 whose expressions have operands, arguments and targets of wrong types now and then: all their diagnostics;
   150 with variables that are CONTROLLED in most units, and EXTERNAL in most of these;
   150 with an area and offsets in it, EXTERNAL in most units;
-  150 with conditions and ON-units (conditions.py) besides all these.
+  150 with conditions and ON-units (conditions.py) besides all these;
+  150 with `*` for the length and bounds of parameters, and 100 such with changes where units meet.
 The units call each other, both ways, and the main procedure; each has variables of the same names, of which most are EXTERNAL and others
 STATIC or AUTOMATIC in some units. The routines of runs.py are external procedures, whose bodies are grown, or internal ones in every unit.
 All is the same every time. Without PROGRAM meaning.py is run alone.
@@ -19,7 +20,7 @@ import runs
 from compared import compare
 from conditions import Conditions
 
-PROGRAMS, LINKED, FAULTY = 150, 300, 200
+PROGRAMS, LINKED, FAULTY, STARRED = 150, 300, 200, 100
 SEED = 19760809
 FEW_STEPS, MANY_STEPS = 40, 5000
 
@@ -42,6 +43,11 @@ SIGNATURES = {
     "ODD": (["FIXED BIN ( 15 )"], "BIT"),
     "FILL": (["( 3 ) FIXED BIN ( 15 )", "FIXED BIN ( 15 )"], None),
     "DOWN": (["FIXED BIN ( 15 )"], None),
+}
+# The same with the length and bounds of the argument.
+STARS = SIGNATURES | {
+    "CAT": (["CHAR ( * )", "CHAR ( * ) VAR"], "CHAR ( 5 ) VAR"),
+    "FILL": (["( * ) FIXED BIN ( 15 )", "FIXED BIN ( 15 )"], None),
 }
 START = "START"
 PARAMETERS = ["Z", "W"]
@@ -69,6 +75,8 @@ INTERNAL = internal_routines()
 class Grower(runs.Grower):
     """Programs of several units. While a unit is grown, `own` are its parameters as variables, by their kind, and `result` that of the
     procedure in which statements are grown."""
+
+    signatures = SIGNATURES
 
     def __init__(self, numbers, slips):
         super().__init__(numbers, slips)
@@ -99,7 +107,7 @@ class Grower(runs.Grower):
         return super().variable(kind)
 
     def leaf(self, kind):
-        functions = [name for name in self.external if SIGNATURES[name][1] and kind_of(SIGNATURES[name][1]) == kind]
+        functions = [name for name in self.external if self.signatures[name][1] and kind_of(self.signatures[name][1]) == kind]
         if functions and self.below(8) == 0:
             return self.called(self.chosen(*functions))
         return super().leaf(kind)
@@ -107,7 +115,7 @@ class Grower(runs.Grower):
     def called(self, name):
         """A call of an external procedure, with a variable or another expression for each parameter."""
         arguments = []
-        for parameter in SIGNATURES[name][0]:
+        for parameter in self.signatures[name][0]:
             arguments += [",", *self.argument(parameter)]
         called = [name, "(", *arguments[1:], ")"]
         return self.wrong_call(name, called) if self.slip() else called
@@ -136,7 +144,7 @@ class Grower(runs.Grower):
 
     def call_of_external(self):
         name = self.chosen(*self.external)
-        result = SIGNATURES[name][1]
+        result = self.signatures[name][1]
         if not result:
             return ["CALL", *self.called(name), ";"]
         return self.chosen([*self.variable(kind_of(result)), "=", *self.called(name), ";"], ["PUT", "LIST", "(", *self.called(name), ")", ";"])
@@ -170,7 +178,7 @@ class Grower(runs.Grower):
 
     def entry(self, name):
         """The declaration of an external procedure in another unit."""
-        parameters, result = SIGNATURES.get(name, ([], None))
+        parameters, result = self.signatures.get(name, ([], None))
         listed = " , ".join(parameters)
         attributes = [f"ENTRY ( {listed} )" if listed else self.chosen("ENTRY", "ENTRY ( )")]
         attributes += [f"RETURNS ( {result} )"] * bool(result) + self.chosen([], ["EXT"])
@@ -193,7 +201,7 @@ class Grower(runs.Grower):
         """The heading of a unit, and what declares its parameters."""
         if name == START:
             return "START : PROC OPTIONS ( MAIN ) ;".split()
-        parameters, result = SIGNATURES[name]
+        parameters, result = self.signatures[name]
         named = PARAMETERS[: len(parameters)]
         declared = " , ".join(f"{parameter} {description}" for parameter, description in zip(named, parameters))
         returns = f"RETURNS ( {result} )" if result else ""
@@ -201,7 +209,7 @@ class Grower(runs.Grower):
 
     def parameters_of(self, name):
         found = {}
-        for parameter, description in zip(PARAMETERS, SIGNATURES[name][0] if name != START else []):
+        for parameter, description in zip(PARAMETERS, self.signatures[name][0] if name != START else []):
             element = [parameter, "(", *self.subscript(3), ")"] if description.startswith("(") else [parameter]
             found.setdefault(kind_of(description), []).append(element)
         return found
@@ -217,7 +225,7 @@ class Grower(runs.Grower):
     def procedure(self, name, is_guarded):
         """The words of the unit that has the procedure of a name."""
         self.labels, self.own = 0, self.parameters_of(name)
-        result = SIGNATURES[name][1] if name != START else None
+        result = self.signatures[name][1] if name != START else None
         self.result = kind_of(result) if result else None
         before = [*self.variables(), *self.entries(name)]
         body = [*(self.guard() if is_guarded else []), *self.list(4 if name == START else 3)]
@@ -400,6 +408,18 @@ class ConditionGrower(Conditions, AreaGrower, StackGrower):
         return [*self.units(), *self.call_of_external(), *words] if self.is_main else words
 
 
+class StarGrower(Grower):
+    """Programs of several units with `*` for the length and bounds of parameters."""
+
+    signatures = STARS
+
+
+class StarChanger(Changer):
+    """Such programs that are changed where units meet."""
+
+    signatures = STARS
+
+
 def shown(program):
     """The units, without the routines that are the same in all."""
     texts = []
@@ -425,6 +445,9 @@ def main():
     agree &= compare("programs with shared areas", workbench, [placed.program() for _ in range(PROGRAMS)], [*range(FEW_STEPS + 1), MANY_STEPS], shown)
     raised = ConditionGrower(mutations.Numbers(SEED + 5), False)
     agree &= compare("programs with conditions", workbench, [raised.program() for _ in range(PROGRAMS)], [*range(FEW_STEPS + 1), MANY_STEPS], shown)
+    starred, changed = StarGrower(mutations.Numbers(SEED + 6), False), StarChanger(mutations.Numbers(SEED + 7), False)
+    agree &= compare("programs with asterisks", workbench, [starred.program() for _ in range(PROGRAMS)], [*range(FEW_STEPS + 1), MANY_STEPS], shown)
+    agree &= compare("programs with asterisks changed", workbench, [changed.linked() for _ in range(STARRED)], [MANY_STEPS], shown)
     sys.exit(not agree)
 
 

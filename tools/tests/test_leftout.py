@@ -126,8 +126,10 @@ P11  DO FOREVER@; END;
 P11  DO I@; END;
 P12  DCL F ENTRY RETURNS(@FLOAT);
     FLOAT; write FIXED BIN(63) and count the smallest part
-P13  DCL X CHAR(@*);
-    * extents; write the length or the bounds
+P13  DCL X FIXED(@*) BIN;
+    * beside another bound or for a precision; write the number
+P13  DCL X(1:@*) BIT;
+    * beside another bound or for a precision; write the number
 P13  DCL N FIXED BIN(15), X(@N) BIT;
     computed extents; write a constant, the greatest that is needed
 P13  DCL X FIXED BIN(15, @2);
@@ -165,6 +167,16 @@ A3  DCL @X BIT(8) CHAR(8);
 A4  DCL @X FIXED;
     defaults of types; write FIXED BIN(15)
 A4  DCL @X;
+A6  DCL @X CHAR(*);
+    * for lengths but of parameters; write the length
+A6  DCL X BIT, (@Y, Z) BIT(*) STATIC;
+    * for lengths but of parameters; write the length
+A6  DCL @X CHAR(0);
+A7  DCL @X(3, *) BIT;
+    * for bounds but all those of a parameter; write the bounds
+A7  S: PROC(X); DCL @X(*, 3) BIT; END;
+    * for bounds but all those of a parameter; write the bounds
+A7  DCL @X(3:1) BIT;
 T1  DCL S CHAR(5); @SUBSTR(S, 1, 2) = 'AB';
     SUBSTR as a target; join the parts, as SUBSTR(S, 1, 2) || 'X' || SUBSTR(S, 4)
 T1  PUT LIST(@LENGTH);

@@ -4,6 +4,7 @@ use Rattle.std.specs.Prelude.{ℕ, List, Option, ℤ, pos, ◌-ℤ◌, if◌then
 use Rattle.pli_base.specs.Name.{Name}
 use Rattle.pli_base.specs.declared.syntax.Identifier.{Identifier}
 use Rattle.pli_base.specs.declared.declaration.WrittenBounds.{WrittenBounds}
+use Rattle.pli_base.specs.declared.declaration.WrittenLength.{WrittenLength}
 use Rattle.pli_base.specs.declared.declaration.InitialValue.{InitialValue}
 use Rattle.pli_base.specs.declared.declaration.Integer.{Integer}
 
@@ -14,10 +15,10 @@ integer_of i = if i.negative then pos 0 -ℤ pos i.value else pos i.value
 -- an attribute other than ENTRY and RETURNS
 pub data SimpleAttribute : Type 0 where
   Fixed Binary : (precision : Option ℕ) → SimpleAttribute
-  Character Bit : (length_of : Option ℕ) → SimpleAttribute
+  Character Bit : (length_of : Option WrittenLength) → SimpleAttribute
   Varying Pointer : SimpleAttribute
   Offset : (area : Option Name) → SimpleAttribute
-  Area : (size : Option ℕ) → SimpleAttribute
+  Area : (size : Option WrittenLength) → SimpleAttribute
   Based : (locator : Option (List Name)) → SimpleAttribute
   Controlled Static Automatic External Internal Builtin : SimpleAttribute
   Initial : (values : List InitialValue) → SimpleAttribute

@@ -27,11 +27,21 @@ impl Integer {
     }
 }
 
-/// The bounds of a dimension. Where there is no lower bound, it is 1 (X3.74).
+/// The bounds of a dimension.
 #[derive(Clone, Copy)]
-pub struct WrittenBounds {
-    pub low: Option<Integer>,
-    pub high: Integer,
+pub enum WrittenBounds {
+    /// Where there is no lower bound, it is 1 (X3.74).
+    Stated { low: Option<Integer>, high: Integer },
+    /// `*`: of a parameter, the bounds of the argument (X3.74).
+    Any,
+}
+
+/// A length or a size in parentheses.
+#[derive(Clone, Copy)]
+pub enum WrittenLength {
+    Stated(u64),
+    /// `*`: of a parameter, the length of the argument (X3.74).
+    Any,
 }
 
 /// A value in INITIAL. A factor says how many elements have it (X3.74).
@@ -52,15 +62,15 @@ pub enum SimpleAttribute {
     /// With a precision. Its scale is 0, and leaves no trace.
     Binary(Option<u64>),
     /// With a length.
-    Character(Option<u64>),
+    Character(Option<WrittenLength>),
     /// With a length.
-    Bit(Option<u64>),
+    Bit(Option<WrittenLength>),
     Varying,
     Pointer,
     /// With the name of an area.
     Offset(Option<Name>),
     /// With a size.
-    Area(Option<u64>),
+    Area(Option<WrittenLength>),
     /// With a locator, a name qualified by those before it.
     Based(Option<Vec<Name>>),
     Controlled,

@@ -12,6 +12,7 @@ mod outcome;
 mod recorded;
 mod rows;
 mod serving;
+mod stars;
 mod statuses;
 mod versions;
 mod written;

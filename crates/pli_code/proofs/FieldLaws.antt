@@ -11,9 +11,9 @@ use Rattle.std.proofs.Math.Facts.{Fits-of_z}
 use Rattle.byteorder.specs.Endian.{big_bytes, big_number}
 use Rattle.byteorder.specs.Numbers.{big_number-reads_back, length-bytes_high_first}
 use Rattle.pli_code.specs.declared.fault.DeckFault.{DeckFault}
-use Rattle.pli_code.specs.declared.fault.DeckFault.TheVariants.{Truncated}
+use Rattle.pli_code.specs.declared.fault.DeckFault.TheVariants.{Truncated, OutOfRange}
 use Rattle.pli_base.specs.Results.{◌>>=◌}
-use Rattle.pli_code.specs.Fields.{AreBytes, BothWays, Field, nothing, byte_at, byte, number_at, number, held, checked, is_near, signed, followed, ◌⊗◌, shaped, many, list_of, u2, u4, from_to}
+use Rattle.pli_code.specs.Fields.{AreBytes, BothWays, Reader, Field, nothing, byte_at, byte, number_at, number, held, checked, may_begin, opened_by, opened, is_near, signed, followed, ◌⊗◌, shaped, many, list_of, u2, u4, from_to}
 
 -- ---- steps that did not fail
 
@@ -223,6 +223,37 @@ checked_law {X} good f it = record { takes = take_one; again = once_more }
     once_more x rest h =
         let both = and_parts (f.fits x) (good x) h in
         ap (λ r. r >>= λ p. held (good p.0) p) (it.again x rest both.0) ∙ ap (λ g. held g (x, rest)) both.1
+
+-- bytes begin with one that may stand first
+abbrev pub Opens : (opens : ℕ → Bool) → List ℕ → Type 0
+Opens opens [] = ⊥
+Opens opens (b ∷ bytes) = opens b ≡ true
+
+opens_ok : {A : Type 0} (good : Bool) (r : Result A DeckFault) (y : A) → cond good r (Err OutOfRange) ≡ Ok y → (good ≡ true) × (r ≡ Ok y)
+opens_ok true r y e = (refl, e)
+opens_ok false r y e = absurd cc
+
+begins_so : (opens : ℕ → Bool) (front rest : List ℕ) → Opens opens front → may_begin opens (front ++ rest) ≡ true
+begins_so opens [] rest o = absurd o
+begins_so opens (b ∷ front) rest o = o
+
+pub opened_read : {X : Type 0} (opens : ℕ → Bool) (read : Reader X) (bytes : List ℕ) (y : X × List ℕ) → opened_by opens read bytes ≡ Ok y
+    → (may_begin opens bytes ≡ true) × (read bytes ≡ Ok y)
+opened_read opens read bytes y e = opens_ok (may_begin opens bytes) (read bytes) y e
+
+pub opened_again : {X : Type 0} (opens : ℕ → Bool) (read : Reader X) (front rest : List ℕ) (y : X × List ℕ) → Opens opens front → read (front ++ rest) ≡ Ok y → opened_by opens read (front ++ rest) ≡ Ok y
+opened_again opens read front rest y o h = rw (begins_so opens front rest o) h
+
+pub opened_law : {X : Type 0} (opens : ℕ → Bool) (f : Field X) → IsField f → ((x : X) → f.fits x ≡ true → Opens opens (f.bytes_of x)) → IsField (opened opens f)
+opened_law {X} opens f it first = record { takes = take_one; again = once_more }
+  where
+    take_one : (bytes : List ℕ) (x : X) (rest : List ℕ) → AreBytes bytes → opened_by opens f.read bytes ≡ Ok (x, rest) → Taken (opened opens f) bytes x rest
+    take_one bytes x rest b e =
+        let t = it.takes bytes x rest b (opened_read opens f.read bytes (x, rest) e).1 in
+        record { parts = t.parts; fitting = t.fitting; rest_bytes = t.rest_bytes }
+
+    once_more : (x : X) (rest : List ℕ) → f.fits x ≡ true → opened_by opens f.read (f.bytes_of x ++ rest) ≡ Ok (x, rest)
+    once_more x rest h = opened_again opens f.read (f.bytes_of x) rest (x, rest) (first x h) (it.again x rest h)
 
 -- numbers of so many bytes, and signed ones of their width that are no further from 0 than the bound, stand for each other
 record StandFor (count : ℕ) (width : Width) (bound : ℕ) : Type 0 where

@@ -1,17 +1,18 @@
 -- The laws of the field of instructions.
 use Rattle.std.proofs.Common.{◌≡◌, ℕ, true, List, ◌++◌, get_or, Ok, refl, arith}
+use Rattle.std.proofs.lemmas.Bool.{and_parts}
 use Rattle.pli_operation.specs.declared.operation.Operation.{Operation}
 use Rattle.pli_operation.specs.declared.operation.Operation.TheVariants as calculate
 use Rattle.pli_code.specs.declared.instruction.Instruction.{Instruction}
 use Rattle.pli_code.specs.declared.instruction.Instruction.TheVariants as op
-use Rattle.pli_code.specs.Fields.{BothWays, nothing, ◌⊗◌, form, made, unknown, u1, u2, u4}
+use Rattle.pli_code.specs.Fields.{BothWays, checked, nothing, ◌⊗◌, form, made, unknown, u1, u2, u4}
 use Rattle.pli_code.specs.Versions.{greatest_precision}
 use Rattle.pli_code.specs.declared.version.Version.{Version}
 use Rattle.pli_code.specs.declared.version.Version.TheVariants.{Second}
-use Rattle.pli_code.specs.Instructions.{precision, quotient_precision, bound, error, relation, condition, operation_form, instruction_form, alone, instruction_readers, instruction, is_instruction_in, instruction_in}
-use Rattle.pli_code.proofs.FieldLaws.{IsField, byte_law, u2_law, u4_law, nothing_law, pair_law, from_to_law, checked_law, word_law, both_ways}
+use Rattle.pli_code.specs.Instructions.{precision, quotient_precision, bound, error, relation, condition, dimension_number, which_bound, string_form, operation_form, instruction_form, alone, instruction_readers, instruction, is_instruction_in, is_code_in, instruction_in}
+use Rattle.pli_code.proofs.FieldLaws.{IsField, byte_law, u2_law, u4_law, nothing_law, pair_law, from_to_law, checked_law, opened_law, Opens, word_law, both_ways}
 use Rattle.pli_code.proofs.FormLaws.{AllRead, Reads, unknown_reads, made_reads, made_again, tagged_law}
-use Rattle.pli_code.proofs.NumberedLaws.{error_law, relation_law, condition_law}
+use Rattle.pli_code.proofs.NumberedLaws.{error_law, relation_law, condition_law, which_law, string_form_law}
 
 pub precision_law : (v : Version) → IsField (precision v)
 precision_law v = from_to_law 1 (greatest_precision v) u1 byte_law
@@ -21,6 +22,9 @@ quotient_law = precision_law Second
 
 pub bound_law : IsField bound
 bound_law = word_law 32767 (omega arith)
+
+pub dimension_law : IsField dimension_number
+dimension_law = from_to_law 1 8 u1 byte_law
 
 -- what has no operand
 bare : (i : Instruction) (tag : ℕ) → instruction_form i ≡ form tag nothing tt → Reads instruction_form tag (alone i)
@@ -94,6 +98,10 @@ forms_read =
     & short op.SetTemporary 61 (λ n. refl)
     & short op.TakeTemporary 62 (λ n. refl)
     & operated calculate.Within 63 refl
+    & made_reads dimension_number dimension_law op.SubscriptIn f 64 (λ x. refl)
+    & made_reads (which_bound ⊗ dimension_number) (pair_law which_bound dimension_number which_law dimension_law) (λ p. op.BoundOf p.0 p.1) f 65 (λ x. refl)
+    & made_reads string_form string_form_law op.MakeStringDummy f 66 (λ x. refl)
+    & bare op.FitToPlace 67 refl
     & tt
 
 operation_again : (o : Operation) (rest : List ℕ) → (operation_form o).fits ≡ true → get_or instruction_readers (operation_form o).tag unknown ((operation_form o).bytes ++ rest) ≡ Ok (op.Operate o, rest)
@@ -134,14 +142,33 @@ again (op.Revert c) rest h = made_again condition condition_law op.Revert c rest
 again (op.Signal c) rest h = made_again condition condition_law op.Signal c rest h
 again (op.SetTemporary number) rest h = made_again u2 u2_law op.SetTemporary number rest h
 again (op.TakeTemporary number) rest h = made_again u2 u2_law op.TakeTemporary number rest h
+again (op.SubscriptIn dimension) rest h = made_again dimension_number dimension_law op.SubscriptIn dimension rest h
+again (op.BoundOf which dimension) rest h = made_again (which_bound ⊗ dimension_number) (pair_law which_bound dimension_number which_law dimension_law) (λ p. op.BoundOf p.0 p.1) (which, dimension) rest h
+again (op.MakeStringDummy strings) rest h = made_again string_form string_form_law op.MakeStringDummy strings rest h
 again plain rest h = refl
 
 pub instruction_law : IsField instruction
 unfolding instruction
 instruction_law = tagged_law instruction_form instruction_readers forms_read again
 
+operation_opens : (v : Version) (o : Operation) → is_code_in v (operation_form o).tag ≡ true
+operation_opens v (calculate.Divide p) = refl
+operation_opens v other = refl
+
+-- what may stand in a version has an opcode that may
+opens_there : (v : Version) (i : Instruction) → is_instruction_in v i ≡ true → Opens (is_code_in v) (instruction.bytes_of i)
+unfolding instruction
+opens_there v (op.Operate o) h = operation_opens v o
+opens_there v (op.SubscriptIn dimension) h = h
+opens_there v (op.BoundOf which dimension) h = h
+opens_there v (op.MakeStringDummy strings) h = h
+opens_there v op.FitToPlace h = h
+opens_there v other h = refl
+
 pub instruction_in_law : (v : Version) → IsField (instruction_in v)
-instruction_in_law v = checked_law (is_instruction_in v) instruction instruction_law
+instruction_in_law v =
+    opened_law (is_code_in v) (checked (is_instruction_in v) instruction) (checked_law (is_instruction_in v) instruction instruction_law)
+    (λ i h. opens_there v i (and_parts (instruction.fits i) (is_instruction_in v i) h).1)
 
 pub instructions_both_ways : BothWays instruction
 instructions_both_ways = both_ways instruction instruction_law

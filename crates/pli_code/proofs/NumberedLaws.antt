@@ -1,4 +1,4 @@
--- Numbers stand for errors, relations and conditions: there and back.
+-- Numbers stand for errors, relations, conditions, bounds and forms of strings: there and back.
 use Rattle.std.proofs.Common.{◌≡◌, ◌<◌, ℕ, zero, suc, nat_le, nat_lt, true, refl, arith}
 use Rattle.std.specs.Int.{is_in_range}
 use Rattle.std.proofs.lemmas.Bool.{leb-true, and_parts}
@@ -9,8 +9,12 @@ use Rattle.pli_run.specs.declared.ending.RunError.TheVariants as errors
 use Rattle.pli_operation.specs.declared.operation.Relation.{Relation}
 use Rattle.pli_operation.specs.declared.operation.Relation.TheVariants as relations
 use Rattle.pli_code.specs.Fields.{u1, from_to}
-use Rattle.pli_code.specs.Numbered.{error_number, error_of, relation_number, relation_of, condition_number, condition_of}
-use Rattle.pli_code.specs.Instructions.{error, relation, condition}
+use Rattle.pli_map.specs.declared.dimension.WhichBound.{WhichBound}
+use Rattle.pli_map.specs.declared.dimension.WhichBound.TheVariants as bounds
+use Rattle.pli_map.specs.declared.parameter.StringForm.{StringForm}
+use Rattle.pli_map.specs.declared.parameter.StringForm.TheVariants as forms
+use Rattle.pli_code.specs.Numbered.{error_number, error_of, relation_number, relation_of, condition_number, condition_of, bound_number, which_of, string_number, string_form_of}
+use Rattle.pli_code.specs.Instructions.{error, relation, condition, which_bound, string_form}
 use Rattle.pli_code.proofs.FieldLaws.{IsField, byte_law, shaped_law, from_to_law}
 
 -- no number over the last one is in a range
@@ -91,3 +95,35 @@ condition_back conditions.Area = refl
 
 pub condition_law : IsField condition
 condition_law = shaped_law condition_of condition_number (from_to 0 2 u1) (from_to_law 0 2 u1 byte_law) (λ n h. condition_there n (and_parts (nat_lt n 256) (is_in_range 0 2 n) h).1) (λ x h. condition_back x)
+
+-- ---- bounds
+
+which_there : (n : ℕ) → is_in_range 0 1 n ≡ true → bound_number (which_of n) ≡ n
+which_there zero h = refl
+which_there (suc zero) h = refl
+which_there (suc (suc n)) h = absurd (over 0 1 (suc (suc n)) (omega arith) h)
+
+which_back : (x : WhichBound) → which_of (bound_number x) ≡ x
+which_back bounds.Low = refl
+which_back bounds.High = refl
+
+pub which_law : IsField which_bound
+which_law = shaped_law which_of bound_number (from_to 0 1 u1) (from_to_law 0 1 u1 byte_law) (λ n h. which_there n (and_parts (nat_lt n 256) (is_in_range 0 1 n) h).1) (λ x h. which_back x)
+
+-- ---- forms of strings
+
+form_there : (n : ℕ) → is_in_range 2 4 n ≡ true → string_number (string_form_of n) ≡ n
+form_there zero h = absurd cc
+form_there (suc zero) h = absurd cc
+form_there (suc (suc zero)) h = refl
+form_there (suc (suc (suc zero))) h = refl
+form_there (suc (suc (suc (suc zero)))) h = refl
+form_there (suc (suc (suc (suc (suc n))))) h = absurd (over 2 4 (suc (suc (suc (suc (suc n))))) (omega arith) h)
+
+form_back : (x : StringForm) → string_form_of (string_number x) ≡ x
+form_back forms.Character = refl
+form_back forms.Varying = refl
+form_back forms.Bit = refl
+
+pub string_form_law : IsField string_form
+string_form_law = shaped_law string_form_of string_number (from_to 2 4 u1) (from_to_law 2 4 u1 byte_law) (λ n h. form_there n (and_parts (nat_lt n 256) (is_in_range 2 4 n) h).1) (λ x h. form_back x)

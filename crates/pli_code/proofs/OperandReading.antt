@@ -49,10 +49,10 @@ of_both f g (Err d) x between y behind h k =
     let e : behind ≡ Err d = (rw h.is_read at k).is_read in
     record { is_read = e }
 
--- no instruction has a number over 63
-pub none_beyond : (code : ℕ) (before : Result (List ℕ) DeckFault) (x : Instruction) (behind : Result (List ℕ) DeckFault) → 63 < code → Reads unknown before x behind → Reads (reader_of code) before x behind
+-- no instruction has a number over 67
+pub none_beyond : (code : ℕ) (before : Result (List ℕ) DeckFault) (x : Instruction) (behind : Result (List ℕ) DeckFault) → 67 < code → Reads unknown before x behind → Reads (reader_of code) before x behind
 unfolding reader_of
 none_beyond code before x behind over h = rw (beyond code over) h
   where
-    beyond : (n : ℕ) → 63 < n → get_or instruction_readers n unknown ≡ unknown
+    beyond : (n : ℕ) → 67 < n → get_or instruction_readers n unknown ≡ unknown
     beyond n more = get_or_past instruction_readers n unknown (omega arith)

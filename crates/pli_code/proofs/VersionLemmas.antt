@@ -2,6 +2,8 @@
 use Rattle.std.proofs.Common.{◌≡◌, ℕ, nat_le, true, refl}
 use Rattle.std.specs.Int.{is_in_range}
 use Rattle.std.proofs.lemmas.Bool.{and_parts}
+use Rattle.pli_map.specs.declared.dimension.WhichBound.{WhichBound}
+use Rattle.pli_map.specs.declared.parameter.StringForm.{StringForm}
 use Rattle.pli_operation.specs.declared.operation.Operation.{Operation}
 use Rattle.pli_operation.specs.declared.operation.Operation.TheVariants as calculate
 use Rattle.pli_code.specs.declared.instruction.Instruction.{Instruction}
@@ -16,9 +18,16 @@ pub no_quotient : (v : Version) (o : Operation) → ((p : ℕ) → o ≡ calcula
 no_quotient v (calculate.Divide p) h = absurd (h p refl)
 no_quotient v other h = refl
 
-pub no_operation : (v : Version) (i : Instruction) → ((o : Operation) → i ≡ op.Operate o → ⊥) → is_instruction_in v i ≡ true
-no_operation v (op.Operate o) h = absurd (h o refl)
-no_operation v other h = refl
+-- what is no operation, and is not for types with a `*`
+pub stands_everywhere : (v : Version) (i : Instruction) → ((o : Operation) → i ≡ op.Operate o → ⊥)
+    → ((k : ℕ) → i ≡ op.SubscriptIn k → ⊥) → ((w : WhichBound) (k : ℕ) → i ≡ op.BoundOf w k → ⊥)
+    → ((f : StringForm) → i ≡ op.MakeStringDummy f → ⊥) → (i ≡ op.FitToPlace → ⊥) → is_instruction_in v i ≡ true
+stands_everywhere v (op.Operate o) a b c d e = absurd (a o refl)
+stands_everywhere v (op.SubscriptIn k) a b c d e = absurd (b k refl)
+stands_everywhere v (op.BoundOf w k) a b c d e = absurd (c w k refl)
+stands_everywhere v (op.MakeStringDummy f) a b c d e = absurd (d f refl)
+stands_everywhere v op.FitToPlace a b c d e = absurd (e refl)
+stands_everywhere v other a b c d e = refl
 
 -- no instruction that has bytes names a greater precision than the written version has
 stands_written : (i : Instruction) → instruction.fits i ≡ true → is_instruction_in written i ≡ true

@@ -76,6 +76,19 @@ checked good f = record {
   read = λ bytes. f.read bytes >>= λ x. held (good x.0) x;
 }
 
+-- bytes begin with one that may stand there, if there is one
+abbrev pub may_begin : (opens : ℕ → Bool) → List ℕ → Bool
+may_begin opens [] = true
+may_begin opens (b ∷ bytes) = opens b
+
+-- what is read, where the first byte may stand there
+abbrev pub opened_by : {X : Type 0} → (opens : ℕ → Bool) → Reader X → Reader X
+opened_by opens read bytes = if may_begin opens bytes then read bytes else Err OutOfRange
+
+-- a field of which the first byte is looked at before the rest: another one is out of range, whatever follows
+abbrev pub opened : {X : Type 0} → (opens : ℕ → Bool) → Field X → Field X
+opened opens f = record { bytes_of = f.bytes_of; fits = f.fits; read = opened_by opens f.read }
+
 -- a number is no further from 0 than this
 abbrev pub is_near : (bound : ℕ) → ℤ → Bool
 is_near bound z = nat_le (unsigned_abs z) bound

@@ -1,7 +1,11 @@
--- The numbers that stand in bytes for errors, relations and conditions (own).
+-- The numbers that stand in bytes for errors, relations, conditions, bounds and forms of strings (own).
 use Rattle.std.specs.Prelude.{ℕ, [], ◌∷◌, get_or}
 use Rattle.pli_base.specs.declared.statement.Condition.{Condition}
 use Rattle.pli_base.specs.declared.statement.Condition.TheVariants as conditions
+use Rattle.pli_map.specs.declared.dimension.WhichBound.{WhichBound}
+use Rattle.pli_map.specs.declared.dimension.WhichBound.TheVariants as bounds
+use Rattle.pli_map.specs.declared.parameter.StringForm.{StringForm}
+use Rattle.pli_map.specs.declared.parameter.StringForm.TheVariants as forms
 use Rattle.pli_run.specs.declared.ending.RunError.{RunError}
 use Rattle.pli_run.specs.declared.ending.RunError.TheVariants as errors
 use Rattle.pli_operation.specs.declared.operation.Relation.{Relation}
@@ -55,3 +59,23 @@ condition_number conditions.Area = 2
 -- the condition of a number from 0 to 2
 abbrev pub condition_of : ℕ → Condition
 condition_of n = get_or (conditions.FixedOverflow ∷ conditions.ZeroDivide ∷ []) n conditions.Area
+
+-- the number of a bound, 0 or 1
+abbrev pub bound_number : WhichBound → ℕ
+bound_number bounds.Low = 0
+bound_number bounds.High = 1
+
+-- the bound of a number, 0 or 1
+abbrev pub which_of : ℕ → WhichBound
+which_of n = get_or (bounds.Low ∷ []) n bounds.High
+
+-- the number of a form of strings, from 2 to 4: the tag of its descriptions
+abbrev pub string_number : StringForm → ℕ
+string_number forms.Character = 2
+string_number forms.Varying = 3
+string_number forms.Bit = 4
+
+-- the form of a number from 2 to 4
+abbrev pub string_form_of : ℕ → StringForm
+string_form_of n =
+    get_or (forms.Bit ∷ forms.Bit ∷ forms.Character ∷ forms.Varying ∷ []) n forms.Bit

@@ -1,11 +1,15 @@
 //! The code of a unit.
-ghost use Rattle.std.specs.Prelude.{◌≡◌};
+ghost use Rattle.std.specs.Prelude.{◌≡◌, map, option_map, slice_get};
+ghost use Rattle.pli_map.specs.views.DescriptionView.{description_view};
+ghost use Rattle.pli_map.specs.views.ParameterView.{type_view};
+ghost use Rattle.pli_code.specs.CodeTables.{stated_at};
 ghost use Rattle.pli_code.specs.Versions.{version_number};
+ghost use Rattle.pli_code.specs.views.CodeView.{code_view};
 
 use crate::instruction::Instruction;
 use crate::version::Version;
 use pli_base::Name;
-use pli_map::Description;
+use pli_map::{Description, ParameterType};
 use pli_program::VariableKind;
 use pli_type_tree::InitialScalar;
 use pli_value::Value;
@@ -43,7 +47,8 @@ pub struct Block {
     pub statement: u32,
 }
 
-/// What an external procedure takes, and what it gives if it is a function: the numbers of descriptions.
+/// What an external procedure takes, and what it gives if it is a function: the numbers of types, of which the result's
+/// is a description.
 #[derive(Drop)]
 pub struct CodedSignature {
     pub parameters: Vec<u16>,
@@ -76,7 +81,8 @@ pub enum CodedGlobal {
 pub struct Code {
     /// What its external procedure takes and gives.
     pub signature: CodedSignature,
-    pub descriptions: Vec<Description>,
+    /// Descriptions, and types with a `*`, which parameters of signatures alone name.
+    pub descriptions: Vec<ParameterType>,
     pub templates: Vec<CodedTemplate>,
     pub values: Vec<Value>,
     /// In the order of the text.
@@ -84,6 +90,27 @@ pub struct Code {
     /// Numbered from 0 in the order of the text.
     pub blocks: Vec<Block>,
     pub instructions: Vec<Instruction>,
+}
+
+/// The type of a number in a table.
+#[inline]
+fn type_at(types: &[ParameterType], number: u16) -> Option<&ParameterType>
+    ensures { option_map (λ t. type_view t.now) result ≡ slice_get (map type_view types.now) number }
+{
+    types.get(usize::from(number))
+}
+
+impl Code {
+    /// The description of a number, if the table has it and no `*` stands in it. Takes no memory.
+    #[inline]
+    pub fn description(&self, number: u16) -> Option<&Description>
+        ensures { option_map (λ d. description_view d.now) result ≡ stated_at (code_view self.now) number }
+    {
+        match type_at(&self.descriptions, number) {
+            Some(found) => found.stated(),
+            None => None,
+        }
+    }
 }
 
 /// A deck: its version, the name of a unit's external procedure, whether that is a main one, and the code of the unit.
@@ -96,7 +123,7 @@ pub struct Deck {
 }
 
 impl Deck {
-    /// The number of its version, 1 or 2.
+    /// The number of its version, from 1 to 3.
     pub fn version(&self) -> u8
         ensures { result ≡ version_number self.now.version }
     {

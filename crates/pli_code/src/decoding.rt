@@ -55,6 +55,8 @@ fn with_operands(code: u8, operands: &mut Operands<'_>) -> Instruction
         locator_or_storage(code, operands)
     } else if code <= 63 {
         condition_or_print(code, operands)
+    } else if code <= 67 {
+        at_parameter(code, operands)
     } else {
         operands.unknown()
     }
@@ -250,6 +252,27 @@ fn condition_or_print(code: u8, operands: &mut Operands<'_>) -> Instruction
             number: operands.short(),
         },
         63 => Instruction::Operate(Operation::Within),
+        _ => operands.unknown(),
+    }
+}
+
+/// The instruction of an opcode from 64 to 67.
+fn at_parameter(code: u8, operands: &mut Operands<'_>) -> Instruction
+    requires { (64 ≤ code) × (code ≤ 67) }
+    ensures { Reads (reader_of code) (operands_view operands.old) result (operands_view operands.new) }
+{
+    match code {
+        64 => Instruction::SubscriptIn {
+            dimension: operands.byte_within(1, 8),
+        },
+        65 => Instruction::BoundOf {
+            which: operands.which_bound(),
+            dimension: operands.byte_within(1, 8),
+        },
+        66 => Instruction::MakeStringDummy {
+            form: operands.string_form(),
+        },
+        67 => Instruction::FitToPlace,
         _ => operands.unknown(),
     }
 }

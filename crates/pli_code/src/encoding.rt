@@ -6,7 +6,9 @@ ghost use Rattle.pli_code.specs.Instructions as instruction_fields;
 
 use crate::fields::{put_byte, put_short, put_signed, put_with_byte, put_with_short, put_word};
 use crate::instruction::Instruction;
-use crate::numbered::{condition_number, error_number, relation_number};
+use crate::numbered::{
+    bound_number, condition_number, error_number, relation_number, string_number,
+};
 use pli_operation::Operation;
 use std::alloc::AllocError;
 
@@ -16,6 +18,14 @@ fn put_with_word(out: &mut Vec<u8>, code: u8, number: u32) -> Result<(), AllocEr
 {
     put_byte(out, code)?;
     put_word(out, number)
+}
+
+/// Puts an opcode with two operands of one byte.
+fn put_two_bytes(out: &mut Vec<u8>, code: u8, first: u8, second: u8) -> Result<(), AllocError>
+    ensures { OnOk result (out.new.items ≡ out.old.items ++ (code ∷ first ∷ second ∷ [])) }
+{
+    put_with_byte(out, code, first)?;
+    put_byte(out, second)
 }
 
 /// Puts an opcode with operands of one and two bytes.
@@ -93,8 +103,8 @@ fn put_operation(out: &mut Vec<u8>, operation: Operation) -> Result<(), AllocErr
 }
 
 /// Puts the bytes of an instruction at the end: the byte that says which it is, and its operands. They are its one
-/// spelling where it has one: a subscript's bounds are at most 32,767 from 0, and a precision is from 1 to 63. An error
-/// comes where memory runs out.
+/// spelling where it has one: a subscript's bounds are at most 32,767 from 0, a precision is from 1 to 63, and a
+/// dimension from 1 to 8. An error comes where memory runs out.
 #[tactic(auto, unfolding(crate::specs::Instructions::instruction))]
 pub fn encode(instruction: Instruction, out: &mut Vec<u8>) -> Result<(), AllocError>
     ensures { OnOk result (out.new.items ≡ out.old.items ++ instruction_fields.instruction.bytes_of instruction) }
@@ -155,5 +165,11 @@ pub fn encode(instruction: Instruction, out: &mut Vec<u8>) -> Result<(), AllocEr
         Instruction::Skip => put_byte(out, 60),
         Instruction::SetTemporary { number } => put_with_short(out, 61, number),
         Instruction::TakeTemporary { number } => put_with_short(out, 62, number),
+        Instruction::SubscriptIn { dimension } => put_with_byte(out, 64, dimension),
+        Instruction::BoundOf { which, dimension } => {
+            put_two_bytes(out, 65, bound_number(which), dimension)
+        }
+        Instruction::MakeStringDummy { form } => put_with_byte(out, 66, string_number(form)),
+        Instruction::FitToPlace => put_byte(out, 67),
     }
 }

@@ -4,6 +4,7 @@ ghost use Rattle.pli_code.specs.Instructions.{is_instruction_in, is_operation_in
 
 use crate::version::Version;
 use pli_base::statement::Condition;
+use pli_map::{StringForm, WhichBound};
 use pli_operation::Operation;
 use pli_run::RunError;
 
@@ -163,6 +164,22 @@ pub enum Instruction {
     TakeTemporary {
         number: u16,
     },
+    /// Takes a number and leads the place of an array on by a subscript of this dimension of it, from 1 to 8; after the
+    /// last one, to an element.
+    SubscriptIn {
+        dimension: u8,
+    },
+    /// Takes the place of an array, and gives this bound of this dimension of it, from 1 to 8.
+    BoundOf {
+        which: WhichBound,
+        dimension: u8,
+    },
+    /// Takes a string and gives the place of a dummy argument as long as it is.
+    MakeStringDummy {
+        form: StringForm,
+    },
+    /// Fits a string to the place of a string that lies below it.
+    FitToPlace,
 }
 
 /// Whether an operation may stand in a version: a quotient has no greater precision than the version's numbers.
@@ -176,12 +193,17 @@ fn operation_stands(operation: Operation, version: Version) -> bool
 }
 
 impl Instruction {
-    /// Whether it may stand in a version: none names a greater precision than that of the version's numbers.
+    /// Whether it may stand in a version: none names a greater precision than that of the version's numbers, and what
+    /// works on parameters with a `*` stands where these do.
     pub fn stands_in(self, version: Version) -> bool
         ensures { result ≡ is_instruction_in version self }
     {
         match self {
             Instruction::Operate(operation) => operation_stands(operation, version),
+            Instruction::SubscriptIn { .. } => version.has_stars(),
+            Instruction::BoundOf { .. } => version.has_stars(),
+            Instruction::MakeStringDummy { .. } => version.has_stars(),
+            Instruction::FitToPlace => version.has_stars(),
             _ => true,
         }
     }

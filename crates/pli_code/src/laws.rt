@@ -1,7 +1,7 @@
 //! Laws of the bytes of instructions.
 ghost use Rattle.pli_code.specs.Fields.{BothWays};
 ghost use Rattle.pli_code.specs.Instructions.{instruction};
-ghost use Rattle.pli_code.specs.examples.InstructionExamples.{NumberedSo};
+ghost use Rattle.pli_code.specs.examples.InstructionExamples.{NumberedSo, StarredSo};
 
 /// A law: an instruction that is read is spelled by the bytes that were there, and one that is spelled is read again,
 /// whatever stands behind it.
@@ -10,8 +10,9 @@ pub fn instructions_both_ways()
     ensures { BothWays instruction }
 {}
 
-/// Worked examples: instructions with their bytes, and bytes that are none.
-#[tactic(auto, using(crate::proofs::Worked::numbered_so))]
+/// Worked examples: instructions with their bytes, and bytes that are none, in each version.
+#[tactic(auto, using(crate::proofs::Worked::numbered_so, crate::proofs::Worked::starred_so))]
 pub fn worked_instructions()
-    ensures { NumberedSo }
+    ensures numbered { NumberedSo }
+    ensures starred { StarredSo }
 {}

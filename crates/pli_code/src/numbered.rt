@@ -1,9 +1,12 @@
-//! The numbers that stand in bytes for errors, relations and conditions, and what they stand for.
+//! The numbers that stand in bytes for errors, relations, conditions, bounds and forms of strings, and what they stand
+//! for.
 ghost use Rattle.std.specs.Prelude.{◌≡◌};
 ghost use Rattle.pli_code.specs.Numbered.{condition_number, condition_of, error_number, error_of, relation_number};
 ghost use Rattle.pli_code.specs.Numbered.{relation_of};
+ghost use Rattle.pli_code.specs.Numbered.{bound_number, string_form_of, string_number, which_of};
 
 use pli_base::statement::Condition;
+use pli_map::{StringForm, WhichBound};
 use pli_operation::Relation;
 use pli_run::RunError;
 
@@ -53,6 +56,27 @@ pub fn condition_number(condition: Condition) -> u8
     }
 }
 
+/// The number of a bound.
+pub fn bound_number(which: WhichBound) -> u8
+    ensures { result ≡ bound_number which }
+{
+    match which {
+        WhichBound::Low => 0,
+        WhichBound::High => 1,
+    }
+}
+
+/// The number of a form of strings, which is the tag of its descriptions.
+pub fn string_number(form: StringForm) -> u8
+    ensures { result ≡ string_number form }
+{
+    match form {
+        StringForm::Character => 2,
+        StringForm::Varying => 3,
+        StringForm::Bit => 4,
+    }
+}
+
 /// The error of a number from 1 to 13.
 pub fn error_of(number: u8) -> RunError
     ensures { result ≡ error_of number }
@@ -96,5 +120,26 @@ pub fn condition_of(number: u8) -> Condition
         0 => Condition::FixedOverflow,
         1 => Condition::ZeroDivide,
         _ => Condition::Area,
+    }
+}
+
+/// The bound of a number, 0 or 1.
+pub fn which_of(number: u8) -> WhichBound
+    ensures { result ≡ which_of number }
+{
+    match number {
+        0 => WhichBound::Low,
+        _ => WhichBound::High,
+    }
+}
+
+/// The form of strings of a number from 2 to 4.
+pub fn string_form_of(number: u8) -> StringForm
+    ensures { result ≡ string_form_of number }
+{
+    match number {
+        2 => StringForm::Character,
+        3 => StringForm::Varying,
+        _ => StringForm::Bit,
     }
 }

@@ -8,8 +8,9 @@ ghost use Rattle.pli_code.specs.Operands.{operands_view, kept, Reads};
 use crate::fault::DeckFault;
 use crate::fields::{byte_of, byte_within, short_of, signed_within, word_of};
 use crate::instruction::Instruction;
-use crate::numbered::{condition_of, error_of, relation_of};
+use crate::numbered::{condition_of, error_of, relation_of, string_form_of, which_of};
 use pli_base::statement::Condition;
+use pli_map::{StringForm, WhichBound};
 use pli_operation::Relation;
 use pli_run::RunError;
 
@@ -113,6 +114,22 @@ impl<'a> Operands<'a> {
         ensures { Reads instruction_fields.condition.read (operands_view self.old) result (operands_view self.new) }
     {
         condition_of(self.byte_within(0, 2))
+    }
+
+    /// One of the two bounds of a dimension.
+    #[tactic(auto, using(crate::proofs::OperandReading::of_one))]
+    pub fn which_bound(&mut self) -> WhichBound
+        ensures { Reads instruction_fields.which_bound.read (operands_view self.old) result (operands_view self.new) }
+    {
+        which_of(self.byte_within(0, 1))
+    }
+
+    /// A form of strings.
+    #[tactic(auto, using(crate::proofs::OperandReading::of_one))]
+    pub fn string_form(&mut self) -> StringForm
+        ensures { Reads instruction_fields.string_form.read (operands_view self.old) result (operands_view self.new) }
+    {
+        string_form_of(self.byte_within(2, 4))
     }
 
     /// No instruction has the opcode: that is a fault, and any instruction stands for it.

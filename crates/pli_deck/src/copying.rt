@@ -1,7 +1,7 @@
 //! Copies of decks.
 ghost use Rattle.std.specs.Prelude.{◌≡◌, map, IfOk};
-ghost use Rattle.pli_map.specs.Description as described;
-ghost use Rattle.pli_map.specs.views.DescriptionView.{description_view};
+ghost use Rattle.pli_map.specs.ParameterTypes as types;
+ghost use Rattle.pli_map.specs.views.ParameterView.{type_view};
 ghost use Rattle.pli_program.specs.Templates as templates;
 ghost use Rattle.pli_type_tree.specs.views.TemplateView.{initial_view};
 ghost use Rattle.pli_code.specs.CodeTables as plain;
@@ -11,7 +11,7 @@ ghost use Rattle.pli_value.specs.Value as values;
 ghost use Rattle.pli_value.specs.Value.{value_view};
 
 use pli_code::{Block, Code, CodedGlobal, CodedSignature, CodedTemplate, Deck};
-use pli_map::Description;
+use pli_map::ParameterType;
 use pli_type_tree::InitialScalar;
 use pli_value::Value;
 use std::alloc::{AllocError, Global};
@@ -28,12 +28,12 @@ trait TableEntry: Sized + Drop {
         ensures { IfOk result (λ copied. view copied ≡ view self.now) };
 }
 
-impl TableEntry for Description {
-    ghost View = { described.Description };
+impl TableEntry for ParameterType {
+    ghost View = { types.ParameterType };
 
-    ghost view = { description_view };
+    ghost view = { type_view };
 
-    fn copied(&self, alloc: Global) -> Result<Description, AllocError> {
+    fn copied(&self, alloc: Global) -> Result<ParameterType, AllocError> {
         self.copy(alloc)
     }
 }

@@ -27,11 +27,12 @@ impl Model for SpelledDeck {
     ghost use Rattle.pli_code.specs.views.CodeView.{deck_view};
     ghost use Rattle.pli_deck_write.specs.Spelling.{deck_bytes};
     ghost use Rattle.pli_map.specs.contracts.description.Description as described;
+    ghost use Rattle.pli_map.specs.contracts.parameter.ParameterType as types;
     ghost use Rattle.std.specs.Coded.{codes};
 
     ghost Value = { decks.Deck };
 
-    ghost coded = { Prim.hlevel (codes, described.the_row.coded) };
+    ghost coded = { Prim.hlevel (codes, described.the_row.coded, types.the_row.coded) };
 
     ghost view = { λ s. s.deck };
 

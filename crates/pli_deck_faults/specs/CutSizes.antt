@@ -1,17 +1,18 @@
 -- Sizes of descriptions, up to a number of bytes that stands for every greater one.
 use Rattle.std.specs.Prelude.{ℕ, List, map, min}
-use Rattle.pli_map.specs.Sizes.{size_of}
-use Rattle.pli_map.specs.declared.description.Description.{Description}
-use Rattle.pli_map.specs.views.DescriptionView.{description_view}
+use Rattle.pli_map.specs.ParameterTypes.{stated}
+use Rattle.pli_map.specs.declared.parameter.ParameterType.{ParameterType}
+use Rattle.pli_map.specs.views.ParameterView.{type_view}
 use Rattle.pli_code.specs.declared.module.Member.{Member}
+use Rattle.pli_deck_write.specs.ModuleSpelling.{description_bytes}
 
--- the size of a description, 2^32 standing for every greater one
-abbrev pub cut_size : Description → ℕ
-cut_size d = min (size_of (description_view d)) 4294967296
+-- the size of a description, 2^32 standing for every greater one; 0 of a type in which a `*` stands
+abbrev pub cut_size : ParameterType → ℕ
+cut_size t = min (description_bytes (stated (type_view t))) 4294967296
 
--- those of descriptions
-abbrev pub cut_sizes : List Description → List ℕ
-cut_sizes ds = map cut_size ds
+-- those of descriptions and types
+abbrev pub cut_sizes : List ParameterType → List ℕ
+cut_sizes ts = map cut_size ts
 
 -- those of a unit's descriptions
 abbrev pub unit_sizes : Member → List ℕ

@@ -6,6 +6,7 @@ use Rattle.std.specs.Int.{next_multiple_of}
 use Rattle.pli_map.specs.Description as tree
 use Rattle.pli_map.specs.Description.{Description, Members}
 use Rattle.pli_map.specs.Sizes.{alignment_of, size_of, stride_of}
+use Rattle.pli_map.specs.ParameterTypes.{ParameterType, Stated}
 use Rattle.pli_map.specs.views.DescriptionView.{description_view}
 use Rattle.pli_deck_faults.specs.declared.places.Places as program
 use Rattle.pli_deck_faults.specs.declared.places.DescriptionExtent as placed_program
@@ -80,6 +81,11 @@ pub record DescriptionExtent : Type 0 where
 abbrev pub placed_of : Description → Option DescriptionExtent
 placed_of d =
     if nat_le (size_of d) 1000000 then Some (record { bytes = size_of d; places = places_of d }) else None
+
+-- the same of a type; none of one in which a `*` stands
+abbrev pub placed_type : ParameterType → Option DescriptionExtent
+placed_type (Stated d) = placed_of d
+placed_type other = None
 
 -- the same with the size
 abbrev pub placed_view : placed_program.DescriptionExtent → DescriptionExtent

@@ -4,11 +4,11 @@ ghost use Rattle.std.specs.List.{sum_by};
 ghost use Rattle.pli_code.specs.views.CodeView.{code_view, coded_template_view, external_view, global_view};
 ghost use Rattle.pli_code.specs.views.CodeView.{member_view, module_view};
 ghost use Rattle.pli_deck_write.specs.ModuleSpelling as spelling;
-ghost use Rattle.pli_deck_faults.specs.CutSizes.{cut_sizes, unit_sizes};
+ghost use Rattle.pli_deck_faults.specs.CutSizes.{cut_size, cut_sizes, unit_sizes};
 ghost use Rattle.pli_deck_faults.specs.Remains.{Remains};
 
 use pli_code::{Code, CodedGlobal, External, Member, Module};
-use pli_map::{Description, far_size};
+use pli_map::{ParameterType, far_size};
 use pli_program::VariableKind;
 use std::alloc::{AllocError, Global};
 
@@ -94,13 +94,23 @@ fn behind_unit(code: &Code, sizes: &[u64], bytes: u64) -> Option<u64>
     Some(left)
 }
 
-/// The sizes of descriptions; FAR stands for every greater one.
-fn sizes_of(alloc: Global, descriptions: &[Description]) -> Result<Vec<u64>, AllocError>
-    ensures { IfOk result (λ sizes. sizes.items ≡ cut_sizes descriptions.now) }
+/// The size of a description; FAR stands for every greater one, and 0 for that of a type with a `*`.
+fn cut_size(of: &ParameterType) -> u64
+    ensures { result ≡ cut_size of.now }
+{
+    match of.stated() {
+        Some(description) => far_size(description),
+        None => 0,
+    }
+}
+
+/// The sizes of descriptions and types; FAR stands for every greater one.
+fn sizes_of(alloc: Global, types: &[ParameterType]) -> Result<Vec<u64>, AllocError>
+    ensures { IfOk result (λ sizes. sizes.items ≡ cut_sizes types.now) }
 {
     let mut sizes = Vec::new(alloc);
-    for description in descriptions {
-        sizes.push(far_size(description))?;
+    for of in types {
+        sizes.push(cut_size(of))?;
     }
     Ok(sizes)
 }

@@ -2,18 +2,29 @@
 ghost use Rattle.std.specs.Prelude.{◌≡◌, ◌++◌, ◌∷◌, [], nat_lt, length, map};
 ghost use Rattle.std.specs.List.{flat_map, list_all};
 ghost use Rattle.pli_deck_write.specs.DeckFaults as faults;
-ghost use Rattle.pli_deck_write.specs.DeckFaults.{OfDescription, OfTemplate, OfValue, OfGlobal, OfBlock, OfInstruction};
+ghost use Rattle.pli_deck_write.specs.DeckFaults.{OfParameter, OfDescription, OfTemplate, OfValue, OfGlobal, OfBlock};
+ghost use Rattle.pli_deck_write.specs.DeckFaults.{OfInstruction};
 ghost use Rattle.pli_code.specs.views.CodeView.{block_view, code_view, coded_template_view, global_view};
 ghost use Rattle.pli_code.specs.views.CodeView.{signature_view};
 
 use pli_code::{Block, Code, CodedGlobal, CodedSignature, CodedTemplate, Instruction};
 
-/// Whether a description of this number is there.
+/// Whether a type of this number is there, in which a `*` may stand.
 #[tactic(auto, using(crate::proofs::CountLemmas::mapped_length))]
-fn has_description(code: &Code, number: u16) -> bool
-    ensures { result ≡ faults.is_there (code_view code.now) (OfDescription number) }
+fn has_type(code: &Code, number: u16) -> bool
+    ensures { result ≡ faults.is_there (code_view code.now) (OfParameter number) }
 {
     usize::from(number) < code.descriptions.len()
+}
+
+/// Whether a description of this number is there, in which no `*` stands.
+pub(crate) fn has_description(code: &Code, number: u16) -> bool
+    ensures { result ≡ faults.is_there (code_view code.now) (OfDescription number) }
+{
+    match code.description(number) {
+        Some(_) => true,
+        None => false,
+    }
 }
 
 /// Whether a template of this number is there.
@@ -66,25 +77,25 @@ fn result_stands(code: &Code, description: Option<u16>) -> bool
     }
 }
 
-/// Whether descriptions of these numbers are there.
-fn descriptions_stand(code: &Code, numbers: &[u16]) -> bool
-    ensures { result ≡ list_all (λ n. faults.is_there (code_view code.now) (OfDescription n)) numbers.now }
+/// Whether types of these numbers are there.
+fn types_stand(code: &Code, numbers: &[u16]) -> bool
+    ensures { result ≡ list_all (λ n. faults.is_there (code_view code.now) (OfParameter n)) numbers.now }
 {
     for number in numbers {
-        if !has_description(code, *number) {
+        if !has_type(code, *number) {
             return false;
         }
     }
     true
 }
 
-/// Whether the descriptions of a signature are there.
+/// Whether the types of a signature's parameters are there, and the description of its result.
 #[tactic(auto, using(crate::proofs::CountLemmas::mapped_passes, crate::proofs::CountLemmas::both_pass))]
 fn signature_stands(code: &Code, signature: &CodedSignature) -> bool
     ensures { result ≡ list_all (faults.is_there (code_view code.now))
         (faults.named_by_signature (signature_view signature.now)) }
 {
-    descriptions_stand(code, &signature.parameters) && result_stands(code, signature.result)
+    types_stand(code, &signature.parameters) && result_stands(code, signature.result)
 }
 
 /// Whether the description of a template is there.

@@ -10,7 +10,7 @@ use Rattle.pli_gen.specs.WellNumbered.{next_temporary, KeepsApart, KeepsApartFor
 use Rattle.pli_program.specs.Program as op
 use Rattle.pli_type_tree.specs.Iterations.{is_iterated}
 use Rattle.pli_type_tree.specs.TypedTree.{TypedExpression, TypedStatement, Statement, TypedStatements, NoStatement, StatementThen, NoElse, Else, TypedUnit}
-use Rattle.pli_type_tree.specs.TypedTree.{Form, Null, Assign, AssignAggregate, AssignArea, EmptyArea, Put, If, Begin, Group, While, Iterate, Call, Goto, Return, ReturnValue, Stop, On, Revert, Signal, Allocate, Free}
+use Rattle.pli_type_tree.specs.TypedTree.{Form, Null, Assign, AssignString, AssignAggregate, AssignArea, EmptyArea, Put, If, Begin, Group, While, Iterate, Call, Goto, Return, ReturnValue, Stop, On, Revert, Signal, Allocate, Free}
 use Rattle.pli_deck_laws.specs.Limits.{parameter_limit, word_limit, IfThere}
 use Rattle.pli_deck_laws.specs.WellFormed.{IsHead, HasBlock, HasSlot, IsExpression, IsStatement, IsForm, AreStatements}
 use Rattle.pli_deck_laws.proofs.CodeGrows.{end_is_some}
@@ -76,6 +76,10 @@ module _ (globals blocks last : ℕ) (t : TypedUnit) (counted : length t.globals
         joined globals blocks last (place_code target ++ value_code value) (op.Store ∷ [])
         (joined globals blocks last (place_code target) (value_code value) (place_allowed globals blocks last t counted named slotted target h.0) (value_allowed globals blocks last t counted named slotted value h.1))
         (tt, tt)
+    form_allowed number (AssignString target value) parent used room p most n h apart inner end =
+        joined globals blocks last (place_code target ++ value_code value) (op.FitToPlace ∷ op.Store ∷ [])
+        (joined globals blocks last (place_code target) (value_code value) (place_allowed globals blocks last t counted named slotted target h.0) (value_allowed globals blocks last t counted named slotted value h.1))
+        (tt, (tt, tt))
     form_allowed number (AssignAggregate target source) parent used room p most n h apart inner end =
         joined globals blocks last (place_code target ++ place_code source) (op.Copy ∷ [])
         (joined globals blocks last (place_code target) (place_code source) (place_allowed globals blocks last t counted named slotted target h.0) (place_allowed globals blocks last t counted named slotted source h.1))

@@ -1,18 +1,19 @@
 -- Instructions whose numbers are within limits, and the code of expressions and of groups with a control variable.
 use Rattle.std.proofs.Common.{◌≡◌, ℕ, suc, ◌+◌, ◌<◌, ◌≤◌, Bool, true, false, Option, Some, None, List, [], ◌∷◌, ◌++◌, length, arith}
 use Rattle.std.specs.List.{AllByRecursion}
-use Rattle.pli_gen_emit.specs.TreeTranslation.{argument_count, operation_code, root_code, call_instruction, value_code, place_code, operands_code, subscripts_code, arguments_code, call_code, skip_code, items_code, allocation_code, allocations_code, freeing_code, freeings_code, behind}
+use Rattle.pli_gen_emit.specs.TreeTranslation.{argument_count, operation_code, root_code, call_instruction, value_code, place_code, operands_code, subscripts_code, dimensions_code, arguments_code, call_code, skip_code, items_code, allocation_code, allocations_code, freeing_code, freeings_code, behind}
 use Rattle.pli_gen_emit.specs.TreeTranslation.{keeps_code, operations_code, conversion_code, sets_code, start_code, test_against, limit_test, while_test, guarded, tests_code, counted_code, advances_code, back_code}
 use Rattle.pli_gen.proofs.CodeEnds.{grows, both_within}
 use Rattle.pli_gen.proofs.SimpleCode.{all_both}
 use Rattle.pli_gen.specs.WellNumbered.{next_temporary, KeepsTemporary}
 use Rattle.pli_program.specs.Program as op
 use Rattle.pli_operation.specs.declared.operation.Operation.TheVariants as calculate
+use Rattle.pli_type_tree.specs.WellTyped.{operand_count}
 use Rattle.pli_type_tree.specs.Iterations.{kept_by, limit_number, step_number, temporaries_of}
-use Rattle.pli_type_tree.specs.TypedTree.{Root, InSlot, OfProgram, NewestOf, Located, Callee, OfBlock, OfEntry, TypedExpression, Literal, TypedOperation, Fit, Operate, Held, Calculated, Called, Generations, Address, AsPointer, AsOffset, TypedReference, Whole, Part}
-use Rattle.pli_type_tree.specs.TypedTree.{Operands, NoOperand, OperandThen, Subscripts, NoSubscript, SubscriptThen, TypedArguments, NoArgument, ByPlace, ByDummy}
-use Rattle.pli_type_tree.specs.TypedTree.{TypedRange, Once, ToBy, ByTo, Repeated, Iteration, TypedUnit, Conversion, ByOperations, AsPointerIn, AsOffsetIn, AllocatedItem, AllocatesControlled, AllocatesBased, AllocatesInArea, FreedItem, FreesControlled, FreesBased}
-use Rattle.pli_deck_laws.specs.Limits.{link_limit, parameter_limit, word_limit, IfThere, IsBound, IsDescription, IsConstant, IsMade, IsTemplate, IsOperation}
+use Rattle.pli_type_tree.specs.TypedTree.{Root, InSlot, OfProgram, NewestOf, Located, Callee, OfBlock, OfEntry, TypedExpression, Literal, TypedOperation, Fit, Operate, Held, Calculated, Called, Generations, Address, AsPointer, AsOffset, Bounded, TypedReference, Whole, Part, ElementOf}
+use Rattle.pli_type_tree.specs.TypedTree.{Operands, NoOperand, OperandThen, Subscripts, NoSubscript, SubscriptThen, TypedArguments, NoArgument, ByPlace, ByDummy, ByString}
+use Rattle.pli_type_tree.specs.TypedTree.{TypedRange, Once, ToBy, ByTo, Repeated, RepeatedString, Iteration, TypedUnit, Conversion, ByOperations, AsPointerIn, AsOffsetIn, ToPlace, AllocatedItem, AllocatesControlled, AllocatesBased, AllocatesInArea, FreedItem, FreesControlled, FreesBased}
+use Rattle.pli_deck_laws.specs.Limits.{link_limit, parameter_limit, word_limit, IfThere, IsBound, IsDescription, IsDimension, IsConstant, IsMade, IsTemplate, IsOperation}
 use Rattle.pli_deck_laws.specs.WellFormed.{HasBlock, HasSlot, IsRoot, IsCallee, IsExpression, IsReference, AreOperands, AreSubscripts, AreArguments, IsConversion, IsRange, IsIteration, IsAllocated, IsFreed}
 
 -- in a unit of so many globals and blocks, whose code has a last instruction
@@ -60,6 +61,10 @@ module _ (globals blocks last : ℕ) where
   Allowed op.Skip = Unit {0}
   Allowed (op.SetTemporary number) = number ≤ 65535
   Allowed (op.TakeTemporary number) = number ≤ 65535
+  Allowed (op.SubscriptIn k) = IsDimension k
+  Allowed (op.BoundOf which k) = IsDimension k
+  Allowed (op.MakeStringDummy form) = Unit {0}
+  Allowed op.FitToPlace = Unit {0}
   Allowed op.Nothing = ⊥
 
   abbrev pub AllAllowed : List op.Instruction → Type 0
@@ -94,6 +99,7 @@ module _ (globals blocks last : ℕ) where
           joined (value_code e ++ place_code area) (op.ToPointer ∷ []) (joined (value_code e) (place_code area) (value_allowed e h.1) (place_allowed area h.0)) (tt, tt)
       value_allowed (AsOffset area e) h =
           joined (value_code e ++ place_code area) (op.ToOffset ∷ []) (joined (value_code e) (place_code area) (value_allowed e h.1) (place_allowed area h.0)) (tt, tt)
+      value_allowed (Bounded which k r) h = joined (place_code r) (op.BoundOf which k ∷ []) (place_allowed r h.1) (h.0, tt)
 
       root_allowed : (r : Root) → IsRoot t r → AllAllowed (root_code r)
       root_allowed (InSlot outward slot) h = ((h.0, slotted slot h.1), tt)
@@ -105,6 +111,15 @@ module _ (globals blocks last : ℕ) where
       place_allowed (Whole root) h = root_allowed root h
       place_allowed (Part root offset d subscripts) h =
           joined (root_code root) (op.Field offset d ∷ subscripts_code subscripts) (root_allowed root h.0) ((h.1, h.2), subscripts_allowed subscripts h.3)
+      place_allowed (ElementOf root subscripts) h =
+          joined (root_code root) (dimensions_code 1 subscripts) (root_allowed root h.0)
+          (let few = h.1 in dimensions_allowed 1 subscripts (omega arith) (omega (arith, few)) h.2)
+
+      dimensions_allowed : (k : ℕ) (es : Operands) → 1 ≤ k → k + operand_count es ≤ 9 → AreOperands t es → AllAllowed (dimensions_code k es)
+      dimensions_allowed k NoOperand some few h = tt
+      dimensions_allowed k (OperandThen e more) some few h =
+          joined (value_code e) (op.SubscriptIn k ∷ dimensions_code (suc k) more) (value_allowed e h.0)
+          ((some, omega (arith, few)), dimensions_allowed (suc k) more (omega arith) (omega (arith, few)) h.1)
 
       operands_allowed : (es : Operands) → AreOperands t es → AllAllowed (operands_code es)
       operands_allowed NoOperand h = tt
@@ -119,6 +134,8 @@ module _ (globals blocks last : ℕ) where
       arguments_allowed NoArgument h = tt
       arguments_allowed (ByPlace r more) h = joined (place_code r) (arguments_code more) (place_allowed r h.0) (arguments_allowed more h.1)
       arguments_allowed (ByDummy d e more) h = joined (value_code e) (op.MakeDummy d ∷ arguments_code more) (value_allowed e h.1) (h.0, arguments_allowed more h.2)
+      arguments_allowed (ByString form e more) h =
+          joined (value_code e) (op.MakeStringDummy form ∷ arguments_code more) (value_allowed e h.0) (tt, arguments_allowed more h.1)
 
     pub called_allowed : (callee : Callee) (arguments : TypedArguments) → IsCallee t callee → argument_count arguments ≤ parameter_limit → AreArguments t arguments
         → AllAllowed (call_code callee arguments)
@@ -141,6 +158,7 @@ module _ (globals blocks last : ℕ) where
     conversion_allowed (ByOperations operations) h = operations_allowed operations h
     conversion_allowed (AsPointerIn area) h = joined (place_code area) (op.ToPointer ∷ []) (place_allowed area h) (tt, tt)
     conversion_allowed (AsOffsetIn area) h = joined (place_code area) (op.ToOffset ∷ []) (place_allowed area h) (tt, tt)
+    conversion_allowed (ToPlace operations) h = joined (operations_code operations) (op.FitToPlace ∷ []) (operations_allowed operations h) (tt, tt)
 
     allocation_allowed : (item : AllocatedItem) (used room p : ℕ) → room ≤ 65535 → IsAllocated t item → KeepsTemporary used room item → p ≤ last
         → AllAllowed (allocation_code item p)
@@ -196,6 +214,7 @@ module _ (globals blocks last : ℕ) where
     kept_allowed (ByTo by None) h = (h.0, tt)
     kept_allowed (ByTo by (Some to)) h = (h.0, (h.1, tt))
     kept_allowed (Repeated next) h = tt
+    kept_allowed (RepeatedString next) h = tt
 
     -- an iteration's temporaries are below the next one
     abbrev pub HasRoomFor : Iteration → Type 0
@@ -214,6 +233,7 @@ module _ (globals blocks last : ℕ) where
     limit_within (ByTo by None) = tt
     limit_within (ByTo by (Some to)) = omega arith
     limit_within (Repeated next) = tt
+    limit_within (RepeatedString next) = tt
 
     step_within : (range : TypedRange) → step_number range < temporaries_of range
     step_within Once = omega arith
@@ -222,6 +242,7 @@ module _ (globals blocks last : ℕ) where
     step_within (ByTo by None) = omega arith
     step_within (ByTo by (Some to)) = omega arith
     step_within (Repeated next) = omega arith
+    step_within (RepeatedString next) = omega arith
 
     against_allowed : (i : Iteration) (limit : Option ℕ) (step count target : ℕ) → IsReference t i.control → i.temporary + count ≤ 65535 → step < count
         → IfThere (λ l. l < count) limit → target ≤ last → AllAllowed (guarded (test_against i limit step) target)
@@ -255,6 +276,9 @@ module _ (globals blocks last : ℕ) where
     advances_allowed (ByTo by to) i r c h room = let step = step_within (ByTo by to) in counted_allowed i 1 (omega (arith, room, step)) r c
     advances_allowed (Repeated next) i r c h room =
         joined (place_code i.control) (value_code next ++ op.Store ∷ []) (place_allowed i.control r) (joined (value_code next) (op.Store ∷ []) (value_allowed next h) (tt, tt))
+    advances_allowed (RepeatedString next) i r c h room =
+        joined (place_code i.control) (value_code next ++ op.FitToPlace ∷ op.Store ∷ []) (place_allowed i.control r)
+        (joined (value_code next) (op.FitToPlace ∷ op.Store ∷ []) (value_allowed next h) (tt, (tt, tt)))
 
     pub back_allowed : (iterated : Bool) (number : ℕ) (i : Iteration) (turn : ℕ) → number < word_limit → IsIteration t i → HasRoomFor i → turn ≤ last
         → AllAllowed (back_code iterated number (advances_code i.range i) turn)

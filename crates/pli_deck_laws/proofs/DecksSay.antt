@@ -1,20 +1,21 @@
 -- The deck of a well-formed unit is one that bytes spell.
-use Rattle.std.proofs.Common.{◌≡◌, ℕ, suc, ◌+◌, ◌<◌, ◌≤◌, not, ◌&&◌, Bool, true, false, nat_le, nat_lt, if◌then◌else◌, Option, Some, None, List, [], ◌∷◌, ◌++◌, length, map, slice_get, refl, ap, sym, subst, ◌∙◌, arith}
+use Rattle.std.proofs.Common.{◌≡◌, ℕ, suc, ◌+◌, ◌<◌, ◌≤◌, is_some, not, ◌&&◌, Bool, true, false, nat_le, nat_lt, if◌then◌else◌, Option, Some, None, List, [], ◌∷◌, ◌++◌, length, map, slice_get, refl, ap, sym, subst, ◌∙◌, arith}
 use Rattle.std.specs.Prelude.{fold}
 use Rattle.std.specs.List.{flat_map, list_all, list_any, sum_by, AllByRecursion}
 use Rattle.std.proofs.lemmas.Bool.{lt-ltb, le-leb}
 use Rattle.std.proofs.lemmas.List.{length-map}
 use Rattle.pli_base.specs.Name.{Name}
 use Rattle.pli_map.specs.Description.{Description}
-use Rattle.pli_map.specs.Same.{same}
-use Rattle.pli_map.specs.laws.SameLaws.{same_decides}
+use Rattle.std.specs.Option.{option_and_then}
+use Rattle.pli_map.specs.ParameterTypes.{ParameterType, Stated, stated, same_type}
+use Rattle.pli_map.specs.laws.ParameterLaws.{same_type_decides}
 use Rattle.pli_program.specs.Program as op
 use Rattle.pli_type_tree.specs.Templates.{InitialScalar, Template}
 use Rattle.pli_type_tree.specs.TypedTree.{Global, TypedUnit}
 use Rattle.pli_code.specs.CodeTables.{CodedTemplate, CodedBlock, Code, Deck}
 use Rattle.pli_gen_emit.specs.TreeTranslation.{BlockTree, blocks_of, instructions_of}
 use Rattle.pli_gen_emit.specs.Encoding.{NumberedTables, tables_for, descriptions_named, templates_named, values_named, template_code, global_code, instruction_code, coded_blocks, code_of}
-use Rattle.pli_gen.specs.Limits.{has_many_members, bytes_of, initial_bytes_of, is_too_long}
+use Rattle.pli_gen.specs.Limits.{has_many_types, bytes_of, initial_bytes_of, is_too_long}
 use Rattle.pli_gen.specs.WellNumbered.{IsWellNumbered}
 use Rattle.pli_gen.proofs.SimpleCode.{all_both}
 use Rattle.pli_gen_emit.proofs.TableNumbers.{number_stands}
@@ -29,20 +30,20 @@ use Rattle.pli_code.proofs.VersionLemmas.{fits_written}
 use Rattle.pli_deck_write.specs.DeckFields.{name, flag, constant, template, signature, global, block, contents}
 use Rattle.pli_deck_write.specs.DeckFields as field
 use Rattle.pli_code.specs.declared.fault.DeckFault.TheVariants.{BadJump, BadNumber, OverLimit}
-use Rattle.pli_deck_write.specs.DeckFaults.{Naming, OfDescription, OfTemplate, OfValue, OfGlobal, OfBlock, OfInstruction, named_by_signature, named_by_template, named_by_global, named_by_block, named_by_instruction, named_by_variables, named_by_blocks, named_by}
+use Rattle.pli_deck_write.specs.DeckFaults.{Naming, OfParameter, OfDescription, OfTemplate, OfValue, OfGlobal, OfBlock, OfInstruction, named_by_signature, named_by_template, named_by_global, named_by_block, named_by_instruction, named_by_variables, named_by_blocks, named_by}
 use Rattle.pli_deck_write.specs.DeckFaults.{is_there, targets_of, jumps_within, is_good_template, within_limits}
 use Rattle.pli_deck_write.specs.DeckFaults as fault
 use Rattle.pli_deck_write.specs.Spelling.{IsDeck}
 use Rattle.pli_deck_laws.specs.DeckLaws.{UnitsAreSaid}
-use Rattle.pli_deck_laws.specs.Limits.{level_limit, IsDescription, IsConstant, IsTemplate}
+use Rattle.pli_deck_laws.specs.Limits.{IsParameterType, IsConstant, IsTemplate}
 use Rattle.pli_deck_laws.specs.UnitTypes.{IsName, HasBytes, BeginsWithBytes, IsTypedCode}
 use Rattle.pli_deck_laws.specs.WellFormed.{IsHead, IsWellFormed}
 use Rattle.pli_deck_laws.proofs.AllowedLemmas.{Allowed}
 use Rattle.pli_gen.proofs.LimitLemmas.{Short, short_parts, blocks_counted}
-use Rattle.pli_deck_laws.proofs.FieldsFit.{both_hold, each_holds, all_mapped, fits_short, fits_list, fits_name, fits_description, fits_constant}
-use Rattle.pli_deck_laws.proofs.InstructionsFit.{Named, HasDescription, HasTemplate, HasValue, GoodInstruction, instruction_good}
+use Rattle.pli_deck_laws.proofs.FieldsFit.{both_hold, each_holds, all_mapped, fits_short, fits_list, fits_name, fits_type, fits_constant}
+use Rattle.pli_deck_laws.proofs.InstructionsFit.{Named, HasTemplate, HasValue, GoodInstruction, instruction_good}
 use Rattle.pli_deck_laws.proofs.PartsFit.{GoodTemplate, template_good, GoodSignature, signature_good, GoodGlobal, globals_good, GoodCodedBlock, blocks_good}
-use Rattle.pli_deck_laws.proofs.TablesFit.{all_joined, descriptions_good, templates_good, values_good, StandsDescription, StandsTemplate, StandsValue, description_within, template_within, value_within, AllStand, all_stand, none_of, few_slots}
+use Rattle.pli_deck_laws.proofs.TablesFit.{all_joined, descriptions_good, templates_good, values_good, StandsDescription, StandsTemplate, StandsValue, template_within, value_within, AllStand, all_stand, none_of, few_slots}
 use Rattle.pli_deck_laws.proofs.UnitBlocks.{all_as, all_pairs, one_block}
 use Rattle.pli_deck_laws.proofs.UnitCode.{Final, BlockWithin, HasFew, IsWithin, code_within}
 
@@ -59,7 +60,7 @@ module _ (tables : NumberedTables) (globals blocks last : ℕ) (few_descriptions
       let T = StandsTemplate tables in
       let V = StandsValue tables in (
         instruction_good tables globals blocks last few_descriptions few_templates few_values few_globals few_blocks few_instructions i h.0.0 h.0.1
-            (all_as D (HasDescription tables globals blocks last) (description_within tables) (descriptions_named i) (all_front D (descriptions_named i) (flat_map descriptions_named is) ds))
+            (all_front D (descriptions_named i) (flat_map descriptions_named is) ds)
             (all_as T (HasTemplate tables globals blocks last) (template_within tables) (templates_named i) (all_front T (templates_named i) (flat_map templates_named is) ts))
             (all_as V (HasValue tables globals blocks last) (value_within tables) (values_named i) (all_front V (values_named i) (flat_map values_named is) vs)),
         all_instructions is h.1 (all_back D (descriptions_named i) (flat_map descriptions_named is) ds) (all_back T (templates_named i) (flat_map templates_named is) ts)
@@ -83,14 +84,18 @@ some_bytes (Some d) i is = refl
 abbrev coded_template : ℕ → List InitialScalar → CodedTemplate
 coded_template n is = record { description = n; initial = is }
 
-bytes_said : (ds : List Description) (n : ℕ) (is : List InitialScalar) → fault.initial_bytes (slice_get ds n) is ≡ initial_bytes_of ds (coded_template n is)
-bytes_said ds n [] = no_bytes (slice_get ds n)
-bytes_said ds n (i ∷ is) = some_bytes (slice_get ds n) i is
+-- the description of a number among types
+abbrev described_at : List ParameterType → ℕ → Option Description
+described_at ds n = option_and_then stated (slice_get ds n)
 
-abbrev bytes_in_deck : List Description → CodedTemplate → ℕ
-bytes_in_deck ds t = fault.initial_bytes (slice_get ds t.description) t.initial
+bytes_said : (ds : List ParameterType) (n : ℕ) (is : List InitialScalar) → fault.initial_bytes (described_at ds n) is ≡ initial_bytes_of ds (coded_template n is)
+bytes_said ds n [] = no_bytes (described_at ds n)
+bytes_said ds n (i ∷ is) = some_bytes (described_at ds n) i is
 
-bytes_summed : (ds : List Description) (ts : List CodedTemplate) → sum_by (bytes_in_deck ds) ts ≡ sum_by (initial_bytes_of ds) ts
+abbrev bytes_in_deck : List ParameterType → CodedTemplate → ℕ
+bytes_in_deck ds t = fault.initial_bytes (described_at ds t.description) t.initial
+
+bytes_summed : (ds : List ParameterType) (ts : List CodedTemplate) → sum_by (bytes_in_deck ds) ts ≡ sum_by (initial_bytes_of ds) ts
 bytes_summed ds ts = same_sums (bytes_in_deck ds) (initial_bytes_of ds) (λ t. bytes_said ds t.description t.initial) ts 0
 
 -- ---- decks without faults
@@ -108,7 +113,7 @@ listed f xs few all = fits_list u2 f xs (fits_short (length xs) few) (each_holds
 
 -- code whose parts fit, name what is there, and are within limits
 record GoodCode (tables : NumberedTables) (globals blocks last : ℕ) (c : Code) : Type 0 where
-  descriptions : length c.descriptions ≡ length tables.descriptions
+  descriptions : c.descriptions ≡ tables.descriptions
   templates : length c.templates ≡ length tables.templates
   values : length c.values ≡ length tables.values
   count_globals : length c.globals ≡ globals
@@ -134,7 +139,7 @@ record GoodCode (tables : NumberedTables) (globals blocks last : ℕ) (c : Code)
   blocks_named : AllByRecursion (λ x. AllByRecursion (Named tables globals blocks last) (named_by_block x)) c.blocks
   instructions_named : AllByRecursion (λ x. AllByRecursion (Named tables globals blocks last) (named_by_instruction x)) c.instructions
   jumps : AllByRecursion (λ x. AllByRecursion (λ n. n ≤ last) (targets_of x)) c.instructions
-  templates_good : AllByRecursion (λ (t : CodedTemplate). is_good_template (slice_get c.descriptions t.description) t.initial ≡ true) c.templates
+  templates_good : AllByRecursion (λ (t : CodedTemplate). is_good_template (described_at c.descriptions t.description) t.initial ≡ true) c.templates
   bytes : sum_by (bytes_in_deck c.descriptions) c.templates ≤ 16777216
 
 module _ (tables : NumberedTables) (globals blocks last : ℕ) (c : Code) (g : GoodCode tables globals blocks last c) where
@@ -145,7 +150,7 @@ module _ (tables : NumberedTables) (globals blocks last : ℕ) (c : Code) (g : G
   unfolding field.code
   code_fits =
       both_hold _ _ g.signature_fits
-      (both_hold _ _ (listed (description written) c.descriptions (few_there (length c.descriptions) (length tables.descriptions) g.descriptions g.few_descriptions) g.descriptions_fit)
+      (both_hold _ _ (listed (description written) c.descriptions (few_there (length c.descriptions) (length tables.descriptions) (ap length g.descriptions) g.few_descriptions) g.descriptions_fit)
       (both_hold _ _ (listed (template written) c.templates (few_there (length c.templates) (length tables.templates) g.templates g.few_templates) g.templates_fit)
       (both_hold _ _ (listed (constant written) c.values (few_there (length c.values) (length tables.values) g.values g.few_values) g.values_fit)
       (both_hold _ _ (listed global c.globals (few_there (length c.globals) globals g.count_globals g.few_globals) g.globals_fit)
@@ -156,7 +161,8 @@ module _ (tables : NumberedTables) (globals blocks last : ℕ) (c : Code) (g : G
   below n m k h e = lt-ltb n k (omega (arith, h, e))
 
   named_there : (x : Naming) → Named tables globals blocks last x → is_there c x ≡ true
-  named_there (OfDescription n) h = below n (length tables.descriptions) (length c.descriptions) h g.descriptions
+  named_there (OfParameter n) h = below n (length tables.descriptions) (length c.descriptions) h (ap length g.descriptions)
+  named_there (OfDescription n) h = ap (λ ts. is_some (described_at ts n)) g.descriptions ∙ ap (λ o. is_some (option_and_then stated o)) h.1
   named_there (OfTemplate n) h = below n (length tables.templates) (length c.templates) h g.templates
   named_there (OfValue n) h = below n (length tables.values) (length c.values) h g.values
   named_there (OfGlobal n) h = below n globals (length c.globals) h g.count_globals
@@ -184,8 +190,8 @@ module _ (tables : NumberedTables) (globals blocks last : ℕ) (c : Code) (g : G
 
   all_within : within_limits c ≡ true
   all_within =
-      both_hold (list_all (λ t. is_good_template (slice_get c.descriptions t.description) t.initial) c.templates) (nat_le (sum_by (bytes_in_deck c.descriptions) c.templates) 16777216)
-      (each_holds (λ (t : CodedTemplate). is_good_template (slice_get c.descriptions t.description) t.initial) (λ (t : CodedTemplate). is_good_template (slice_get c.descriptions t.description) t.initial ≡ true)
+      both_hold (list_all (λ t. is_good_template (described_at c.descriptions t.description) t.initial) c.templates) (nat_le (sum_by (bytes_in_deck c.descriptions) c.templates) 16777216)
+      (each_holds (λ (t : CodedTemplate). is_good_template (described_at c.descriptions t.description) t.initial) (λ (t : CodedTemplate). is_good_template (described_at c.descriptions t.description) t.initial ≡ true)
       (λ t h. h) c.templates g.templates_good)
       (le-leb (sum_by (bytes_in_deck c.descriptions) c.templates) 16777216 g.bytes)
 
@@ -271,8 +277,8 @@ module _ (t : TypedUnit) (well : IsWellNumbered t) (formed : IsWellFormed t) (fi
 
     made : AllByRecursion GoodT tables.templates
     made =
-        all_pairs Begun (λ x. list_any (same x.description) tables.descriptions ≡ true) GoodT
-        (λ x h k. template_good tables G B last short.descriptions short.templates x h.0 h.1 (number_stands same same_decides tables.descriptions x.description k)) tables.templates
+        all_pairs Begun (λ x. list_any (same_type (Stated x.description)) tables.descriptions ≡ true) GoodT
+        (λ x h k. template_good tables G B last short.descriptions short.templates x h.0 h.1 (number_stands same_type same_type_decides tables.descriptions (Stated x.description) k)) tables.templates
         begun (tables_stand t bs all_code)
 
     abbrev GoodI : op.Instruction → Type 0
@@ -300,8 +306,8 @@ module _ (t : TypedUnit) (well : IsWellNumbered t) (formed : IsWellFormed t) (fi
 
     described : AllByRecursion (λ d. (description written).fits d ≡ true) tables.descriptions
     described =
-        all_pairs IsDescription (λ d. has_many_members d ≡ false) (λ d. (description written).fits d ≡ true) (λ d h k. fits_description level_limit d h k) tables.descriptions
-        (descriptions_good G B last t bs all_code formed.signature formed.globals heads allowed) (none_of has_many_members tables.descriptions short.members)
+        all_pairs IsParameterType (λ d. has_many_types d ≡ false) (λ d. (description written).fits d ≡ true) fits_type tables.descriptions
+        (descriptions_good G B last t bs all_code formed.signature formed.globals heads allowed) (none_of has_many_types tables.descriptions short.members)
 
     good_code : GoodCode tables G B last (code_of t)
     good_code =
@@ -336,7 +342,7 @@ module _ (t : TypedUnit) (well : IsWellNumbered t) (formed : IsWellFormed t) (fi
           blocks_named = all_as GoodB (λ x. AllByRecursion N (named_by_block x)) (λ x g. g.names) (coded_blocks tables bs 0) inside;
           instructions_named = all_mapped (instruction_code tables) GoodI (λ x. AllByRecursion N (named_by_instruction x)) (λ x g. g.names) all_code instrs;
           jumps = all_mapped (instruction_code tables) GoodI (λ x. AllByRecursion (λ n. n ≤ last) (targets_of x)) (λ x g. g.jumps) all_code instrs;
-          templates_good = all_mapped T GoodT (λ (x : CodedTemplate). is_good_template (slice_get tables.descriptions x.description) x.initial ≡ true) (λ x g. g.is) tables.templates made;
+          templates_good = all_mapped T GoodT (λ (x : CodedTemplate). is_good_template (described_at tables.descriptions x.description) x.initial ≡ true) (λ x g. g.is) tables.templates made;
           bytes = omega (arith, sums, bytes);
         }
 

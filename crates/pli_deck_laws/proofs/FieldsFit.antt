@@ -4,18 +4,21 @@ use Rattle.std.specs.List.{list_all, AllByRecursion}
 use Rattle.std.specs.Int.{is_in_range}
 use Rattle.std.specs.Str.{bytes_eq}
 use Rattle.std.proofs.lemmas.Bool.{lt-ltb, le-leb, ltb-false, leb-true, eq-eqb, eqb-true}
+use Rattle.std.proofs.lemmas.List.{length-map}
 use Rattle.std.proofs.lemmas.Slice.Eq.{bytes_eq-Decides}
 use Rattle.pli_base.specs.Name.{Name, name_of, is_upper, is_lower, is_letter, is_digit, is_name_character, has_form, upper}
 use Rattle.pli_map.specs.declared.description.Bounds.{Bounds}
 use Rattle.pli_map.specs.Description.{Description, FixedBinary, Character, Varying, Bit, Pointer, Offset, Area, Array, Structure, Members, NoMembers, MemberThen}
+use Rattle.pli_map.specs.ParameterTypes.{ParameterType, Stated, AnyString, AnyArray, ArrayOf, StructureOf}
+use Rattle.pli_map.specs.declared.parameter.StringForm.{StringForm}
 use Rattle.pli_value.specs.Value.{Value, Number, Characters, Bits, Located}
 use Rattle.pli_code.specs.Fields.{Field, u1, u2, u4, byte, from_to, list_of, count_of_one, ◌⊗◌}
-use Rattle.pli_code.specs.Instructions.{precision, bound}
+use Rattle.pli_code.specs.Instructions.{precision, bound, dimension_number}
 use Rattle.pli_code.specs.Versions.{written}
-use Rattle.pli_deck_write.specs.Descriptions.{string_length, area_size, bounds, dimensions, listed, members, description_within}
+use Rattle.pli_deck_write.specs.Descriptions.{string_length, area_size, bounds, dimensions, listed, members, element_of, description_within, description}
 use Rattle.pli_deck_write.specs.DeckFields.{is_written, is_name, name, optional, bit_string, integer, characters, constant, signature, parameter_count}
-use Rattle.pli_gen.specs.Limits.{member_count, has_many_members, one_has_many}
-use Rattle.pli_deck_laws.specs.Limits.{IfThere, IsPrecision, IsLength, IsBound, AreBounds, IsDescribed, AreDescribed, IsConstant}
+use Rattle.pli_gen.specs.Limits.{member_count, has_many_members, one_has_many, has_many_types}
+use Rattle.pli_deck_laws.specs.Limits.{level_limit, IfThere, IsPrecision, IsLength, IsBound, AreBounds, IsDescribed, AreDescribed, IsDimension, IsOpenElement, IsParameterType, IsConstant}
 use Rattle.pli_deck_laws.specs.UnitTypes.{IsName, IsByte, HasBytes}
 
 -- ---- tests
@@ -161,20 +164,21 @@ listed_count (MemberThen d ds) = ap suc (listed_count ds)
 few_of : (n : ℕ) → nat_lt 65535 n ≡ false → n ≤ 65535
 few_of n h = ltb-false 65535 n h
 
-fits_members : (inner : Field Description) (d : Description) (ds : Members) → has_many_members (Structure (MemberThen d ds)) ≡ false → inner.fits d ≡ true
-    → list_all inner.fits (listed ds) ≡ true → (members inner).fits (listed (MemberThen d ds)) ≡ true
+fits_members : (inner : Field ParameterType) (d : Description) (ds : Members) → has_many_members (Structure (MemberThen d ds)) ≡ false → inner.fits (Stated d) ≡ true
+    → list_all inner.fits (map Stated (listed ds)) ≡ true → (members inner).fits (map Stated (listed (MemberThen d ds))) ≡ true
 fits_members inner d ds few h k =
     let n = neither (nat_lt 65535 (member_count (MemberThen d ds))) (one_has_many (MemberThen d ds)) few in
-    let count = listed_count (MemberThen d ds) in
+    let ts = map Stated (listed (MemberThen d ds)) in
+    let count = length-map (listed (MemberThen d ds)) Stated ∙ listed_count (MemberThen d ds) in
     let limit = few_of (member_count (MemberThen d ds)) n.0 in
-    fits_list (from_to 1 65535 u2) inner (d ∷ listed ds)
-    (fits_range 1 65535 (length (d ∷ listed ds)) u2 (fits_short (length (d ∷ listed ds)) (omega (arith, count, limit))) (omega arith) (omega (arith, count, limit)))
-    (both_hold (inner.fits d) (list_all inner.fits (listed ds)) h k)
+    fits_list (from_to 1 65535 u2) inner ts
+    (fits_range 1 65535 (length ts) u2 (fits_short (length ts) (omega (arith, count, limit))) (omega arith) (omega (arith, count, limit)))
+    (both_hold (inner.fits (Stated d)) (list_all inner.fits (map Stated (listed ds))) h k)
 
 mutual
   unfolding description_within
 
-  pub fits_description : (n : ℕ) (d : Description) → IsDescribed n d → has_many_members d ≡ false → (description_within written n).fits d ≡ true
+  pub fits_description : (n : ℕ) (d : Description) → IsDescribed n d → has_many_members d ≡ false → (description_within written n).fits (Stated d) ≡ true
   fits_description zero d h few = absurd h
   fits_description (suc n) (FixedBinary p) h few = fits_precision p h
   fits_description (suc n) (Character k) h few = fits_length k h
@@ -184,18 +188,59 @@ mutual
   fits_description (suc n) Offset h few = refl
   fits_description (suc n) (Area k) h few = fits_area k h.0 h.1 h.2
   fits_description (suc n) (Array bs element) h few =
-      fits_pair dimensions (description_within written n) bs element (fits_dimensions bs h.0 h.1 h.2) (fits_description n element h.3 few)
+      fits_pair dimensions (description_within written n) bs (Stated element) (fits_dimensions bs h.0 h.1 h.2) (fits_description n element h.3 few)
   fits_description (suc n) (Structure NoMembers) h few = absurd h
   fits_description (suc n) (Structure (MemberThen d ds)) h few =
       let one = neither (nat_lt 65535 (member_count (MemberThen d ds))) (one_has_many (MemberThen d ds)) few in
       let r = neither (has_many_members d) (one_has_many ds) one.1 in
       fits_members (description_within written n) d ds few (fits_description n d h.0 r.0) (fit_descriptions n ds h.1 r.1)
 
-  fit_descriptions : (n : ℕ) (ds : Members) → AreDescribed n ds → one_has_many ds ≡ false → list_all (description_within written n).fits (listed ds) ≡ true
+  fit_descriptions : (n : ℕ) (ds : Members) → AreDescribed n ds → one_has_many ds ≡ false → list_all (description_within written n).fits (map Stated (listed ds)) ≡ true
   fit_descriptions n NoMembers h few = refl
   fit_descriptions n (MemberThen d ds) h few =
       let r = neither (has_many_members d) (one_has_many ds) few in
-      both_hold ((description_within written n).fits d) (list_all (description_within written n).fits (listed ds)) (fits_description n d h.0 r.0) (fit_descriptions n ds h.1 r.1)
+      both_hold ((description_within written n).fits (Stated d)) (list_all (description_within written n).fits (map Stated (listed ds))) (fits_description n d h.0 r.0) (fit_descriptions n ds h.1 r.1)
+
+-- ---- types in which a `*` stands
+
+pub fits_dimension : (k : ℕ) → IsDimension k → dimension_number.fits k ≡ true
+fits_dimension k h = let few = h.1 in fits_range 1 8 k u1 (fits_byte k (omega (arith, few))) h.0 h.1
+
+fits_any_string : (n : ℕ) (f : StringForm) → (description_within written (suc n)).fits (AnyString f) ≡ true
+unfolding description_within
+fits_any_string n f = refl
+
+-- an element, whose own field is the one of its level
+fits_element : (n : ℕ) (e : ParameterType) → IsOpenElement e → (element_of (description_within written (suc n))).fits e ≡ true
+unfolding description_within
+fits_element n (Stated (FixedBinary p)) h = both_hold ((description_within written (suc n)).fits (Stated (FixedBinary p))) true (fits_precision p h) refl
+fits_element n (Stated (Character k)) h = both_hold ((description_within written (suc n)).fits (Stated (Character k))) true (fits_length k h) refl
+fits_element n (Stated (Varying k)) h = both_hold ((description_within written (suc n)).fits (Stated (Varying k))) true (fits_length k h) refl
+fits_element n (Stated (Bit k)) h = both_hold ((description_within written (suc n)).fits (Stated (Bit k))) true (fits_length k h) refl
+fits_element n (Stated Pointer) h = refl
+fits_element n (Stated Offset) h = refl
+fits_element n (Stated (Area k)) h = absurd h
+fits_element n (Stated (Array bs d)) h = absurd h
+fits_element n (Stated (Structure ds)) h = absurd h
+fits_element n (AnyString f) h = refl
+fits_element n other h = absurd h
+
+fits_any_array : (n k : ℕ) (e : ParameterType) → IsDimension k → IsOpenElement e → (description_within written (suc (suc n))).fits (AnyArray k e) ≡ true
+unfolding description_within
+fits_any_array n k e h g = fits_pair dimension_number (element_of (description_within written (suc n))) k e (fits_dimension k h) (fits_element n e g)
+
+fits_array_of : (n : ℕ) (bs : List Bounds) (f : StringForm) → IsDimension (length bs) → AllByRecursion AreBounds bs → (description_within written (suc (suc n))).fits (ArrayOf bs (AnyString f)) ≡ true
+unfolding description_within
+fits_array_of n bs f h g = fits_pair dimensions (description_within written (suc n)) bs (AnyString f) (fits_dimensions bs h.0 h.1 g) (fits_any_string n f)
+
+-- a type that a parameter may have
+pub fits_type : (t : ParameterType) → IsParameterType t → has_many_types t ≡ false → (description written).fits t ≡ true
+fits_type (Stated d) h few = fits_description level_limit d h few
+fits_type (AnyString f) h few = fits_any_string 511 f
+fits_type (AnyArray k e) h few = fits_any_array 510 k e h.0 h.1
+fits_type (ArrayOf bs (AnyString f)) h few = fits_array_of 510 bs f h.0 h.1
+fits_type (ArrayOf bs other) h few = absurd h.2
+fits_type (StructureOf ts) h few = absurd h
 
 -- ---- constants
 

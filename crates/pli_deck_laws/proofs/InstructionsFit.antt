@@ -1,11 +1,16 @@
 -- Instructions whose numbers are within limits fit the fields of a deck, and name what is there.
-use Rattle.std.proofs.Common.{◌≡◌, ℕ, ◌<◌, ◌≤◌, true, length, refl, arith}
+use Rattle.std.proofs.Common.{◌≡◌, ℕ, ◌<◌, ◌≤◌, true, Some, length, slice_get, refl, arith}
 use Rattle.std.specs.List.{AllByRecursion}
 use Rattle.pli_base.specs.declared.statement.Condition.{Condition}
 use Rattle.pli_base.specs.declared.statement.Condition.TheVariants.{FixedOverflow}
 use Rattle.pli_run.specs.declared.ending.RunError.{RunError}
 use Rattle.pli_run.specs.declared.ending.RunError.TheVariants as errors
 use Rattle.pli_map.specs.Description.{Description}
+use Rattle.pli_map.specs.ParameterTypes.{Stated}
+use Rattle.pli_map.specs.declared.dimension.WhichBound.{WhichBound}
+use Rattle.pli_map.specs.declared.dimension.WhichBound.TheVariants as bounds
+use Rattle.pli_map.specs.declared.parameter.StringForm.{StringForm}
+use Rattle.pli_map.specs.declared.parameter.StringForm.TheVariants as forms
 use Rattle.pli_program.specs.Program as op
 use Rattle.pli_operation.specs.declared.operation.Operation.{Operation}
 use Rattle.pli_operation.specs.declared.operation.Operation.TheVariants as calculate
@@ -19,12 +24,13 @@ use Rattle.pli_code.specs.declared.instruction.Instruction.TheVariants as coded
 use Rattle.pli_type_keys.specs.Same.{same_value}
 use Rattle.pli_gen_emit.specs.Encoding.{NumberedTables, number_in, dummy, descriptions_named, templates_named, values_named, description_number, template_number, instruction_code}
 use Rattle.pli_code.specs.Fields.{u1, u2, u4, ◌⊗◌}
-use Rattle.pli_code.specs.Instructions.{bound, condition, error, relation, instruction}
-use Rattle.pli_deck_write.specs.DeckFaults.{Naming, OfDescription, OfTemplate, OfValue, OfGlobal, OfBlock, OfInstruction, named_by_instruction, targets_of}
+use Rattle.pli_code.specs.Instructions.{bound, condition, dimension_number, error, relation, string_form, which_bound, instruction}
+use Rattle.pli_deck_write.specs.DeckFaults.{Naming, OfParameter, OfDescription, OfTemplate, OfValue, OfGlobal, OfBlock, OfInstruction, named_by_instruction, targets_of}
 use Rattle.pli_deck_laws.specs.Limits.{link_limit, parameter_limit, IsOperation}
 use Rattle.pli_deck_laws.proofs.AllowedLemmas.{Allowed}
 use Rattle.pli_deck_laws.proofs.UnitCode.{leads}
-use Rattle.pli_deck_laws.proofs.FieldsFit.{fits_byte, fits_short, fits_word, fits_pair, fits_bound, fits_precision}
+use Rattle.pli_deck_laws.proofs.FieldsFit.{fits_byte, fits_short, fits_word, fits_pair, fits_bound, fits_precision, fits_dimension}
+use Rattle.pli_deck_laws.proofs.TablesFit.{StandsDescription, description_within}
 
 error_fits : (e : RunError) → error.fits e ≡ true
 error_fits errors.SubscriptRange = refl
@@ -38,10 +44,20 @@ relation_fits : (r : Relation) → relation.fits r ≡ true
 relation_fits Equal = refl
 relation_fits r = refl
 
+which_fits : (which : WhichBound) → which_bound.fits which ≡ true
+which_fits bounds.Low = refl
+which_fits bounds.High = refl
+
+form_fits : (form : StringForm) → string_form.fits form ≡ true
+form_fits forms.Character = refl
+form_fits forms.Varying = refl
+form_fits forms.Bit = refl
+
 module _ (tables : NumberedTables) (globals blocks last : ℕ) where
   -- what is named is there
   abbrev pub Named : Naming → Type 0
-  Named (OfDescription n) = n < length tables.descriptions
+  Named (OfParameter n) = n < length tables.descriptions
+  Named (OfDescription n) = (d : Description) × (slice_get tables.descriptions n ≡ Some (Stated d))
   Named (OfTemplate n) = n < length tables.templates
   Named (OfValue n) = n < length tables.values
   Named (OfGlobal n) = n < globals
@@ -49,9 +65,6 @@ module _ (tables : NumberedTables) (globals blocks last : ℕ) where
   Named (OfInstruction n) = n ≤ last
 
   -- what tables have
-  abbrev pub HasDescription : Description → Type 0
-  HasDescription d = description_number tables d < length tables.descriptions
-
   abbrev pub HasTemplate : Template → Type 0
   HasTemplate t = template_number tables t < length tables.templates
 
@@ -66,8 +79,8 @@ module _ (tables : NumberedTables) (globals blocks last : ℕ) where
   -- lengths are within limits
   module _ (few_descriptions : length tables.descriptions ≤ 65535) (few_templates : length tables.templates ≤ 65535) (few_values : length tables.values ≤ 65535)
       (few_globals : globals ≤ 65535) (few_blocks : blocks ≤ 65535) (few_instructions : last ≤ 65535) where
-    description_fits : (n : ℕ) → n < length tables.descriptions → u2.fits n ≡ true
-    description_fits n h = fits_short n (omega (arith, h, few_descriptions))
+    description_fits : (d : Description) → StandsDescription tables (Stated d) → u2.fits (description_number tables (Stated d)) ≡ true
+    description_fits d h = let below = description_within tables (Stated d) h in fits_short (description_number tables (Stated d)) (omega (arith, below, few_descriptions))
 
     operation_good : (o : Operation) → IsOperation (Operate o) → GoodInstruction (coded.Operate o)
     unfolding instruction
@@ -91,7 +104,7 @@ module _ (tables : NumberedTables) (globals blocks last : ℕ) where
     target : (n : ℕ) → n ≤ last → u2.fits n ≡ true
     target n h = fits_short n (omega (arith, h, few_instructions))
 
-    pub instruction_good : (i : op.Instruction) → Allowed globals blocks last i → leads i ≤ last → AllByRecursion HasDescription (descriptions_named i)
+    pub instruction_good : (i : op.Instruction) → Allowed globals blocks last i → leads i ≤ last → AllByRecursion (StandsDescription tables) (descriptions_named i)
         → AllByRecursion HasTemplate (templates_named i) → AllByRecursion HasValue (values_named i) → GoodInstruction (instruction_code tables i)
     unfolding instruction
     instruction_good (op.Step s) h to ds ts vs = record { fits = fits_word s h; jumps = tt; names = tt }
@@ -114,9 +127,9 @@ module _ (tables : NumberedTables) (globals blocks last : ℕ) where
     instruction_good (op.Global number) h to ds ts vs = record { fits = global_fits number h; jumps = tt; names = (h, tt) }
     instruction_good (op.Field offset d) h to ds ts vs =
         record {
-          fits = fits_pair u4 u2 offset (description_number tables d) (fits_word offset h.0) (description_fits (description_number tables d) ds.0);
+          fits = fits_pair u4 u2 offset (description_number tables (Stated d)) (fits_word offset h.0) (description_fits d ds.0);
           jumps = tt;
-          names = (ds.0, tt);
+          names = ((d, ds.0), tt);
         }
     instruction_good (op.Subscript low high multiplier) h to ds ts vs =
         record {
@@ -124,7 +137,7 @@ module _ (tables : NumberedTables) (globals blocks last : ℕ) where
           jumps = tt;
           names = tt;
         }
-    instruction_good (op.Based d) h to ds ts vs = record { fits = description_fits (description_number tables d) ds.0; jumps = tt; names = (ds.0, tt) }
+    instruction_good (op.Based d) h to ds ts vs = record { fits = description_fits d ds.0; jumps = tt; names = ((d, ds.0), tt) }
     instruction_good (op.Constant v) h to ds ts vs =
         let has = vs.0 in
         record { fits = fits_short (number_in same_value tables.values v) (omega (arith, has, few_values)); jumps = tt; names = (has, tt) }
@@ -134,7 +147,7 @@ module _ (tables : NumberedTables) (globals blocks last : ℕ) where
     instruction_good (op.MakeDummy d) h to ds ts vs =
         let has = ts.0 in
         record { fits = fits_short (template_number tables (dummy d)) (omega (arith, has, few_templates)); jumps = tt; names = (has, tt) }
-    instruction_good (op.Fit d) h to ds ts vs = record { fits = description_fits (description_number tables d) ds.0; jumps = tt; names = (ds.0, tt) }
+    instruction_good (op.Fit d) h to ds ts vs = record { fits = description_fits d ds.0; jumps = tt; names = ((d, ds.0), tt) }
     instruction_good (op.Operate operation) h to ds ts vs = operation_good operation h
     instruction_good (op.AllocateControlled number) h to ds ts vs = record { fits = global_fits number h; jumps = tt; names = (h, tt) }
     instruction_good (op.FreeControlled number) h to ds ts vs = record { fits = global_fits number h; jumps = tt; names = (h, tt) }
@@ -154,7 +167,7 @@ module _ (tables : NumberedTables) (globals blocks last : ℕ) where
     instruction_good (op.AllocateBased t) h to ds ts vs =
         let has = ts.0 in
         record { fits = fits_short (template_number tables t) (omega (arith, has, few_templates)); jumps = tt; names = (has, tt) }
-    instruction_good (op.FreeBased d) h to ds ts vs = record { fits = description_fits (description_number tables d) ds.0; jumps = tt; names = (ds.0, tt) }
+    instruction_good (op.FreeBased d) h to ds ts vs = record { fits = description_fits d ds.0; jumps = tt; names = ((d, ds.0), tt) }
     instruction_good (op.On c block) h to ds ts vs =
         record { fits = fits_pair condition u2 c block (condition_fits c) (block_fits block h); jumps = tt; names = (h, tt) }
     instruction_good (op.Revert c) h to ds ts vs = record { fits = condition_fits c; jumps = tt; names = tt }
@@ -163,4 +176,9 @@ module _ (tables : NumberedTables) (globals blocks last : ℕ) where
     instruction_good op.Skip h to ds ts vs = record { fits = refl; jumps = tt; names = tt }
     instruction_good (op.SetTemporary number) h to ds ts vs = record { fits = fits_short number h; jumps = tt; names = tt }
     instruction_good (op.TakeTemporary number) h to ds ts vs = record { fits = fits_short number h; jumps = tt; names = tt }
+    instruction_good (op.SubscriptIn k) h to ds ts vs = record { fits = fits_dimension k h; jumps = tt; names = tt }
+    instruction_good (op.BoundOf which k) h to ds ts vs =
+        record { fits = fits_pair which_bound dimension_number which k (which_fits which) (fits_dimension k h); jumps = tt; names = tt }
+    instruction_good (op.MakeStringDummy form) h to ds ts vs = record { fits = form_fits form; jumps = tt; names = tt }
+    instruction_good op.FitToPlace h to ds ts vs = record { fits = refl; jumps = tt; names = tt }
     instruction_good op.Nothing h to ds ts vs = absurd h

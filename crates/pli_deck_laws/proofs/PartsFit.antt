@@ -4,6 +4,8 @@ use Rattle.std.specs.List.{flat_map, list_all, AllByRecursion}
 use Rattle.std.proofs.lemmas.Bool.{le-leb}
 use Rattle.std.proofs.lemmas.List.{length-map}
 use Rattle.pli_map.specs.Description.{Description}
+use Rattle.std.specs.Option.{option_and_then}
+use Rattle.pli_map.specs.ParameterTypes.{Stated, stated}
 use Rattle.pli_map.specs.Sizes.{size_of}
 use Rattle.pli_program.specs.Program as op
 use Rattle.pli_program.specs.declared.kind.VariableKind.TheVariants.{Static, Controlled}
@@ -18,7 +20,7 @@ use Rattle.pli_gen.specs.laws.ListLaws.{all_front, all_back}
 use Rattle.pli_gen.proofs.SimpleCode.{all_both}
 use Rattle.pli_code.specs.Fields.{u1, u2, u4, list_of, ◌⊗◌}
 use Rattle.pli_deck_write.specs.DeckFields.{name, constant, initial, template, signature, global, block_kind, optional, block}
-use Rattle.pli_deck_write.specs.DeckFaults.{Naming, OfDescription, OfTemplate, OfInstruction, named_by_result, named_by_signature, named_by_template, named_by_global, named_by_parent, named_by_block}
+use Rattle.pli_deck_write.specs.DeckFaults.{Naming, OfParameter, OfTemplate, OfInstruction, named_by_result, named_by_signature, named_by_template, named_by_global, named_by_parent, named_by_block}
 use Rattle.pli_deck_write.specs.DeckFaults.{scalar_at, fits_scalar, is_good_template}
 use Rattle.pli_bytes.specs.Contents.{scalars_at}
 use Rattle.pli_bytes.proofs.Rising.{rises}
@@ -61,20 +63,20 @@ module _ (tables : NumberedTables) (globals blocks last : ℕ) (few_descriptions
   pub record GoodTemplate (t : Template) : Type 0 where
     pub fits : (template written).fits (template_code tables t) ≡ true
     pub names : AllByRecursion IsNamed (named_by_template (template_code tables t))
-    pub is : is_good_template (slice_get tables.descriptions (description_number tables t.description)) t.initial ≡ true
+    pub is : is_good_template (option_and_then stated (slice_get tables.descriptions (description_number tables (Stated t.description)))) t.initial ≡ true
 
-  pub template_good : (t : Template) → IsTemplate t → BeginsWithBytes (template_code tables t) → StandsDescription tables t.description → GoodTemplate t
+  pub template_good : (t : Template) → IsTemplate t → BeginsWithBytes (template_code tables t) → StandsDescription tables (Stated t.description) → GoodTemplate t
   unfolding template
   template_good t h bytes stands =
       let d = t.description in
-      let number = description_number tables d in
-      let below = description_within tables d stands in
+      let number = description_number tables (Stated d) in
+      let below = description_within tables (Stated d) stands in
       let good : AllByRecursion (GoodInitial d) t.initial = all_pairs (IsInitial d) (λ (i : InitialScalar). HasBytes i.value) (GoodInitial d) (good_initial d h.0) t.initial h.1 bytes in
       record {
         fits = fits_pair u2 (list_of u4 (initial written)) number t.initial (fits_short number (omega (arith, below, few_descriptions)))
             (fits_list u4 (initial written) t.initial (fits_word (length t.initial) h.2) (each_holds (initial written).fits (GoodInitial d) (λ i g. g.fits) t.initial good));
-        names = (below, tt);
-        is = ap (λ o. is_good_template o t.initial) stands
+        names = ((d, stands), tt);
+        is = ap (λ o. is_good_template (option_and_then stated o) t.initial) stands
             ∙ both_hold (nat_le (size_of d) 1000000) (list_all (λ i. fits_scalar (scalar_at d i.offset) i.value) t.initial) (le-leb (size_of d) 1000000 h.0.1)
             (each_holds (λ i. fits_scalar (scalar_at d i.offset) i.value) (GoodInitial d) (λ i g. g.is) t.initial good);
       }
@@ -84,17 +86,13 @@ module _ (tables : NumberedTables) (globals blocks last : ℕ) (few_descriptions
   below_last : (n : ℕ) → n < length tables.descriptions → n < 65535
   below_last n h = omega (arith, h, few_descriptions)
 
-  result_below : (o : Option Description) → AllByRecursion (StandsDescription tables) (there o) → IfThere (λ n. n < length tables.descriptions) (option_map (description_number tables) o)
+  result_below : (o : Option Description) → AllByRecursion (StandsDescription tables) (map Stated (there o)) → IfThere (λ n. n < 65535) (option_map (λ d. description_number tables (Stated d)) o)
   result_below None h = tt
-  result_below (Some d) h = description_within tables d h.0
+  result_below (Some d) h = below_last (description_number tables (Stated d)) (description_within tables (Stated d) h.0)
 
-  as_below : (o : Option ℕ) → IfThere (λ n. n < length tables.descriptions) o → IfThere (λ n. n < 65535) o
-  as_below None h = tt
-  as_below (Some n) h = below_last n h
-
-  result_named : (o : Option ℕ) → IfThere (λ n. n < length tables.descriptions) o → AllByRecursion IsNamed (named_by_result o)
+  result_named : (o : Option Description) → AllByRecursion (StandsDescription tables) (map Stated (there o)) → AllByRecursion IsNamed (named_by_result (option_map (λ d. description_number tables (Stated d)) o))
   result_named None h = tt
-  result_named (Some n) h = (h, tt)
+  result_named (Some d) h = ((d, h.0), tt)
 
   pub record GoodSignature (s : Signature) : Type 0 where
     pub fits : signature.fits (signature_code tables s) ≡ true
@@ -103,15 +101,16 @@ module _ (tables : NumberedTables) (globals blocks last : ℕ) (few_descriptions
   pub signature_good : (s : Signature) → IsSignature s → AllByRecursion (StandsDescription tables) (signature_descriptions s) → GoodSignature s
   signature_good s h stands =
       let numbers = map (description_number tables) s.parameters in
-      let result = option_map (description_number tables) s.result in
+      let result = option_map (λ d. description_number tables (Stated d)) s.result in
+      let given = map Stated (there s.result) in
       let all : AllByRecursion (λ n. n < length tables.descriptions) numbers = all_mapped (description_number tables) (StandsDescription tables) (λ n. n < length tables.descriptions)
-      (description_within tables) s.parameters (all_front (StandsDescription tables) s.parameters (there s.result) stands) in
-      let one = result_below s.result (all_back (StandsDescription tables) s.parameters (there s.result) stands) in
+      (description_within tables) s.parameters (all_front (StandsDescription tables) s.parameters given stands) in
+      let one = all_back (StandsDescription tables) s.parameters given stands in
       let count : length numbers ≡ length s.parameters = length-map s.parameters (description_number tables) in
       let few = h.0 in
       record {
-        fits = fits_signature numbers result (omega (arith, few, count)) (all_as (λ n. n < length tables.descriptions) (λ n. n < 65535) below_last numbers all) (as_below result one);
-        names = all_both IsNamed (map OfDescription numbers) (named_by_result result) (all_mapped OfDescription (λ n. n < length tables.descriptions) IsNamed (λ n e. e) numbers all) (result_named result one);
+        fits = fits_signature numbers result (omega (arith, few, count)) (all_as (λ n. n < length tables.descriptions) (λ n. n < 65535) below_last numbers all) (result_below s.result one);
+        names = all_both IsNamed (map OfParameter numbers) (named_by_result result) (all_mapped OfParameter (λ n. n < length tables.descriptions) IsNamed (λ n e. e) numbers all) (result_named s.result one);
       }
 
   pub record GoodGlobal (g : Global) : Type 0 where

@@ -4,8 +4,8 @@ use Rattle.std.specs.List.{flat_map, list_any, AllByRecursion}
 use Rattle.std.proofs.lemmas.List.{length-map}
 use Rattle.std.proofs.lemmas.Option.{slice_get_within}
 use Rattle.pli_map.specs.Description.{Description}
-use Rattle.pli_map.specs.Same.{same}
-use Rattle.pli_map.specs.laws.SameLaws.{same_decides}
+use Rattle.pli_map.specs.ParameterTypes.{ParameterType, Stated, same_type}
+use Rattle.pli_map.specs.laws.ParameterLaws.{same_type_decides}
 use Rattle.pli_program.specs.Program as op
 use Rattle.pli_type_tree.specs.Templates.{Template}
 use Rattle.pli_type_tree.specs.TypedTree.{Signature, Global, OwnVariable, ExternalVariable, EntryPoint, TypedUnit}
@@ -22,7 +22,7 @@ use Rattle.pli_gen.proofs.SimpleCode.{all_both}
 use Rattle.pli_gen_emit.proofs.TableNumbers.{Has, number_stands, has_all}
 use Rattle.pli_gen.proofs.UnitLemmas.{put_all}
 use Rattle.pli_gen.proofs.LimitLemmas.{few}
-use Rattle.pli_deck_laws.specs.Limits.{IfThere, IsDescription, IsConstant, IsTemplate, IsSignature, IsGlobal}
+use Rattle.pli_deck_laws.specs.Limits.{IfThere, IsDescription, IsParameterType, IsConstant, IsTemplate, IsSignature, IsGlobal}
 use Rattle.pli_deck_laws.specs.WellFormed.{slots_of, IsHead}
 use Rattle.pli_deck_laws.proofs.AllowedLemmas.{Allowed}
 use Rattle.pli_deck_laws.proofs.FieldsFit.{neither}
@@ -35,14 +35,14 @@ pub all_joined : {X Y : Type 0} (f : Y → List X) (P : X → Type 0) (Q : Y →
 all_joined f P Q each [] h = tt
 all_joined f P Q each (y ∷ ys) h = all_both P (f y) (flat_map f ys) (each y h.0) (all_joined f P Q each ys h.1)
 
-result_described : (o : Option Description) → IfThere IsDescription o → AllByRecursion IsDescription (there o)
+result_described : (o : Option Description) → IfThere IsDescription o → AllByRecursion IsParameterType (map Stated (there o))
 result_described None h = tt
 result_described (Some d) h = (h, tt)
 
-signature_described : (s : Signature) → IsSignature s → AllByRecursion IsDescription (signature_descriptions s)
-signature_described s h = all_both IsDescription s.parameters (there s.result) h.1 (result_described s.result h.2)
+signature_described : (s : Signature) → IsSignature s → AllByRecursion IsParameterType (signature_descriptions s)
+signature_described s h = all_both IsParameterType s.parameters (map Stated (there s.result)) h.1 (result_described s.result h.2)
 
-global_described : (g : Global) → IsGlobal g → AllByRecursion IsDescription (global_descriptions g)
+global_described : (g : Global) → IsGlobal g → AllByRecursion IsParameterType (global_descriptions g)
 global_described (OwnVariable kind t) h = (h.0.0, tt)
 global_described (ExternalVariable name kind t) h = (h.0.0, tt)
 global_described (EntryPoint name s) h = signature_described s h
@@ -52,13 +52,13 @@ global_made (OwnVariable kind t) h = (h, tt)
 global_made (ExternalVariable name kind t) h = (h, tt)
 global_made (EntryPoint name s) h = tt
 
-templates_described : (ts : List Template) → AllByRecursion IsTemplate ts → AllByRecursion IsDescription (map (λ t. t.description) ts)
+templates_described : (ts : List Template) → AllByRecursion IsTemplate ts → AllByRecursion IsParameterType (map (λ t. Stated t.description) ts)
 templates_described [] h = tt
 templates_described (t ∷ ts) h = (h.0.0.0, templates_described ts h.1)
 
 -- what instructions name
 module _ (globals blocks last : ℕ) where
-  code_described : (i : op.Instruction) → Allowed globals blocks last i → AllByRecursion IsDescription (descriptions_named i)
+  code_described : (i : op.Instruction) → Allowed globals blocks last i → AllByRecursion IsParameterType (descriptions_named i)
   code_described (op.Field offset d) h = (h.1, tt)
   code_described (op.MakeDummy d) h = (h.0, tt)
   code_described (op.Fit d) h = (h, tt)
@@ -84,19 +84,19 @@ module _ (globals blocks last : ℕ) where
     variables_made : AllByRecursion IsTemplate (block_templates bs)
     variables_made = all_joined (λ b. b.head.variables) IsTemplate (λ b. IsHead b.head b.statements) (λ b h. h.1) bs heads
 
-    pub descriptions_good : AllByRecursion IsDescription (tables_for u bs code).descriptions
+    pub descriptions_good : AllByRecursion IsParameterType (tables_for u bs code).descriptions
     descriptions_good =
         let from_signature = signature_descriptions u.signature in
         let from_globals = flat_map global_descriptions u.globals in
-        let from_blocks = map (λ t. t.description) (block_templates bs) in
+        let from_blocks = map (λ t. Stated t.description) (block_templates bs) in
         let from_code = flat_map descriptions_named code in
-        put_all IsDescription same (from_signature ++ from_globals ++ from_blocks ++ from_code) [] tt
-        (all_both IsDescription (from_signature ++ from_globals ++ from_blocks) from_code
-        (all_both IsDescription (from_signature ++ from_globals) from_blocks
-        (all_both IsDescription from_signature from_globals (signature_described u.signature signature)
-        (all_joined global_descriptions IsDescription IsGlobal global_described u.globals all_globals))
+        put_all IsParameterType same_type (from_signature ++ from_globals ++ from_blocks ++ from_code) [] tt
+        (all_both IsParameterType (from_signature ++ from_globals ++ from_blocks) from_code
+        (all_both IsParameterType (from_signature ++ from_globals) from_blocks
+        (all_both IsParameterType from_signature from_globals (signature_described u.signature signature)
+        (all_joined global_descriptions IsParameterType IsGlobal global_described u.globals all_globals))
         (templates_described (block_templates bs) variables_made))
-        (all_joined descriptions_named IsDescription (Allowed globals blocks last) code_described code allowed))
+        (all_joined descriptions_named IsParameterType (Allowed globals blocks last) code_described code allowed))
 
     pub templates_good : AllByRecursion IsTemplate (tables_for u bs code).templates
     templates_good =
@@ -114,7 +114,7 @@ module _ (globals blocks last : ℕ) where
 -- ---- numbers
 
 module _ (tables : NumberedTables) where
-  abbrev pub StandsDescription : Description → Type 0
+  abbrev pub StandsDescription : ParameterType → Type 0
   StandsDescription d = slice_get tables.descriptions (description_number tables d) ≡ Some d
 
   abbrev pub StandsTemplate : Template → Type 0
@@ -123,7 +123,7 @@ module _ (tables : NumberedTables) where
   abbrev pub StandsValue : Value → Type 0
   StandsValue v = slice_get tables.values (number_in same_value tables.values v) ≡ Some v
 
-  pub description_within : (d : Description) → StandsDescription d → description_number tables d < length tables.descriptions
+  pub description_within : (d : ParameterType) → StandsDescription d → description_number tables d < length tables.descriptions
   description_within d h = slice_get_within tables.descriptions (description_number tables d) d h
 
   pub template_within : (t : Template) → StandsTemplate t → template_number tables t < length tables.templates
@@ -147,7 +147,7 @@ all_stand u bs code =
     let tables = tables_for u bs code in
     let from_signature = signature_descriptions u.signature in
     let from_globals = flat_map global_descriptions u.globals in
-    let from_blocks = map (λ t. t.description) (block_templates bs) in
+    let from_blocks = map (λ t. Stated t.description) (block_templates bs) in
     let from_code = flat_map descriptions_named code in
     let outside = flat_map global_templates u.globals in
     let inside = block_templates bs in
@@ -156,7 +156,7 @@ all_stand u bs code =
     let T = StandsTemplate tables in
     let every = from_signature ++ from_globals ++ from_blocks ++ from_code in
     let every_made = outside ++ inside ++ made in
-    let described : AllByRecursion D every = all_as (Has same same_decides tables.descriptions) D (λ d h. number_stands same same_decides tables.descriptions d h) every (has_all same same_decides every []) in
+    let described : AllByRecursion D every = all_as (Has same_type same_type_decides tables.descriptions) D (λ d h. number_stands same_type same_type_decides tables.descriptions d h) every (has_all same_type same_type_decides every []) in
     let mades : AllByRecursion T every_made =
     all_as (Has same_template template_decides tables.templates) T (λ t h. number_stands same_template template_decides tables.templates t h) every_made (has_all same_template template_decides every_made []) in
     let values : AllByRecursion (StandsValue tables) (flat_map values_named code) =

@@ -48,7 +48,7 @@ inner_formed = ((omega arith, tt, omega arith), refl, omega arith, tt, tt)
 worked_formed : IsWellFormed worked
 worked_formed = record {
   signature = (omega arith, tt, tt);
-  globals = (names_made, ((omega arith, (small_made.0, tt), (omega arith, omega arith)), tt));
+  globals = (names_made, ((omega arith, (small_made.0, (tt, tt)), (omega arith, omega arith)), tt));
   some = omega arith;
   procedures = (external_formed, (inner_formed, tt));
 }

@@ -1,11 +1,12 @@
--- What is within the limits of the language: names, descriptions, values, what variables are made from,
--- operations, and what procedures take and give.
+-- What is within the limits of the language: names, descriptions, types of parameters, values, what variables
+-- are made from, operations, and what procedures take and give.
 use Rattle.std.specs.Prelude.{◌≡◌, ℕ, zero, suc, ◌≤◌, ◌<◌, ◌%◌, ℤ, unsigned_abs, int_le, IsTrue, Option}
 use Rattle.std.specs.Prelude.{Some, None, length, true}
 use Rattle.std.specs.List.{AllByRecursion}
 use Rattle.pli_map.specs.declared.description.Bounds.{Bounds}
 use Rattle.pli_map.specs.Description.{Description, FixedBinary, Character, Varying, Bit, Pointer, Offset}
 use Rattle.pli_map.specs.Description.{Area, Array, Structure, Members, NoMembers, MemberThen}
+use Rattle.pli_map.specs.ParameterTypes.{ParameterType, Stated, AnyString, AnyArray, ArrayOf, StructureOf}
 use Rattle.pli_map.specs.Sizes.{size_of}
 use Rattle.pli_map.specs.Values.{holds}
 use Rattle.pli_operation.specs.declared.operation.Operation.TheVariants.{ToCharacters, Divide}
@@ -82,6 +83,42 @@ abbrev mutual
 abbrev pub IsDescription : Description → Type 0
 IsDescription d = IsDescribed level_limit d
 
+-- types of parameters
+
+-- a number of a dimension, or of dimensions
+abbrev pub IsDimension : ℕ → Type 0
+IsDimension k = (1 ≤ k) × (k ≤ 8)
+
+-- a scalar within the limits that is no area
+abbrev pub IsElement : Description → Type 0
+IsElement (FixedBinary p) = IsPrecision p
+IsElement (Character n) = IsLength n
+IsElement (Varying n) = IsLength n
+IsElement (Bit n) = IsLength n
+IsElement Pointer = Unit {0}
+IsElement Offset = Unit {0}
+IsElement d = ⊥
+
+-- a string of any length
+abbrev pub IsAnyString : ParameterType → Type 0
+IsAnyString (AnyString form) = Unit {0}
+IsAnyString type = ⊥
+
+-- an element of an array whose bounds are all `*`: such a scalar, or a string of any length
+abbrev pub IsOpenElement : ParameterType → Type 0
+IsOpenElement (Stated d) = IsElement d
+IsOpenElement type = IsAnyString type
+
+-- what a parameter may be: of a description within the limits; a string of any length; an array whose bounds
+-- are all `*`; one of bounds within the limits, of strings of any length
+abbrev pub IsParameterType : ParameterType → Type 0
+IsParameterType (Stated d) = IsDescription d
+IsParameterType (AnyString form) = Unit {0}
+IsParameterType (AnyArray k element) = IsDimension k × IsOpenElement element
+IsParameterType (ArrayOf bounds element) =
+    IsDimension (length bounds) × AllByRecursion AreBounds bounds × IsAnyString element
+IsParameterType (StructureOf types) = ⊥
+
 -- values
 
 -- a number of at most 63 binary digits, a string of at most 32,767 elements, or null
@@ -125,7 +162,7 @@ IsStride s = IsBound s.low × IsBound s.high × (s.multiplier < word_limit)
 -- what a procedure takes and gives
 abbrev pub IsSignature : Signature → Type 0
 IsSignature s =
-    (length s.parameters ≤ parameter_limit) × AllByRecursion IsDescription s.parameters
+    (length s.parameters ≤ parameter_limit) × AllByRecursion IsParameterType s.parameters
     × IfThere IsDescription s.result
 
 -- what a unit names that is there for the whole program

@@ -5,17 +5,21 @@ use Rattle.std.specs.List.{flat_map, list_any, AllByRecursion}
 use Rattle.pli_gen_emit.specs.TreeTranslation.{argument_count, BlockTree, has_number, blocks_of_procedure}
 use Rattle.pli_type_tree.specs.Allocations.{all_kept_for}
 use Rattle.pli_type_tree.specs.Iterations.{temporaries_of}
+use Rattle.pli_type_tree.specs.WellTyped.{operand_count}
 use Rattle.pli_type_tree.specs.TypedTree.{Root, InSlot, OfProgram, NewestOf, Located, Callee, OfBlock}
 use Rattle.pli_type_tree.specs.TypedTree.{OfEntry, TypedExpression, Literal, Held, Calculated, Called}
-use Rattle.pli_type_tree.specs.TypedTree.{Generations, Address, AsPointer, AsOffset}
-use Rattle.pli_type_tree.specs.TypedTree.{TypedReference, Whole, Part, Operands, NoOperand, OperandThen}
+use Rattle.pli_type_tree.specs.TypedTree.{Generations, Address, AsPointer, AsOffset, Bounded}
+use Rattle.pli_type_tree.specs.TypedTree.{TypedReference, Whole, Part, ElementOf}
+use Rattle.pli_type_tree.specs.TypedTree.{Operands, NoOperand, OperandThen}
 use Rattle.pli_type_tree.specs.TypedTree.{Subscripts, NoSubscript, SubscriptThen}
-use Rattle.pli_type_tree.specs.TypedTree.{TypedArguments, NoArgument, ByPlace, ByDummy}
-use Rattle.pli_type_tree.specs.TypedTree.{Conversion, ByOperations, AsPointerIn, AsOffsetIn}
-use Rattle.pli_type_tree.specs.TypedTree.{TypedRange, Once, ToBy, ByTo, Repeated, Iteration, BlockHead}
+use Rattle.pli_type_tree.specs.TypedTree.{TypedArguments, NoArgument, ByPlace, ByDummy, ByString}
+use Rattle.pli_type_tree.specs.TypedTree.{Conversion, ByOperations, AsPointerIn, AsOffsetIn, ToPlace}
+use Rattle.pli_type_tree.specs.TypedTree.{TypedRange, Once, ToBy, ByTo, Repeated, RepeatedString}
+use Rattle.pli_type_tree.specs.TypedTree.{Iteration, BlockHead}
 use Rattle.pli_type_tree.specs.TypedTree.{TypedStatement, Statement, TypedStatements, NoStatement}
 use Rattle.pli_type_tree.specs.TypedTree.{StatementThen, OtherWise, NoElse, Else}
-use Rattle.pli_type_tree.specs.TypedTree.{Form, Null, Assign, AssignAggregate, AssignArea, EmptyArea, Put, If}
+use Rattle.pli_type_tree.specs.TypedTree.{Form, Null, Assign, AssignString, AssignAggregate, AssignArea}
+use Rattle.pli_type_tree.specs.TypedTree.{EmptyArea, Put, If}
 use Rattle.pli_type_tree.specs.TypedTree.{Begin, Group, While, Iterate, Call, Goto, Return, ReturnValue, Stop}
 use Rattle.pli_type_tree.specs.TypedTree.{On, Revert, Signal, Allocate, Free}
 use Rattle.pli_type_tree.specs.TypedTree.{AllocatedItem, AllocatesControlled, AllocatesBased, AllocatesInArea}
@@ -23,7 +27,7 @@ use Rattle.pli_type_tree.specs.TypedTree.{FreedItem, FreesControlled, FreesBased
 use Rattle.pli_type_tree.specs.TypedTree.{TypedProcedure, TypedUnit}
 use Rattle.pli_deck_laws.specs.Limits.{link_limit, parameter_limit, word_limit, IfThere}
 use Rattle.pli_deck_laws.specs.Limits.{IsDescription, IsConstant, IsMade, IsTemplate, IsOperation}
-use Rattle.pli_deck_laws.specs.Limits.{IsStride, IsSignature, IsGlobal}
+use Rattle.pli_deck_laws.specs.Limits.{IsDimension, IsStride, IsSignature, IsGlobal}
 
 -- the blocks of a unit, procedure after procedure
 abbrev pub unit_blocks : TypedUnit → List BlockTree
@@ -95,6 +99,7 @@ module _ (t : TypedUnit) where
     IsExpression (Address r) = IsReference r
     IsExpression (AsPointer area e) = IsReference area × IsExpression e
     IsExpression (AsOffset area e) = IsReference area × IsExpression e
+    IsExpression (Bounded which k r) = IsDimension k × IsReference r
 
     -- a reference begins at what the unit has, or at what a locator leads to
     pub IsRoot : Root → Type 0
@@ -108,6 +113,8 @@ module _ (t : TypedUnit) where
     IsReference (Whole root) = IsRoot root
     IsReference (Part root offset d subscripts) =
         IsRoot root × (offset < word_limit) × IsDescription d × AreSubscripts subscripts
+    IsReference (ElementOf root subscripts) =
+        IsRoot root × (operand_count subscripts ≤ 8) × AreOperands subscripts
 
     -- operands
     pub AreOperands : Operands → Type 0
@@ -124,12 +131,14 @@ module _ (t : TypedUnit) where
     AreArguments NoArgument = Unit {0}
     AreArguments (ByPlace r more) = IsReference r × AreArguments more
     AreArguments (ByDummy d e more) = IsMade d × IsExpression e × AreArguments more
+    AreArguments (ByString form e more) = IsExpression e × AreArguments more
 
   -- a conversion of a value to a variable
   abbrev pub IsConversion : Conversion → Type 0
   IsConversion (ByOperations operations) = AllByRecursion IsOperation operations
   IsConversion (AsPointerIn area) = IsReference area
   IsConversion (AsOffsetIn area) = IsReference area
+  IsConversion (ToPlace operations) = AllByRecursion IsOperation operations
 
   -- groups with a control variable
   abbrev pub IsRange : TypedRange → Type 0
@@ -137,6 +146,7 @@ module _ (t : TypedUnit) where
   IsRange (ToBy to by) = IsExpression to × IfThere IsExpression by
   IsRange (ByTo by to) = IsExpression by × IfThere IsExpression to
   IsRange (Repeated next) = IsExpression next
+  IsRange (RepeatedString next) = IsExpression next
 
   -- what controls an iteration
   abbrev pub IsIteration : Iteration → Type 0
@@ -165,6 +175,7 @@ module _ (t : TypedUnit) where
     pub IsForm : Form → Type 0
     IsForm Null = Unit {0}
     IsForm (Assign target e) = IsReference target × IsExpression e
+    IsForm (AssignString target e) = IsReference target × IsExpression e
     IsForm (AssignAggregate target source) = IsReference target × IsReference source
     IsForm (AssignArea target source) = IsReference target × IsReference source
     IsForm (EmptyArea target) = IsReference target

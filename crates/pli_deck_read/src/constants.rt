@@ -76,6 +76,7 @@ fn number_of(version: Version, bytes: &[u8]) -> Result<(i64, &[u8]), DeckFault>
             Ok((i64::from(number), rest))
         }
         Version::Second => signed_long_within(bytes, 9_223_372_036_854_775_807),
+        Version::Third => signed_long_within(bytes, 9_223_372_036_854_775_807),
     }
 }
 

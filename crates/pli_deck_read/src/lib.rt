@@ -8,6 +8,7 @@ mod module;
 mod modules;
 mod read;
 mod reading;
+mod structures;
 mod tables;
 mod whole;
 

@@ -38,7 +38,7 @@ fn read(alloc: Global, bytes: &[u8]) -> Result<Module, ReadError>
     }
 }
 
-/// The module that bytes spell, in either version; each deck is read whole where it stands, and has the module's
+/// The module that bytes spell, in any version; each deck is read whole where it stands, and has the module's
 /// version. An error is the first fault, or that memory ran out. Takes memory in proportion to the bytes, and no call
 /// is deeper than the 512 levels of descriptions.
 pub fn read_module(alloc: Global, bytes: &[u8]) -> Result<Module, ReadError>

@@ -40,7 +40,7 @@ pub fn read(alloc: Global, wanted: Option<Version>, bytes: &[u8]) -> Result<Deck
     }
 }
 
-/// The deck that bytes spell, in either version. An error is the first fault, or that memory ran out. Takes memory in
+/// The deck that bytes spell, in any version. An error is the first fault, or that memory ran out. Takes memory in
 /// proportion to the bytes, and no call is deeper than the 512 levels of descriptions.
 pub fn read_deck(alloc: Global, bytes: &[u8]) -> Result<Deck, ReadError>
     // What is read is spelled so.

@@ -1,8 +1,8 @@
 //! The items of a deck's tables at the front of bytes.
 ghost use Rattle.std.specs.Prelude.{◌≡◌, ℕ, List, map};
-ghost use Rattle.pli_code.specs.Fields.{Answers, Field, many, u2, list, made, ◌⊗◌};
+ghost use Rattle.pli_code.specs.Fields.{Answers, Field, checked, many, may_begin, u2, list, made, ◌⊗◌};
 ghost use Rattle.pli_deck_write.specs.DeckFields as deck_fields;
-ghost use Rattle.pli_code.specs.Instructions.{instruction_in};
+ghost use Rattle.pli_code.specs.Instructions.{instruction, instruction_in, is_code_in, is_instruction_in};
 ghost use Rattle.pli_code.specs.CodeTables as code;
 ghost use Rattle.pli_code.specs.CodeTables.{CodedBlock};
 ghost use Rattle.pli_code.specs.views.CodeView.{kind_view, block_view, signature_view, global_view};
@@ -195,6 +195,29 @@ impl ReadsOne for Blocks {
     }
 }
 
+/// Whether bytes begin with an opcode that may stand in a version, if they begin at all: those over 63 are for types
+/// with a `*`.
+fn may_begin(version: Version, bytes: &[u8]) -> bool
+    ensures { result ≡ may_begin (is_code_in version) bytes.now }
+{
+    match bytes {
+        [] => true,
+        [code, ..] => *code <= 63 || version.has_stars(),
+    }
+}
+
+/// An instruction, if it may stand in a version.
+fn instruction_of(version: Version, bytes: &[u8]) -> Result<(Instruction, &[u8]), ReadError>
+    ensures { Gives (λ x. (x.0, x.1.now)) result ((checked (is_instruction_in version) instruction).read bytes.now) }
+{
+    let (instruction, rest) = decode(bytes)?;
+    if instruction.stands_in(version) {
+        Ok((instruction, rest))
+    } else {
+        Err(ReadError::Fault(DeckFault::OutOfRange))
+    }
+}
+
 /// Reads an instruction of a version.
 #[derive(Clone, Copy)]
 pub struct Instructions {
@@ -217,11 +240,9 @@ impl ReadsOne for Instructions {
         _alloc: Global,
         bytes: &'a [u8],
     ) -> Result<(Instruction, &'a [u8]), ReadError> {
-        let (instruction, rest) = decode(bytes)?;
-        if instruction.stands_in(self.version) {
-            Ok((instruction, rest))
-        } else {
-            Err(ReadError::Fault(DeckFault::OutOfRange))
+        if may_begin(self.version, bytes) {
+            return instruction_of(self.version, bytes);
         }
+        Err(ReadError::Fault(DeckFault::OutOfRange))
     }
 }

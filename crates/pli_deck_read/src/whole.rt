@@ -86,6 +86,8 @@ fn version_among(wanted: Option<Version>, number: u8) -> Option<Version>
         if_it_may(wanted, Version::First)
     } else if number == 2 {
         if_it_may(wanted, Version::Second)
+    } else if number == 3 {
+        if_it_may(wanted, Version::Third)
     } else {
         None
     }

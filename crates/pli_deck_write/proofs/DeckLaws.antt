@@ -20,7 +20,7 @@ use Rattle.pli_deck_write.specs.Descriptions.{description}
 use Rattle.pli_code.specs.Instructions.{instruction_in}
 use Rattle.pli_code.specs.Versions.{version_number}
 use Rattle.pli_code.specs.declared.version.Version.{Version}
-use Rattle.pli_code.specs.declared.version.Version.TheVariants.{First, Second}
+use Rattle.pli_code.specs.declared.version.Version.TheVariants.{First, Second, Third}
 use Rattle.pli_deck_write.specs.DeckFields.{is_name, name, flag, number_if, none_last, is_number_if, optional, byte_count, bits_in, bits_at, bit_string, integer, characters, constant_form, constant_readers, constant, initial, template, parameter_count, parameter_number, signature, global_form, global_readers, global, kind_number, kind_of, block_kind, block_of, block_parts, block, behind, past, after_magic, if_it_may, version_among, or_bad_version, version_in, code_of, code_parts, code, contents, deck_of, deck_parts, deck_in_versions}
 use Rattle.pli_code.proofs.FieldLaws.{AreBytes-drop, bind_ok, ok_is, held_ok, guard_ok, both_true, Taken, IsField, nothing_law, byte_law, u2_law, u4_law, count_law, byte_again, as_shaped, answered, checked_law, word_law, long_law, followed_law, ◌⊠◌, shaped_law, list_law, from_to_law}
 use Rattle.pli_code.proofs.FormLaws.{AllRead, unknown_reads, made_reads, made_again, tagged_law}
@@ -158,6 +158,7 @@ bit_string_law = record { takes = bit_string_takes; again = bit_string_again }
 integer_law : (v : Version) → IsField (integer v)
 integer_law First = word_law 2147483647 (omega arith)
 integer_law Second = long_law 9223372036854775807 (omega arith)
+integer_law Third = long_law 9223372036854775807 (omega arith)
 
 characters_law : IsField characters
 unfolding characters
@@ -327,11 +328,16 @@ version_stands may_stand n v e = first (nat_eq n 1) refl e
     of w true good here found = let same : w ≡ v = cc in record { number = here ∙ ap version_number same; good = ap may_stand (sym same) ∙ good }
     of w false good here found = absurd cc
 
-    second : (b : Bool) → nat_eq n 2 ≡ b → cond b (if_it_may may_stand Second) None ≡ Some v → Stands may_stand n v
-    second true here found = of Second (may_stand Second) refl (eqb-true n 2 here) found
-    second false here found = absurd cc
+    third : (b : Bool) → nat_eq n 3 ≡ b → cond b (if_it_may may_stand Third) None ≡ Some v → Stands may_stand n v
+    third true here found = of Third (may_stand Third) refl (eqb-true n 3 here) found
+    third false here found = absurd cc
 
-    first : (b : Bool) → nat_eq n 1 ≡ b → cond b (if_it_may may_stand First) (cond (nat_eq n 2) (if_it_may may_stand Second) None) ≡ Some v → Stands may_stand n v
+    second : (b : Bool) → nat_eq n 2 ≡ b → cond b (if_it_may may_stand Second) (cond (nat_eq n 3) (if_it_may may_stand Third) None) ≡ Some v → Stands may_stand n v
+    second true here found = of Second (may_stand Second) refl (eqb-true n 2 here) found
+    second false here found = third (nat_eq n 3) refl found
+
+    first : (b : Bool) → nat_eq n 1 ≡ b
+        → cond b (if_it_may may_stand First) (cond (nat_eq n 2) (if_it_may may_stand Second) (cond (nat_eq n 3) (if_it_may may_stand Third) None)) ≡ Some v → Stands may_stand n v
     first true here found = of First (may_stand First) refl (eqb-true n 1 here) found
     first false here found = second (nat_eq n 2) refl found
 
@@ -360,6 +366,8 @@ version_again may_stand First rest h =
     ap (λ r. r >>= as_version may_stand) (byte_again 1 rest) ∙ ap (λ g. or_bad_version (cond g (Some First) None) rest) h
 version_again may_stand Second rest h =
     ap (λ r. r >>= as_version may_stand) (byte_again 2 rest) ∙ ap (λ g. or_bad_version (cond g (Some Second) None) rest) h
+version_again may_stand Third rest h =
+    ap (λ r. r >>= as_version may_stand) (byte_again 3 rest) ∙ ap (λ g. or_bad_version (cond g (Some Third) None) rest) h
 
 pub version_law : (may_stand : Version → Bool) → IsField (version_in may_stand)
 version_law may_stand = record { takes = version_takes may_stand; again = version_again may_stand }

@@ -7,5 +7,6 @@ pub mod ModuleLaws
 pub mod ModulePuts
 pub mod PutLemmas
 pub mod SpellingLaws
+pub mod TypeLemmas
 pub mod WholeLaws
 pub mod Worked

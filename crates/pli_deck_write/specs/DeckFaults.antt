@@ -1,6 +1,6 @@
 -- What is looked for in a deck once all its bytes are read (own): jumps, numbers of entries, and limits.
 use Rattle.std.specs.Prelude.{ℕ, ◌+◌, ◌-◌, ◌%◌, nat_eq, nat_le, nat_lt, Bool, true, false}
-use Rattle.std.specs.Prelude.{◌&&◌, not, List, [], ◌∷◌, ◌++◌, length, map, slice_get, Option}
+use Rattle.std.specs.Prelude.{◌&&◌, not, List, [], ◌∷◌, ◌++◌, length, map, Option, is_some}
 use Rattle.std.specs.Prelude.{Some, None, if◌then◌else◌}
 use Rattle.std.specs.List.{flat_map, list_all, sum_by}
 use Rattle.std.specs.Int.{next_multiple_of}
@@ -11,13 +11,16 @@ use Rattle.pli_type_tree.specs.Templates.{InitialScalar}
 use Rattle.pli_value.specs.Value.{Value}
 use Rattle.pli_code.specs.declared.fault.DeckFault.{DeckFault}
 use Rattle.pli_code.specs.declared.fault.DeckFault.TheVariants.{BadJump, BadNumber, OverLimit}
-use Rattle.pli_code.specs.CodeTables.{CodedTemplate, CodedBlock, CodedSignature, Code, Deck}
+use Rattle.pli_code.specs.CodeTables.{CodedTemplate, CodedBlock, CodedSignature, Code, Deck, stated_at}
 use Rattle.pli_code.specs.CodeTables.{CodedGlobal, OwnVariable, ExternalVariable, EntryPoint}
 use Rattle.pli_code.specs.declared.instruction.Instruction.{Instruction}
 use Rattle.pli_code.specs.declared.instruction.Instruction.TheVariants as op
 
--- what an item of a deck names by a number: an entry of a table, or an instruction at which a block begins
+-- what an item of a deck names by a number: a type that a parameter has, or a description, which is an entry
+-- of the same table in which no `*` stands; an entry of another table; or an instruction at which a block
+-- begins
 pub data Naming : Type 0 where
+  OfParameter : ℕ → Naming
   OfDescription : ℕ → Naming
   OfTemplate : ℕ → Naming
   OfValue : ℕ → Naming
@@ -30,9 +33,9 @@ abbrev pub named_by_result : Option ℕ → List Naming
 named_by_result None = []
 named_by_result (Some d) = OfDescription d ∷ []
 
--- a signature names the descriptions of its parameters and of its result
+-- a signature names the types of its parameters and the description of its result
 abbrev pub named_by_signature : CodedSignature → List Naming
-named_by_signature s = map OfDescription s.parameters ++ named_by_result s.result
+named_by_signature s = map OfParameter s.parameters ++ named_by_result s.result
 
 -- a template names its description
 abbrev pub named_by_template : CodedTemplate → List Naming
@@ -88,7 +91,8 @@ named_by c = named_by_signature c.signature ++ named_by_variables c ++ named_by_
 
 -- what is named is there
 abbrev pub is_there : Code → Naming → Bool
-is_there c (OfDescription n) = nat_lt n (length c.descriptions)
+is_there c (OfParameter n) = nat_lt n (length c.descriptions)
+is_there c (OfDescription n) = is_some (stated_at c n)
 is_there c (OfTemplate n) = nat_lt n (length c.templates)
 is_there c (OfValue n) = nat_lt n (length c.values)
 is_there c (OfGlobal n) = nat_lt n (length c.globals)
@@ -146,8 +150,8 @@ initial_bytes None initial = 0
 -- templates are good, and those with initial values have at most 16,777,216 bytes together
 abbrev pub within_limits : Code → Bool
 within_limits c =
-    list_all (λ t. is_good_template (slice_get c.descriptions t.description) t.initial) c.templates
-    && nat_le (sum_by (λ t. initial_bytes (slice_get c.descriptions t.description) t.initial) c.templates)
+    list_all (λ t. is_good_template (stated_at c t.description) t.initial) c.templates
+    && nat_le (sum_by (λ t. initial_bytes (stated_at c t.description) t.initial) c.templates)
     16777216
 
 -- the first of these faults in the code of a deck

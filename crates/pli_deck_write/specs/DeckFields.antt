@@ -6,7 +6,7 @@ use Rattle.std.specs.Prelude.{if◌then◌else◌}
 use Rattle.std.specs.Int.{w32, w64}
 use Rattle.std.specs.Str.{bytes_eq}
 use Rattle.pli_base.specs.Name.{Name, name_of}
-use Rattle.pli_map.specs.Description.{Description}
+use Rattle.pli_map.specs.ParameterTypes.{ParameterType}
 use Rattle.pli_value.specs.Locators.{is_null}
 use Rattle.pli_value.specs.Packing.{packed, unpacked}
 use Rattle.pli_value.specs.Value.{Value, Number, Characters, Bits, Located}
@@ -27,7 +27,7 @@ use Rattle.pli_deck_write.specs.Descriptions.{description}
 use Rattle.pli_code.specs.Instructions.{instruction_in}
 use Rattle.pli_code.specs.Versions.{version_number}
 use Rattle.pli_code.specs.declared.version.Version.{Version}
-use Rattle.pli_code.specs.declared.version.Version.TheVariants.{First, Second}
+use Rattle.pli_code.specs.declared.version.Version.TheVariants.{First, Second, Third}
 use Rattle.pli_program.specs.declared.kind.VariableKind.TheVariants.{Static, Controlled}
 
 -- a text is this name, as it is written in upper case
@@ -96,6 +96,7 @@ bit_string = record {
 abbrev pub integer : Version → Field ℤ
 integer First = signed 4 w32 2147483647
 integer Second = signed 8 w64 9223372036854775807
+integer Third = signed 8 w64 9223372036854775807
 
 -- a string of characters, with a count of two bytes
 unfoldable pub characters : Field (List ℕ)
@@ -237,6 +238,7 @@ abbrev pub version_among : (may_stand : Version → Bool) → ℕ → Option Ver
 version_among may_stand n =
     if nat_eq n 1 then if_it_may may_stand First
     else if nat_eq n 2 then if_it_may may_stand Second
+    else if nat_eq n 3 then if_it_may may_stand Third
     else None
 
 -- that version, or that there is none
@@ -259,7 +261,7 @@ any_version v = true
 -- the parts of code in the order of their bytes: its signature, its tables and its instructions
 abbrev pub CodeParts : Type 0
 CodeParts =
-    CodedSignature × (List Description × (List CodedTemplate × (List Value × (List CodedGlobal
+    CodedSignature × (List ParameterType × (List CodedTemplate × (List Value × (List CodedGlobal
     × (List CodedBlock × List Instruction)))))
 
 -- code of its parts

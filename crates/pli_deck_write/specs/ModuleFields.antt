@@ -126,7 +126,7 @@ member_parts m = ((m.name, m.deck), m.links)
 unfoldable pub member : Version → Field Member
 member v = shaped member_of member_parts (followed (name ⊗ sized_deck v) (λ p. links_of p.1))
 
--- its bytes, which are the same in a module of either version
+-- its bytes, which are the same in a module of any version
 abbrev pub member_bytes : Member → List ℕ
 member_bytes m = (member written).bytes_of m
 

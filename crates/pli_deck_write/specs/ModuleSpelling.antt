@@ -11,7 +11,7 @@ use Rattle.pli_code.specs.Fields.{AreBytes}
 use Rattle.pli_deck_write.specs.ModuleFields.{global_tag, is_external, module_field}
 use Rattle.pli_deck_write.specs.Whole.{whole_read}
 use Rattle.pli_code.specs.Modules.{External, Member, Module}
-use Rattle.pli_code.specs.CodeTables.{Code, CodedTemplate}
+use Rattle.pli_code.specs.CodeTables.{Code, CodedTemplate, stated_at}
 use Rattle.pli_code.specs.CodeTables.{CodedGlobal, OwnVariable, ExternalVariable, EntryPoint}
 use Rattle.pli_program.specs.declared.kind.VariableKind.TheVariants.{Static}
 
@@ -66,7 +66,7 @@ description_bytes (Some d) = size_of d
 -- those of a template that is there
 abbrev pub bytes_by_template : Code → Option CodedTemplate → ℕ
 bytes_by_template c None = 0
-bytes_by_template c (Some t) = description_bytes (slice_get c.descriptions t.description)
+bytes_by_template c (Some t) = description_bytes (stated_at c t.description)
 
 -- those of the template of a number
 abbrev pub template_bytes : Code → (template : ℕ) → ℕ

@@ -1,2 +1,3 @@
 pub mod ModuleHead
 pub mod SpelledUnits
+pub mod StatedTypes

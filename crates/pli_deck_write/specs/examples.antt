@@ -1,3 +1,4 @@
 pub mod DeckExamples
 pub mod FaultExamples
 pub mod ModuleExamples
+pub mod TypeExamples

@@ -5,11 +5,12 @@ ghost use Rattle.pli_deck_write.specs.Descriptions.{description};
 ghost use Rattle.pli_deck_write.specs.Spelling.{ReadIsSpelled, SpelledIsRead, OneSpelling, OneDeck};
 ghost use Rattle.pli_deck_write.specs.ModuleSpelling.{ReadModuleIsSpelled, SpelledModuleIsRead, OneModule};
 ghost use Rattle.pli_deck_write.specs.examples.DeckExamples.{WrittenSo, ReadSo};
-ghost use Rattle.pli_deck_write.specs.examples.FaultExamples.{DeckFaultsAre};
+ghost use Rattle.pli_deck_write.specs.examples.FaultExamples.{DeckFaultsAre, StarFaultsAre};
 ghost use Rattle.pli_deck_write.specs.examples.ModuleExamples.{ModulesWrittenSo, ModulesReadSo, ModuleFaultsAre};
+ghost use Rattle.pli_deck_write.specs.examples.TypeExamples.{TypesWrittenSo, TypesReadSo};
 
-/// A law: in each version, a description that is read is spelled by the bytes that were there, and one that is spelled
-/// is read again, whatever stands behind it.
+/// A law: in each version, a description or a type that is read is spelled by the bytes that were there, and one that
+/// is spelled is read again, whatever stands behind it.
 pub fn descriptions_both_ways()
     ensures { (v : Version) → BothWays (description v) }
 {}
@@ -38,6 +39,14 @@ pub fn worked_decks()
     ensures written { WrittenSo }
     ensures read { ReadSo }
     ensures faults { DeckFaultsAre }
+{}
+
+/// Worked examples: types with a `*`, with their bytes, and which faults a deck has that names them.
+#[tactic(auto, using(crate::proofs::Worked::types_written_so, crate::proofs::Worked::types_read_so))]
+pub fn worked_types()
+    ensures written { TypesWrittenSo }
+    ensures read { TypesReadSo }
+    ensures faults { StarFaultsAre }
 {}
 
 /// Worked examples: modules with their bytes, and bytes that are none.

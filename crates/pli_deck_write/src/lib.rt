@@ -12,6 +12,7 @@ mod writing;
 pub use describing::LEVELS;
 pub use laws::{
     decks_both_ways, descriptions_both_ways, modules_both_ways, worked_decks, worked_modules,
+    worked_types,
 };
 pub use modules::write_module;
 pub use spelled::write_spelled_module;

@@ -46,6 +46,7 @@ pub fn put_number(out: &mut Vec<u8>, version: Version, number: i64) -> Result<()
     match version {
         Version::First => put_signed_word(out, number),
         Version::Second => put_signed_long(out, number),
+        Version::Third => put_signed_long(out, number),
     }
 }
 

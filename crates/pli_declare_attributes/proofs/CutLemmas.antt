@@ -11,7 +11,8 @@ use Rattle.pli_map.specs.Sizes.{count_of}
 use Rattle.pli_declare_attributes.specs.Sets.{set_of, each_once, outermost, has, area}
 use Rattle.pli_declare_attributes.specs.Sets as sets
 use Rattle.pli_declare_attributes.specs.Types.{number_of, scalar_of}
-use Rattle.pli_declare_attributes.specs.Extents.{all_bounds, are_bad_bounds}
+use Rattle.pli_declare_attributes.specs.Types as types
+use Rattle.pli_declare_attributes.specs.Extents.{all_bounds, are_unknown}
 use Rattle.pli_declare_attributes.specs.Agreement.{set_agrees, is_missing}
 use Rattle.pli_declare_attributes.specs.Initials.{values_in, fits, all_given, is_more_than, elements_inside, is_bad_initial}
 use Rattle.pli_declare_attributes.specs.Faults.{first_of, lesser, shape_fault, is_bad_area, area_fault, own_fault, attributes_fault, item_fault, parameters_fault, parameters_in, returned_fault, returned_in, entry_fault}
@@ -42,7 +43,7 @@ own_cut p i few =
     let n = number_of attributes in
     let values = values_in i.attributes in
     ap (λ (more : Bool).
-    option_or (shape_fault p i.dimensions (each_once 0 attributes) s n)
+    option_or (shape_fault p i.dimensions (each_once 0 attributes) s n (types.has_star attributes))
     (option_or
     (first_of ((has s sets.initial && (p.has_members || has s area || not (list_all (fits (scalar_of s n)) values) || more), BadInitial) ∷ []))
     (area_fault p i.dimensions s)))
@@ -67,7 +68,7 @@ cut_twice : (a m : ℕ) → min (min a most_elements * m) most_elements ≡ min 
 cut_twice a m = cut_factor most_elements a m
 
 pub cut_inside : (above : Option ℕ) (dimensions : List WrittenBounds) → cut (elements_inside (cut above) dimensions) ≡ cut (elements_inside above dimensions)
-cut_inside above dimensions = by (are_bad_bounds dimensions) above
+cut_inside above dimensions = by (are_unknown dimensions) above
   where
     by : (b : Bool) (o : Option ℕ)
         → cut (if b then None else option_map (λ count. count * count_of (all_bounds dimensions)) (cut o))

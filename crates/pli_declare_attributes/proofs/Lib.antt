@@ -7,4 +7,5 @@ pub mod LeastFaults
 pub mod LimitLemmas
 pub mod LimitsOfItems
 pub mod ShapeLemmas
+pub mod TakenLemmas
 pub mod WorkedExamples

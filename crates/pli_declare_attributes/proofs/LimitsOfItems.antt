@@ -5,10 +5,12 @@ use Rattle.pli_base.specs.declared.code.Code.{Code}
 use Rattle.pli_base.specs.declared.code.Code.TheVariants.{AttributesConflict, AttributesMissing, BadPrecision, BadLength, BadBounds}
 use Rattle.pli_base.specs.declared.declaration.WrittenBounds.{WrittenBounds}
 use Rattle.pli_map.specs.Description.{Description}
+use Rattle.pli_map.specs.ParameterTypes.{ParameterType}
 use Rattle.pli_declare_attributes.specs.Sets.{has, entry, built_in, outermost, set_of, each_once}
-use Rattle.pli_declare_attributes.specs.Agreement.{set_agrees, agrees_as_entry, agrees_as_built_in, agrees_as_variable, is_missing, is_plain}
-use Rattle.pli_declare_attributes.specs.Types.{number_of, scalar_of, is_bad_precision, is_bad_length}
-use Rattle.pli_declare_attributes.specs.Extents.{is_array, are_bad_bounds}
+use Rattle.pli_declare_attributes.specs.Agreement.{may_be_open, set_agrees, agrees_as_entry, agrees_as_built_in, agrees_as_variable, is_missing, is_plain}
+use Rattle.pli_declare_attributes.specs.Types.{number_of, scalar_of, is_bad_precision, is_bad_length, is_bad_star}
+use Rattle.pli_declare_attributes.specs.Types as types
+use Rattle.pli_declare_attributes.specs.Extents.{is_array, are_bad_bounds, are_bad_stars}
 use Rattle.pli_declare_attributes.specs.Faults.{first_of, shape_fault, description_fault, own_fault, attributes_fault, item_fault, entry_fault, parameters_in, parameter_place, result_place}
 use Rattle.pli_declare_attributes.specs.Completed.{Variable, OfVariable, OfEntry, OfBuiltIn, variable_of, completed_of}
 use Rattle.pli_declare_attributes.specs.laws.Laws.{IsScalar, ResultsAreScalars, ParametersAreOfScalars, VariablesAreOfScalars}
@@ -26,34 +28,35 @@ second_true true b h = h
 second_true false b h = cc
 
 -- attributes without a fault of their shape agree, and none is missing
-shape_agrees : (p : ItemPlace) (dimensions : List WrittenBounds) (once : Bool) (s : ℕ) (n : Option ℕ) → shape_fault p dimensions once s n ≡ None
+shape_agrees : (p : ItemPlace) (dimensions : List WrittenBounds) (once : Bool) (s : ℕ) (n : Option ℕ) (star : Bool) → shape_fault p dimensions once s n star ≡ None
     → (set_agrees p (is_array dimensions) s ≡ true) × (is_missing p s ≡ false)
 unfolding shape_fault
-shape_agrees p dimensions once s n h =
+shape_agrees p dimensions once s n star h =
     let two =
-    first_pair (once && set_agrees p (is_array dimensions) s) (is_missing p s) (is_bad_precision s n) (is_bad_length s n) (are_bad_bounds dimensions)
+    first_pair (once && set_agrees p (is_array dimensions) s) (is_missing p s) (is_bad_precision s n) (is_bad_length s n || is_bad_star (may_be_open p) star s)
+    (are_bad_bounds dimensions || are_bad_stars (may_be_open p) dimensions)
     AttributesConflict AttributesMissing BadPrecision BadLength BadBounds h in
     (second_true once (set_agrees p (is_array dimensions) s) two.0, two.1)
 
 -- a variable without a fault of its shape
-variable_scalar : (p : ItemPlace) (dimensions : List WrittenBounds) (once : Bool) (s : ℕ) (n : Option ℕ) → p.has_members ≡ false
-    → (set_agrees p (is_array dimensions) s ≡ true → agrees_as_variable p s ≡ true) → shape_fault p dimensions once s n ≡ None → IsScalar (scalar_of s n)
-variable_scalar p dimensions once s n alone agrees h =
-    let two = shape_agrees p dimensions once s n h in
-    let sound = shape_sound p dimensions once s n h in
+variable_scalar : (p : ItemPlace) (dimensions : List WrittenBounds) (once : Bool) (s : ℕ) (n : Option ℕ) (star : Bool) → p.has_members ≡ false
+    → (set_agrees p (is_array dimensions) s ≡ true → agrees_as_variable p s ≡ true) → shape_fault p dimensions once s n star ≡ None → IsScalar (scalar_of s n)
+variable_scalar p dimensions once s n star alone agrees h =
+    let two = shape_agrees p dimensions once s n star h in
+    let sound = shape_sound p dimensions once s n star h in
     scalar_whole s n (variable_whole p s (agrees two.0) two.1 alone) sound.precision sound.length_of
 
 pub results_are_scalars : ResultsAreScalars
 unfolding description_fault set_agrees
 results_are_scalars attributes h =
-    variable_scalar result_place [] (each_once 0 attributes) (set_of attributes) (number_of attributes) refl (λ a. a) (or_none _ _ h).0
+    variable_scalar result_place [] (each_once 0 attributes) (set_of attributes) (number_of attributes) (types.has_star attributes) refl (λ a. a) (or_none _ _ h).0
 
 pub parameters_are_of_scalars : ParametersAreOfScalars
 unfolding description_fault set_agrees
 parameters_are_of_scalars d h =
-    variable_scalar parameter_place d.dimensions (each_once 0 d.attributes) (set_of d.attributes) (number_of d.attributes) refl (λ a. a) (or_none _ _ h).0
+    variable_scalar parameter_place d.dimensions (each_once 0 d.attributes) (set_of d.attributes) (number_of d.attributes) (types.has_star d.attributes) refl (λ a. a) (or_none _ _ h).0
 
-variable_left : (e b : Bool) (ps : List Description) (r : Option Description) (v w : Variable) → (if e then OfEntry ps r else if b then OfBuiltIn else OfVariable w) ≡ OfVariable v
+variable_left : (e b : Bool) (ps : List ParameterType) (r : Option Description) (v w : Variable) → (if e then OfEntry ps r else if b then OfBuiltIn else OfVariable w) ≡ OfVariable v
     → (e ≡ false) × (b ≡ false) × (w ≡ v)
 variable_left true b ps r v w h = cc
 variable_left false true ps r v w h = cc
@@ -99,5 +102,5 @@ variables_are_of_scalars p i v d h is typed =
     let two = description_left p.has_members (scalar_of s n) d (ap (λ w. w.description) three.2 ∙ typed) in
     let own = (parts_none p i (or_none (attributes_fault p i) (entry_fault (parameters_in i.attributes)) h).0).0 in
     let within =
-    variable_scalar p i.dimensions (each_once 0 attributes) s n two.0 (only_variable p (is_array i.dimensions) s three.0 three.1) (or_none _ _ own).0 in
+    variable_scalar p i.dimensions (each_once 0 attributes) s n (types.has_star attributes) two.0 (only_variable p (is_array i.dimensions) s three.0 three.1) (or_none _ _ own).0 in
     subst IsScalar two.1 within

@@ -6,10 +6,11 @@ use Rattle.pli_base.specs.Declarations as tree
 use Rattle.pli_base.specs.declared.code.Code.{Code}
 use Rattle.pli_base.specs.declared.code.Code.TheVariants.{AttributesConflict, AttributesMissing, BadPrecision, BadLength, BadBounds, TooManyParameters, GenerationTooLarge}
 use Rattle.pli_base.specs.declared.declaration.WrittenBounds.{WrittenBounds}
-use Rattle.pli_declare_attributes.specs.Types.{number_of, is_bad_precision, is_bad_length}
-use Rattle.pli_declare_attributes.specs.Extents.{are_good, are_bad_bounds, is_array}
-use Rattle.pli_declare_attributes.specs.Agreement.{set_agrees, is_missing}
-use Rattle.pli_declare_attributes.specs.Faults.{first_of, shape_fault, description_fault, own_fault, attributes_fault, item_fault, parameters_fault, parameters_in, returned_fault, returned_in, entry_fault, lesser, is_too_large, parameter_of, described_scalar}
+use Rattle.pli_declare_attributes.specs.Types.{number_of, is_bad_precision, is_bad_length, is_bad_star}
+use Rattle.pli_declare_attributes.specs.Types as types
+use Rattle.pli_declare_attributes.specs.Extents.{are_good, are_bad_bounds, are_bad_stars, is_array}
+use Rattle.pli_declare_attributes.specs.Agreement.{may_be_open, set_agrees, is_missing}
+use Rattle.pli_declare_attributes.specs.Faults.{first_of, shape_fault, description_fault, own_fault, attributes_fault, item_fault, parameters_fault, parameters_in, returned_fault, returned_in, entry_fault, lesser, is_too_large_type, parameter_of, described_scalar}
 use Rattle.pli_declare_attributes.specs.Completed.{OfVariable, OfEntry, OfBuiltIn, variable_of, completed_of}
 use Rattle.std.proofs.lemmas.Bool.Decides.{nat_tests}
 use Rattle.pli_declare_attributes.specs.Sets.{set_of, each_once, outermost, has, entry, built_in}
@@ -31,13 +32,22 @@ last_three false false false true e t u v w x h = cc
 last_three false false false false true t u v w x h = cc
 last_three false false false false false t u v w x h = (refl, refl, refl)
 
-pub shape_sound : (p : ItemPlace) (dimensions : List WrittenBounds) (once : Bool) (s : ℕ) (n : Option ℕ) → shape_fault p dimensions once s n ≡ None → IsSound dimensions s n
+pub left_false : (a b : Bool) → (a || b) ≡ false → a ≡ false
+left_false true b h = cc
+left_false false b h = refl
+
+pub shape_sound : (p : ItemPlace) (dimensions : List WrittenBounds) (once : Bool) (s : ℕ) (n : Option ℕ) (star : Bool) → shape_fault p dimensions once s n star ≡ None → IsSound dimensions s n
 unfolding shape_fault
-shape_sound p dimensions once s n h =
+shape_sound p dimensions once s n star h =
     let three =
-    last_three (not (once && set_agrees p (is_array dimensions) s)) (is_missing p s) (is_bad_precision s n) (is_bad_length s n) (are_bad_bounds dimensions)
+    last_three (not (once && set_agrees p (is_array dimensions) s)) (is_missing p s) (is_bad_precision s n) (is_bad_length s n || is_bad_star (may_be_open p) star s)
+    (are_bad_bounds dimensions || are_bad_stars (may_be_open p) dimensions)
     AttributesConflict AttributesMissing BadPrecision BadLength BadBounds h in
-    record { precision = three.0; length_of = three.1; bounds = three.2 }
+    record {
+      precision = three.0;
+      length_of = left_false (is_bad_length s n) (is_bad_star (may_be_open p) star s) three.1;
+      bounds = left_false (are_bad_bounds dimensions) (are_bad_stars (may_be_open p) dimensions) three.2;
+    }
 
 second_false : (a b : Bool) → (a || not b) ≡ false → b ≡ true
 second_false true b h = cc
@@ -48,6 +58,10 @@ pub bounds_good : (dimensions : List WrittenBounds) → are_bad_bounds dimension
 unfolding are_bad_bounds
 bounds_good dimensions h = second_false (nat_lt 8 (length dimensions)) _ h
 
+pub few_dimensions : (dimensions : List WrittenBounds) → are_bad_bounds dimensions ≡ false → length dimensions ≤ 8
+unfolding are_bad_bounds
+few_dimensions dimensions h = grind (arith, nat_tests, left_false (nat_lt 8 (length dimensions)) (not (list_all are_good dimensions)) h)
+
 pub or_none : (a b : Option Code) → option_or a b ≡ None → (a ≡ None) × (b ≡ None)
 or_none None b h = (refl, h)
 or_none (Some c) b h = cc
@@ -55,13 +69,13 @@ or_none (Some c) b h = cc
 pub description_sound : (p : ItemPlace) (dimensions : List WrittenBounds) (attributes : List tree.DescribedAttribute) → description_fault p dimensions attributes ≡ None
     → IsSound dimensions (set_of attributes) (number_of attributes)
 unfolding description_fault
-description_sound p dimensions attributes h = shape_sound p dimensions (each_once 0 attributes) (set_of attributes) (number_of attributes) (or_none _ _ h).0
+description_sound p dimensions attributes h = shape_sound p dimensions (each_once 0 attributes) (set_of attributes) (number_of attributes) (types.has_star attributes) (or_none _ _ h).0
 
 pub own_sound : (p : ItemPlace) (i : tree.Item) → own_fault p i ≡ None → IsSound i.dimensions (set_of (map outermost i.attributes)) (number_of (map outermost i.attributes))
 unfolding own_fault
 own_sound p i h =
     let attributes = map outermost i.attributes in
-    shape_sound p i.dimensions (each_once 0 attributes) (set_of attributes) (number_of attributes) (or_none _ _ h).0
+    shape_sound p i.dimensions (each_once 0 attributes) (set_of attributes) (number_of attributes) (types.has_star attributes) (or_none _ _ h).0
 
 -- none of the parts has a fault
 pub parts_none : (p : ItemPlace) (i : tree.Item) → attributes_fault p i ≡ None
@@ -122,17 +136,17 @@ sizes_left p i held sizes is known h =
 
 pub too_many_parameters : (ds : List tree.ParameterDescription) → 64 < length ds → entry_fault ds ≡ Some TooManyParameters
 too_many_parameters ds many =
-    (two_faults (nat_lt 64 (length ds)) (list_any is_too_large (map parameter_of ds)) TooManyParameters GenerationTooLarge).0 (more 64 (length ds) many)
+    (two_faults (nat_lt 64 (length ds)) (list_any is_too_large_type (map parameter_of ds)) TooManyParameters GenerationTooLarge).0 (more 64 (length ds) many)
 
-pub too_large_parameter : (ds : List tree.ParameterDescription) → length ds ≤ 64 → list_any is_too_large (map parameter_of ds) ≡ true
+pub too_large_parameter : (ds : List tree.ParameterDescription) → length ds ≤ 64 → list_any is_too_large_type (map parameter_of ds) ≡ true
     → entry_fault ds ≡ Some GenerationTooLarge
 too_large_parameter ds few large =
-    (two_faults (nat_lt 64 (length ds)) (list_any is_too_large (map parameter_of ds)) TooManyParameters GenerationTooLarge).1 (not_more 64 (length ds) few) large
+    (two_faults (nat_lt 64 (length ds)) (list_any is_too_large_type (map parameter_of ds)) TooManyParameters GenerationTooLarge).1 (not_more 64 (length ds) few) large
 
-pub good_parameters : (ds : List tree.ParameterDescription) → length ds ≤ 64 → list_any is_too_large (map parameter_of ds) ≡ false
+pub good_parameters : (ds : List tree.ParameterDescription) → length ds ≤ 64 → list_any is_too_large_type (map parameter_of ds) ≡ false
     → entry_fault ds ≡ None
 good_parameters ds few small =
-    (two_faults (nat_lt 64 (length ds)) (list_any is_too_large (map parameter_of ds)) TooManyParameters GenerationTooLarge).2 (not_more 64 (length ds) few) small
+    (two_faults (nat_lt 64 (length ds)) (list_any is_too_large_type (map parameter_of ds)) TooManyParameters GenerationTooLarge).2 (not_more 64 (length ds) few) small
 
 -- what an item is, by its set
 pub is_entry : (p : ItemPlace) (i : tree.Item) (s : ℕ) → s ≡ set_of (map outermost i.attributes) → has s entry ≡ true

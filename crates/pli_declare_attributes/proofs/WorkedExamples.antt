@@ -6,7 +6,7 @@ use Rattle.pli_declare_attributes.specs.Extents.{are_bad_bounds}
 use Rattle.pli_declare_attributes.specs.Initials.{is_bad_initial}
 use Rattle.pli_declare_attributes.specs.Faults.{is_bad_area, shape_fault, description_fault, own_fault, parameter_of, attributes_fault, item_fault}
 use Rattle.pli_declare_attributes.specs.Completed.{variable_of, completed_of}
-use Rattle.pli_declare_attributes.specs.examples.Examples.{Defaults, StorageClasses, Arrays, Structures, Entries, TypesConflict, StorageConflicts, OtherConflicts, Missing, BadNumbers, BadInitials, BadAreas, PartsOfEntries}
+use Rattle.pli_declare_attributes.specs.examples.Examples.{Defaults, StorageClasses, Arrays, Structures, Entries, Asterisks, BadLengthStars, BadBoundStars, TypesConflict, StorageConflicts, OtherConflicts, Missing, BadNumbers, BadInitials, BadAreas, PartsOfEntries}
 
 pub defaults : Defaults
 unfolding set_agrees is_missing is_bad_precision is_bad_length scalar_of are_bad_bounds is_bad_initial is_bad_area shape_fault description_fault own_fault parameter_of attributes_fault item_fault variable_of completed_of
@@ -27,6 +27,18 @@ structures = (refl, refl)
 pub entries : Entries
 unfolding set_agrees is_missing is_bad_precision is_bad_length scalar_of are_bad_bounds is_bad_initial is_bad_area shape_fault description_fault own_fault parameter_of attributes_fault item_fault variable_of completed_of
 entries = ((refl, refl), (refl, refl), (refl, refl))
+
+pub asterisks : Asterisks
+unfolding set_agrees is_missing is_bad_precision is_bad_length scalar_of are_bad_bounds is_bad_initial is_bad_area shape_fault description_fault own_fault parameter_of attributes_fault item_fault variable_of completed_of
+asterisks = ((refl, refl), (refl, refl), (refl, refl), (refl, refl), (refl, refl), (refl, refl))
+
+pub bad_length_stars : BadLengthStars
+unfolding set_agrees is_missing is_bad_precision is_bad_length scalar_of are_bad_bounds is_bad_initial is_bad_area shape_fault description_fault own_fault parameter_of attributes_fault item_fault variable_of completed_of
+bad_length_stars = (refl, refl, refl, refl)
+
+pub bad_bound_stars : BadBoundStars
+unfolding set_agrees is_missing is_bad_precision is_bad_length scalar_of are_bad_bounds is_bad_initial is_bad_area shape_fault description_fault own_fault parameter_of attributes_fault item_fault variable_of completed_of
+bad_bound_stars = (refl, refl, refl)
 
 pub types_conflict : TypesConflict
 unfolding set_agrees is_missing is_bad_precision is_bad_length scalar_of are_bad_bounds is_bad_initial is_bad_area shape_fault description_fault own_fault parameter_of attributes_fault item_fault variable_of completed_of

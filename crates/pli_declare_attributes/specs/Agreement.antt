@@ -26,6 +26,17 @@ is_member Member = true
 is_member Parameter = false
 is_member Result = false
 
+-- a parameter
+abbrev pub is_parameter : Position → Bool
+is_parameter AtLevelOne = false
+is_parameter Member = false
+is_parameter Parameter = true
+is_parameter Result = false
+
+-- a `*` may stand in it: a parameter without members
+abbrev pub may_be_open : ItemPlace → Bool
+may_be_open p = is_parameter p.position && not p.has_members
+
 -- parameters and results have no members
 abbrev pub may_have_members : Position → Bool
 may_have_members AtLevelOne = true

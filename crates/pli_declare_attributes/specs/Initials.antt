@@ -11,7 +11,7 @@ use Rattle.pli_map.specs.Sizes.{count_of}
 use Rattle.pli_declare_attributes.specs.Sets.{area, has}
 use Rattle.pli_declare_attributes.specs.Sets as sets
 use Rattle.pli_declare_attributes.specs.Types.{scalar_of}
-use Rattle.pli_declare_attributes.specs.Extents.{all_bounds, are_bad_bounds}
+use Rattle.pli_declare_attributes.specs.Extents.{all_bounds, are_unknown}
 use Rattle.pli_declare_attributes.specs.declared.place.ItemPlace.{ItemPlace}
 
 -- the values of an item's INITIAL
@@ -56,10 +56,11 @@ is_more_than (Some elements) given = nat_lt elements given
 abbrev pub elements_of : ItemPlace → List WrittenBounds → Option ℕ
 elements_of p dimensions = option_map (λ above. above * count_of (all_bounds dimensions)) p.elements_above
 
--- how many elements levels above and these dimensions make together, where none of them has bad bounds
+-- how many elements levels above and these dimensions make together, where none of them has bad bounds or a
+-- `*`
 abbrev pub elements_inside : Option ℕ → List WrittenBounds → Option ℕ
 elements_inside above dimensions =
-    if are_bad_bounds dimensions then None
+    if are_unknown dimensions then None
     else option_map (λ count. count * count_of (all_bounds dimensions)) above
 
 -- INITIAL with members or with AREA, with a value that does not fit, or with too many

@@ -3,28 +3,33 @@ ghost use Rattle.std.specs.Prelude.{◌≡◌, true, false, None, map, option_ma
 ghost use Rattle.std.specs.List.{list_any};
 ghost use Rattle.pli_base.specs.views.DeclarationView.{described_view, parameter_view, attribute_view, item_view};
 ghost use Rattle.pli_map.specs.views.DescriptionView.{description_view};
+ghost use Rattle.pli_map.specs.views.ParameterView.{type_view};
+ghost use Rattle.pli_declare_attributes.specs.Agreement as agreement;
+ghost use Rattle.pli_declare_attributes.specs.Types.{is_bad_precision, is_bad_length};
 ghost use Rattle.pli_declare_attributes.specs.Extents.{are_bad_bounds};
 ghost use Rattle.pli_declare_attributes.specs.Faults.{parameter_of, parameter_fault, parameters_fault};
-ghost use Rattle.pli_declare_attributes.specs.Faults.{described_scalar, is_too_large, with_bounds, own_fault};
-ghost use Rattle.pli_declare_attributes.specs.Faults.{returned_fault, returned_in};
+ghost use Rattle.pli_declare_attributes.specs.Faults.{described_scalar, is_too_large_type, with_bounds};
+ghost use Rattle.pli_declare_attributes.specs.Faults.{with_type_bounds, type_taken, own_fault, returned_fault};
+ghost use Rattle.pli_declare_attributes.specs.Faults.{returned_in};
 ghost use Rattle.pli_declare_attributes.specs.Faults as spec;
-ghost use Rattle.pli_declare_attributes.specs.Completed.{storage_at, storage_of, scope_of, variable_of, completed_of};
+ghost use Rattle.pli_declare_attributes.specs.Completed.{storage_at, storage_of, scope_of, open_type, variable_of};
+ghost use Rattle.pli_declare_attributes.specs.Completed.{completed_of};
 ghost use Rattle.pli_declare_attributes.specs.views.CompletedView.{variable_view, completed_view, IsCompleted};
 ghost use Rattle.pli_declare_attributes.specs.views.CompletedView.{IsResult};
 
 use crate::completed::{Completed, DeclaredStorage, ScopeAttribute, Variable};
-use crate::extents::all_described;
+use crate::extents::{all_described, any_star};
 use crate::facts::ItemFacts;
-use crate::faults::{item_fault, result_fault};
+use crate::faults::{item_fault, may_be_open, result_fault};
 use crate::initials::values_of;
 use crate::parts::{parameters_of, returned_of};
 use crate::place::{ItemPlace, Position};
 use crate::set::AttributeSet;
 use crate::summary::Summary;
-use crate::types::scalar;
-use pli_base::declaration::{Attribute, DescribedAttribute, ParameterDescription};
+use crate::types::{element, scalar};
+use pli_base::declaration::{Attribute, DescribedAttribute, ParameterDescription, WrittenBounds};
 use pli_base::{Code, Failure};
-use pli_map::{Bounds, Description, size};
+use pli_map::{Bounds, Description, ParameterType, array_of, size};
 use std::alloc::{AllocError, Global};
 
 /// Why there is nothing to which an item's attributes are completed: its least fault, or want of memory.
@@ -83,24 +88,75 @@ pub(crate) fn bounded(
     })
 }
 
+/// The same of a type that may be open.
+fn bounded_type(
+    alloc: Global,
+    bounds: Vec<Bounds>,
+    element: ParameterType,
+) -> Result<ParameterType, AllocError>
+    ensures { IfOk result (λ t. type_view t ≡ with_type_bounds bounds.items (type_view element)) }
+{
+    if bounds.is_empty() {
+        return Ok(element);
+    }
+    array_of(alloc, bounds, element)
+}
+
+/// The type of a parameter of these dimensions and attributes.
+#[tactic(auto, using(crate::proofs::ShapeLemmas::bounds_good, crate::proofs::ShapeLemmas::few_dimensions))]
+fn type_taken(
+    alloc: Global,
+    dimensions: &[WrittenBounds],
+    summary: Summary,
+) -> Result<ParameterType, AllocError>
+    requires precision { is_bad_precision summary.set.0 summary.number ≡ false }
+    requires length { is_bad_length summary.set.0 summary.number ≡ false }
+    requires bounds { are_bad_bounds dimensions.now ≡ false }
+    ensures { IfOk result (λ t. type_view t ≡ type_taken dimensions.now summary.set.0 summary.number summary.star) }
+{
+    let element = element(summary);
+    if any_star(dimensions) {
+        return ParameterType::of_arrays(alloc, dimensions.len() as u8, element);
+    }
+    let bounds = all_described(alloc, dimensions)?;
+    bounded_type(alloc, bounds, element)
+}
+
+/// The type of a parameter in which a `*` stands; none of what else stands at a place.
+fn open_type(
+    alloc: Global,
+    place: ItemPlace,
+    dimensions: &[WrittenBounds],
+    summary: Summary,
+) -> Result<Option<ParameterType>, AllocError>
+    requires precision { is_bad_precision summary.set.0 summary.number ≡ false }
+    requires length { is_bad_length summary.set.0 summary.number ≡ false }
+    requires bounds { are_bad_bounds dimensions.now ≡ false }
+    ensures { IfOk result (λ t. option_map type_view t
+        ≡ open_type (agreement.may_be_open place) dimensions.now summary.set.0 summary.number summary.star) }
+{
+    if may_be_open(place) && (summary.star || any_star(dimensions)) {
+        return Ok(Some(type_taken(alloc, dimensions, summary)?));
+    }
+    Ok(None)
+}
+
 /// What the description of a parameter says, where it has no fault.
-fn parameter(alloc: Global, description: &ParameterDescription) -> Result<Description, AllocError>
+fn parameter(alloc: Global, description: &ParameterDescription) -> Result<ParameterType, AllocError>
     requires { parameter_fault (parameter_view description.now) ≡ None }
-    ensures { IfOk result (λ d. description_view d ≡ parameter_of (parameter_view description.now)) }
+    ensures { IfOk result (λ t. type_view t ≡ parameter_of (parameter_view description.now)) }
 {
     let summary = Summary::of_description(description.attributes.as_slice());
-    let bounds = all_described(alloc, description.dimensions.as_slice())?;
-    bounded(alloc, bounds, scalar(summary))
+    type_taken(alloc, description.dimensions.as_slice(), summary)
 }
 
 /// What descriptions of parameters say, where they have no fault.
 pub(crate) fn parameters(
     alloc: Global,
     descriptions: &[ParameterDescription],
-) -> Result<Vec<Description>, AllocError>
+) -> Result<Vec<ParameterType>, AllocError>
     requires { parameters_fault (map parameter_view descriptions.now) ≡ None }
-    ensures { IfOk result (λ ds. map description_view ds.items
-        ≡ map parameter_of (map parameter_view descriptions.now)) }
+    ensures { IfOk result (λ ts. map type_view ts.items ≡ map parameter_of (map parameter_view descriptions.now)) }
 {
     let mut all = Vec::with_capacity(alloc, descriptions.len())?;
     for description in descriptions {
@@ -109,12 +165,22 @@ pub(crate) fn parameters(
     Ok(all)
 }
 
-/// Whether one takes more than 1,000,000 bytes.
-pub(crate) fn any_too_large(descriptions: &[Description]) -> bool
-    ensures { result ≡ list_any is_too_large (map description_view descriptions.now) }
+/// Whether a parameter takes more than 1,000,000 bytes, where it is known how many.
+fn too_large(parameter: &ParameterType) -> bool
+    ensures { result ≡ is_too_large_type (type_view parameter.now) }
 {
-    for description in descriptions {
-        if size(description).is_none() {
+    match parameter.stated() {
+        Some(description) => size(description).is_none(),
+        None => false,
+    }
+}
+
+/// Whether one does.
+pub(crate) fn any_too_large(parameters: &[ParameterType]) -> bool
+    ensures { result ≡ list_any is_too_large_type (map type_view parameters.now) }
+{
+    for parameter in parameters {
+        if too_large(parameter) {
             return true;
         }
     }
@@ -162,7 +228,9 @@ fn variable<'a>(
     ensures { IfOk result (λ v. variable_view v ≡ variable_of place (item_view facts.now.item.now)) }
 {
     let summary = facts.summary;
-    let bounds = all_described(alloc, facts.item.dimensions.as_slice())?;
+    let dimensions = facts.item.dimensions.as_slice();
+    let bounds = all_described(alloc, dimensions)?;
+    let taken = open_type(alloc, place, dimensions, summary)?;
     let initial = values_of(facts.item.attributes.as_slice());
     let description = if place.has_members {
         None
@@ -172,6 +240,7 @@ fn variable<'a>(
     Ok(Variable {
         description,
         bounds,
+        taken,
         storage: storage_there(place.position, summary.set),
         scope: scope(summary.set),
         initial,

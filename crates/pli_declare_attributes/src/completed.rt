@@ -1,10 +1,11 @@
 //! What the attributes of a name are completed to.
 ghost use Rattle.std.specs.Prelude.{◌≡◌, map, option_map, IfOk};
 ghost use Rattle.pli_map.specs.views.DescriptionView.{description_view};
+ghost use Rattle.pli_map.specs.views.ParameterView.{type_view};
 ghost use Rattle.pli_declare_attributes.specs.views.CompletedView.{variable_view, completed_view};
 
 use pli_base::declaration::InitialValue;
-use pli_map::{Bounds, Description};
+use pli_map::{Bounds, Description, ParameterType};
 use std::alloc::{AllocError, Global};
 
 /// Where the generations of a variable come from.
@@ -26,10 +27,13 @@ pub enum ScopeAttribute {
 /// A variable, or a member of one.
 #[derive(Drop)]
 pub struct Variable<'a> {
-    /// Its type, apart from its own dimensions; `None` where it has members.
+    /// Its type, apart from its own dimensions; `None` where it has members. A `*` counts as 1 here and in its
+    /// dimensions.
     pub description: Option<Description>,
     /// Its own dimensions, none where it is no array.
     pub bounds: Vec<Bounds>,
+    /// Its type with its dimensions, where it is a parameter in which a `*` stands.
+    pub taken: Option<ParameterType>,
     /// `None` of members and of parameters, which have their storage from elsewhere.
     pub storage: Option<DeclaredStorage>,
     pub scope: ScopeAttribute,
@@ -43,7 +47,7 @@ pub enum Completed<'a> {
     Variable(Variable<'a>),
     /// An entry, which is external. Without descriptions it has no parameters.
     Entry {
-        parameters: Vec<Description>,
+        parameters: Vec<ParameterType>,
         result: Option<Description>,
     },
     BuiltIn,
@@ -62,12 +66,25 @@ pub fn copied_description(
     }
 }
 
-/// Copies descriptions of parameters.
+/// Copies a type, if there is one.
+fn copied_type(
+    alloc: Global,
+    taken: &Option<ParameterType>,
+) -> Result<Option<ParameterType>, AllocError>
+    ensures { IfOk result (λ copied. option_map type_view copied ≡ option_map type_view taken.now) }
+{
+    match taken {
+        Some(taken) => Ok(Some(taken.copy(alloc)?)),
+        None => Ok(None),
+    }
+}
+
+/// Copies types of parameters.
 fn copied_parameters(
     alloc: Global,
-    parameters: &[Description],
-) -> Result<Vec<Description>, AllocError>
-    ensures { IfOk result (λ copied. map description_view copied.items ≡ map description_view parameters.now) }
+    parameters: &[ParameterType],
+) -> Result<Vec<ParameterType>, AllocError>
+    ensures { IfOk result (λ copied. map type_view copied.items ≡ map type_view parameters.now) }
 {
     let mut copied = Vec::with_capacity(alloc, parameters.len())?;
     for parameter in parameters {
@@ -85,6 +102,7 @@ impl<'a> Variable<'a> {
         Ok(Variable {
             description: copied_description(alloc, &self.description)?,
             bounds,
+            taken: copied_type(alloc, &self.taken)?,
             storage: self.storage,
             scope: self.scope,
             initial: self.initial,

@@ -4,7 +4,7 @@ ghost use Rattle.std.specs.List.{list_all};
 ghost use Rattle.pli_base.specs.views.DeclarationView.{attribute_view, parameter_view, item_view};
 ghost use Rattle.pli_map.specs.views.DescriptionView.{description_view};
 ghost use Rattle.pli_declare_attributes.specs.Sets.{set_of, each_once, outermost};
-ghost use Rattle.pli_declare_attributes.specs.Types.{number_of, is_bad_precision, is_bad_length, scalar_of};
+ghost use Rattle.pli_declare_attributes.specs.Types.{number_of, has_star, is_bad_precision, is_bad_length, scalar_of};
 ghost use Rattle.pli_declare_attributes.specs.Initials.{values_in, fits, all_given};
 ghost use Rattle.pli_declare_attributes.specs.Faults.{parameters_in, returned_in, parameters_fault, returned_fault};
 ghost use Rattle.pli_declare_attributes.specs.Faults as spec;
@@ -39,6 +39,7 @@ pub struct ItemFacts<'a> {
     ghost is_set: { summary.set.0 ≡ set_of (map outermost (map attribute_view item.now.attributes.items)) },
     ghost is_once: { summary.once ≡ each_once 0 (map outermost (map attribute_view item.now.attributes.items)) },
     ghost is_number: { summary.number ≡ number_of (map outermost (map attribute_view item.now.attributes.items)) },
+    ghost is_star: { summary.star ≡ has_star (map outermost (map attribute_view item.now.attributes.items)) },
     ghost are_fitting: { is_bad_precision summary.set.0 summary.number ≡ false →
         is_bad_length summary.set.0 summary.number ≡ false
         → values_fit ≡ list_all (fits (scalar_of summary.set.0 summary.number))

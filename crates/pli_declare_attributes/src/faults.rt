@@ -1,6 +1,7 @@
 //! The least fault of attributes.
 ghost use Rattle.std.specs.Prelude.{◌≡◌, [], false, None, map};
 ghost use Rattle.pli_base.specs.views.DeclarationView.{described_view, parameter_view, item_view};
+ghost use Rattle.pli_declare_attributes.specs.Agreement.{may_be_open};
 ghost use Rattle.pli_declare_attributes.specs.Types.{is_bad_precision, is_bad_length};
 ghost use Rattle.pli_declare_attributes.specs.Extents.{are_bad_bounds};
 ghost use Rattle.pli_declare_attributes.specs.Initials.{is_bad_initial, values_in};
@@ -9,13 +10,13 @@ ghost use Rattle.pli_declare_attributes.specs.answers.Cuts.{cut_place};
 ghost use Rattle.pli_declare_attributes.specs.declared.place.ItemPlace.{ItemPlace as SpecPlace};
 
 use crate::agreement::{agree, missing};
-use crate::extents::bad_bounds;
+use crate::extents::{bad_bounds, bad_stars};
 use crate::facts::ItemFacts;
 use crate::initials::too_many;
 use crate::place::{ItemPlace, Position};
 use crate::set::AttributeSet;
 use crate::summary::Summary;
-use crate::types::{bad_length, bad_precision};
+use crate::types::{bad_length, bad_precision, bad_star};
 use pli_base::declaration::{DescribedAttribute, ParameterDescription, WrittenBounds};
 use pli_base::{Code, code_order};
 use std::cmp::Ordering;
@@ -35,21 +36,32 @@ pub fn lesser(first: Option<Code>, second: Option<Code>) -> Option<Code>
     }
 }
 
+/// Whether a `*` may stand at a place: that of a parameter without members.
+pub(crate) fn may_be_open(place: ItemPlace) -> bool
+    ensures { result ≡ may_be_open place }
+{
+    match place.position {
+        Position::Parameter => !place.has_members,
+        Position::AtLevelOne | Position::Member | Position::Result => false,
+    }
+}
+
 /// The first fault of agreement, of what is missing, of numbers and of bounds: A3 to A7.
 #[tactic(auto, unfolding(crate::specs::Faults::shape_fault))]
 fn shape_fault(place: ItemPlace, dimensions: &[WrittenBounds], summary: Summary) -> Option<Code>
-    ensures { result ≡ spec.shape_fault place dimensions.now summary.once summary.set.0 summary.number }
+    ensures { result ≡ spec.shape_fault place dimensions.now summary.once summary.set.0 summary.number summary.star }
 {
     let array = !dimensions.is_empty();
+    let parameter = may_be_open(place);
     if !(summary.once && agree(place, array, summary.set)) {
         Some(Code::AttributesConflict)
     } else if missing(place, summary.set) {
         Some(Code::AttributesMissing)
     } else if bad_precision(summary) {
         Some(Code::BadPrecision)
-    } else if bad_length(summary) {
+    } else if bad_length(summary) || bad_star(parameter, summary) {
         Some(Code::BadLength)
-    } else if bad_bounds(dimensions) {
+    } else if bad_bounds(dimensions) || bad_stars(parameter, dimensions) {
         Some(Code::BadBounds)
     } else {
         None

@@ -2,6 +2,7 @@
 ghost use Rattle.pli_declare_attributes.specs.laws.Laws.{SetsAreOfWhatStands, ResultsAreScalars};
 ghost use Rattle.pli_declare_attributes.specs.laws.Laws.{ParametersAreOfScalars, VariablesAreOfScalars};
 ghost use Rattle.pli_declare_attributes.specs.examples.Examples.{Defaults, StorageClasses, Arrays, Structures, Entries};
+ghost use Rattle.pli_declare_attributes.specs.examples.Examples.{Asterisks, BadLengthStars, BadBoundStars};
 ghost use Rattle.pli_declare_attributes.specs.examples.Examples.{TypesConflict, StorageConflicts, OtherConflicts};
 ghost use Rattle.pli_declare_attributes.specs.examples.Examples.{Missing, BadNumbers, BadInitials, BadAreas};
 ghost use Rattle.pli_declare_attributes.specs.examples.Examples.{PartsOfEntries};
@@ -13,6 +14,9 @@ pub fn worked_examples()
     ensures arrays { Arrays }
     ensures structures { Structures }
     ensures entries { Entries }
+    ensures asterisks { Asterisks }
+    ensures bad_length_stars { BadLengthStars }
+    ensures bad_bound_stars { BadBoundStars }
     ensures types_conflict { TypesConflict }
     ensures storage_conflicts { StorageConflicts }
     ensures other_conflicts { OtherConflicts }

@@ -21,7 +21,7 @@ mod types;
 
 pub use complete::{AttributeError, completed_item, completed_result};
 pub use completed::{Completed, DeclaredStorage, ScopeAttribute, Variable, copied_description};
-pub use described::{array_description, scalar_description};
+pub use described::{array_description, has_star, scalar_description};
 pub use facts::ItemFacts;
 pub use faults::{item_fault, lesser, result_fault};
 pub use initials::elements_within;

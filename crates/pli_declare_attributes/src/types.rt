@@ -1,11 +1,13 @@
 //! The type that data attributes say.
 ghost use Rattle.std.specs.Prelude.{◌≡◌, true, false};
 ghost use Rattle.pli_map.specs.views.DescriptionView.{description_view};
-ghost use Rattle.pli_declare_attributes.specs.Types.{is_up_to, number_or, is_bad_precision, is_bad_length, scalar_of};
+ghost use Rattle.pli_map.specs.views.ParameterView.{type_view};
+ghost use Rattle.pli_declare_attributes.specs.Types.{is_up_to, number_or, is_bad_precision, is_bad_length, is_bad_star};
+ghost use Rattle.pli_declare_attributes.specs.Types.{scalar_of, form_of, element_of};
 
 use crate::set::AttributeSet;
 use crate::summary::Summary;
-use pli_map::Description;
+use pli_map::{Description, ParameterType, StringForm};
 
 /// Digits of FIXED BINARY where no precision is written (own).
 const DEFAULT_PRECISION: u8 = 15;
@@ -45,6 +47,13 @@ pub(crate) fn bad_length(summary: Summary) -> bool
         || set.has(AttributeSet::BIT);
     is_string && !up_to(32_767, summary.number)
         || set.has(AttributeSet::AREA) && !up_to(1_000_000, summary.number)
+}
+
+/// Whether `*` is the length of what is no parameter's, or an area's size.
+pub(crate) fn bad_star(is_parameter: bool, summary: Summary) -> bool
+    ensures { result ≡ is_bad_star is_parameter summary.star summary.set.0 }
+{
+    summary.star && (!is_parameter || summary.set.has(AttributeSet::AREA))
 }
 
 /// A precision, or else the default.
@@ -105,5 +114,31 @@ pub(crate) fn scalar(summary: Summary) -> Description
         Description::Area(area_size(number))
     } else {
         Description::Area(DEFAULT_SIZE)
+    }
+}
+
+/// The form of the strings that data attributes say.
+fn form(set: AttributeSet) -> StringForm
+    ensures { result ≡ form_of set.0 }
+{
+    if set.has(AttributeSet::VARYING) {
+        StringForm::Varying
+    } else if set.has(AttributeSet::CHARACTER) {
+        StringForm::Character
+    } else {
+        StringForm::Bit
+    }
+}
+
+/// The type of an element that data attributes say: a string of any length, where its length is `*`.
+pub(crate) fn element(summary: Summary) -> ParameterType
+    requires precision { is_bad_precision summary.set.0 summary.number ≡ false }
+    requires length { is_bad_length summary.set.0 summary.number ≡ false }
+    ensures { type_view result ≡ element_of summary.star summary.set.0 summary.number }
+{
+    if summary.star {
+        ParameterType::of_strings(form(summary.set))
+    } else {
+        ParameterType::of(scalar(summary))
     }
 }

@@ -1,5 +1,5 @@
 -- An item that is not within the limits has one of A3 to A7.
-use Rattle.std.proofs.Common.{◌≡◌, ℕ, ◌≤◌, Bool, true, false, not, ◌&&◌, nat_le, Option, Some, None, List, [], ◌∷◌, length, map, refl, sym, ap, subst, ◌∙◌, inl, inr, arith}
+use Rattle.std.proofs.Common.{◌≡◌, ℕ, ◌≤◌, Bool, true, false, not, ◌&&◌, ◌||◌, nat_le, Option, Some, None, List, [], ◌∷◌, length, map, refl, sym, ap, subst, ◌∙◌, inl, inr, arith}
 use Rattle.std.specs.Option.{option_or}
 use Rattle.std.specs.Cmp.{nat_cmp_is}
 use Rattle.std.specs.Ordering.{nat_cmp}
@@ -13,12 +13,13 @@ use Rattle.pli_base.specs.declared.code.Code.{Code}
 use Rattle.pli_base.specs.declared.code.Code.TheVariants.{AttributesConflict, AttributesMissing, BadPrecision, BadLength, BadBounds, BadInitial}
 use Rattle.pli_base.specs.Declarations as tree
 use Rattle.pli_base.specs.declared.declaration.WrittenBounds.{WrittenBounds}
-use Rattle.pli_declare_attributes.specs.Agreement.{set_agrees, is_missing}
-use Rattle.pli_declare_attributes.specs.Extents.{are_bad_bounds, is_array}
+use Rattle.pli_declare_attributes.specs.Agreement.{may_be_open, set_agrees, is_missing}
+use Rattle.pli_declare_attributes.specs.Extents.{are_bad_bounds, are_bad_stars, is_array}
 use Rattle.pli_declare_attributes.specs.Faults.{first_of, first_in_order, lesser, shape_fault, area_fault, own_fault, parameters_in, parameters_fault, returned_in, returned_fault, entry_fault, attributes_fault, item_fault}
 use Rattle.pli_declare_attributes.specs.Initials.{values_in, is_bad_initial}
 use Rattle.pli_declare_attributes.specs.Sets.{outermost, set_of, each_once}
-use Rattle.pli_declare_attributes.specs.Types.{number_of, is_bad_precision, is_bad_length}
+use Rattle.pli_declare_attributes.specs.Types.{number_of, is_bad_precision, is_bad_length, is_bad_star}
+use Rattle.pli_declare_attributes.specs.Types as types
 use Rattle.pli_declare_attributes.specs.declared.place.ItemPlace.{ItemPlace}
 use Rattle.pli_declare_attributes.proofs.ShapeLemmas.{shape_sound}
 use Rattle.pli_declare_tables.specs.Tables.{Entry, no_entry}
@@ -36,11 +37,12 @@ first_five false false false true e h = cc
 first_five false false false false true h = cc
 first_five false false false false false h = refl
 
-shape_good : (p : ItemPlace) (dimensions : List WrittenBounds) (once : Bool) (s : ℕ) (n : Option ℕ) → is_of_shape (shape_fault p dimensions once s n) ≡ false
-    → shape_fault p dimensions once s n ≡ None
+shape_good : (p : ItemPlace) (dimensions : List WrittenBounds) (once : Bool) (s : ℕ) (n : Option ℕ) (star : Bool) → is_of_shape (shape_fault p dimensions once s n star) ≡ false
+    → shape_fault p dimensions once s n star ≡ None
 unfolding shape_fault
-shape_good p dimensions once s n h =
-    first_five (not (once && set_agrees p (is_array dimensions) s)) (is_missing p s) (is_bad_precision s n) (is_bad_length s n) (are_bad_bounds dimensions) h
+shape_good p dimensions once s n star h =
+    first_five (not (once && set_agrees p (is_array dimensions) s)) (is_missing p s) (is_bad_precision s n) (is_bad_length s n || is_bad_star (may_be_open p) star s)
+    (are_bad_bounds dimensions || are_bad_stars (may_be_open p) dimensions) h
 
 or_good : (f g : Option Code) → is_of_shape (option_or f g) ≡ false → is_of_shape f ≡ false
 or_good None g h = refl
@@ -79,9 +81,10 @@ own_good p i h =
     let attributes = map outermost i.attributes in
     let s = set_of attributes in
     let n = number_of attributes in
-    let shape = shape_fault p i.dimensions (each_once 0 attributes) s n in
+    let star = types.has_star attributes in
+    let shape = shape_fault p i.dimensions (each_once 0 attributes) s n star in
     let others = option_or (first_of ((is_bad_initial p i.dimensions s n (values_in i.attributes), BadInitial) ∷ [])) (area_fault p i.dimensions s) in
-    let sound = shape_sound p i.dimensions (each_once 0 attributes) s n (shape_good p i.dimensions (each_once 0 attributes) s n (or_good shape others h)) in
+    let sound = shape_sound p i.dimensions (each_once 0 attributes) s n star (shape_good p i.dimensions (each_once 0 attributes) s n star (or_good shape others h)) in
     record { bounds = sound.bounds; precision = sound.precision; length_of = sound.length_of }
 
 attributes_good : (p : ItemPlace) (i : tree.Item) → is_of_shape (attributes_fault p i) ≡ false → IsSoundItem i

@@ -4,6 +4,7 @@ use Rattle.std.specs.Prelude.{int_le}
 use Rattle.std.specs.Int.{next_multiple_of}
 use Rattle.std.specs.List.{list_all}
 use Rattle.pli_base.specs.declared.declaration.WrittenBounds.{WrittenBounds}
+use Rattle.pli_base.specs.declared.declaration.WrittenBounds.TheVariants as limits
 use Rattle.pli_map.specs.Description.{Description, Structure, Members, NoMembers}
 use Rattle.pli_map.specs.Layouts.{IsLayout}
 use Rattle.pli_map.specs.Sizes.{size_of, alignment_of, end_behind, greatest_alignment, count_of, extent_of}
@@ -79,7 +80,8 @@ second true b h = h
 second false b h = cc
 
 extent_positive : (b : WrittenBounds) → are_good b ≡ true → 1 ≤ extent_of (bounds_of b)
-extent_positive b h = rw (both _ (int_le (low_of b.low) (integer_of b.high)) _ h) (omega arith)
+extent_positive (limits.Stated low high) h = rw (both _ (int_le (low_of low) (integer_of high)) _ h) (omega arith)
+extent_positive limits.Any h = omega arith
 
 product_positive : (m n : ℕ) → 1 ≤ m → 1 ≤ n → 1 ≤ m * n
 product_positive zero n p q = absurd (omega arith)

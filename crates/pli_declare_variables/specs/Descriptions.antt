@@ -1,6 +1,6 @@
 -- The descriptions of variables, where they are known.
-use Rattle.std.specs.Prelude.{◌≡◌, ℕ, zero, suc, Bool, false, ◌&&◌, nat_le, Option, Some, None, is_none}
-use Rattle.std.specs.Prelude.{option_map, List, [], ◌∷◌, map, length, get_or, if◌then◌else◌}
+use Rattle.std.specs.Prelude.{◌≡◌, ℕ, zero, suc, Bool, false, not, ◌&&◌, ◌||◌, nat_le, Option, Some, None}
+use Rattle.std.specs.Prelude.{is_none, option_map, List, [], ◌∷◌, map, length, get_or, if◌then◌else◌}
 use Rattle.pli_base.specs.Name.{Name}
 use Rattle.pli_base.specs.Codes.{code_place}
 use Rattle.pli_base.specs.Declarations.{Item}
@@ -8,9 +8,11 @@ use Rattle.pli_base.specs.declared.code.Code.{Code}
 use Rattle.pli_base.specs.declared.code.Code.TheVariants.{BadBounds}
 use Rattle.pli_map.specs.Description.{Description, Structure, Members, NoMembers, MemberThen}
 use Rattle.pli_declare_attributes.specs.Extents.{all_bounds, are_bad_bounds}
+use Rattle.pli_declare_attributes.specs.Extents as extents
 use Rattle.pli_declare_attributes.specs.Faults.{with_bounds, described_scalar, is_too_large}
 use Rattle.pli_declare_attributes.specs.Sets.{outermost, set_of}
 use Rattle.pli_declare_attributes.specs.Types.{number_of, is_bad_precision, is_bad_length}
+use Rattle.pli_declare_attributes.specs.Types as types
 use Rattle.pli_declare_tables.specs.Tables.{Entry, no_entry, numbers_from}
 use Rattle.pli_declare_variables.specs.Places.{item_of, members_of, own_code, is_variable}
 
@@ -39,7 +41,7 @@ inside describe scalar [] = Some scalar
 inside describe scalar (k ∷ ks) = option_map Structure (members_made describe (k ∷ ks))
 
 -- the description of an item, where neither it nor an item in it has one of A3 to A7; its members stand
--- behind it, so they nest less deep than there are entries
+-- behind it, so they nest less deep than there are entries. A `*` counts as 1 in it
 abbrev pub described : (bound : ℕ) → List Entry → (codes : List (Option Code)) → ℕ → Option Description
 described zero entries codes n = None
 described (suc bound) entries codes n =
@@ -60,11 +62,15 @@ abbrev pub is_large : Option Description → Bool
 is_large None = false
 is_large (Some d) = is_too_large d
 
+-- a `*` stands in an item, so that its size is not known
+abbrev pub is_starred : Item → Bool
+is_starred item = types.has_star (map outermost item.attributes) || extents.has_star item.dimensions
+
 -- a variable of its own that is too large, where its size is known
 abbrev pub is_large_at : List Entry → (codes : List (Option Code)) → ℕ → Bool
 is_large_at entries codes n =
     is_none (get_or entries n no_entry).owner && is_variable (get_or entries n no_entry).entity
-    && is_large (described (length entries) entries codes n)
+    && is_large (described (length entries) entries codes n) && not (is_starred (item_of entries n))
 
 -- the same, by each item's least fault
 abbrev pub is_too_large_variable : List Entry → (parameters : List Name) → ℕ → Bool

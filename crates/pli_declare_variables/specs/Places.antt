@@ -9,7 +9,7 @@ use Rattle.pli_base.specs.Words.{same_name}
 use Rattle.pli_base.specs.declared.code.Code.{Code}
 use Rattle.pli_base.specs.Declarations.{Item}
 use Rattle.pli_map.specs.Sizes.{count_of}
-use Rattle.pli_declare_attributes.specs.Extents.{all_bounds, are_bad_bounds, is_array}
+use Rattle.pli_declare_attributes.specs.Extents.{all_bounds, are_unknown, is_array}
 use Rattle.pli_declare_attributes.specs.Faults.{item_fault}
 use Rattle.pli_declare_attributes.specs.Sets.{outermost, set_of, has, none_of, entry, built_in, based, area}
 use Rattle.pli_declare_attributes.specs.Sets.{pointer, offset}
@@ -78,12 +78,12 @@ abbrev pub position_of : (stands_alone is_named is_bad : Bool) → Position
 position_of alone is_named is_bad =
     if alone && is_named then Parameter else if alone && not is_bad then AtLevelOne else Member
 
--- how many elements the levels above make, where none of them has bad bounds
+-- how many elements the levels above make, where none of them has bad bounds or a `*`
 abbrev pub elements_through : List Entry → List ℕ → Option ℕ
 elements_through entries [] = Some 1
 elements_through entries (n ∷ ns) =
     let dimensions = (item_of entries n).dimensions in
-    if are_bad_bounds dimensions then None
+    if are_unknown dimensions then None
     else option_map (λ count. count * count_of (all_bounds dimensions)) (elements_through entries ns)
 
 -- where an item stands; the parameters are those of the procedure that is the block

@@ -2,11 +2,12 @@
 ghost use Rattle.std.specs.Prelude.{◌≡◌, map};
 ghost use Rattle.pli_base.specs.views.DeclarationView.{attribute_view};
 ghost use Rattle.pli_declare_tables.specs.views.TableView.{entry_view};
+ghost use Rattle.pli_declare_variables.specs.Descriptions.{is_starred};
 ghost use Rattle.pli_declare_variables.specs.Places.{item_in};
 ghost use Rattle.pli_declare_variables.specs.Places as places;
 
 use pli_base::declaration::{Attribute, WrittenBounds};
-use pli_declare_attributes::Named;
+use pli_declare_attributes::{Named, has_star};
 use pli_declare_tables::{Entity, Entry};
 
 /// Whether its level is a fault.
@@ -46,6 +47,13 @@ pub(crate) fn attributes<'a>(entry: &Entry<'a>) -> &'a [Attribute]
         } => facts.item.attributes.as_slice(),
         Entity::Label { .. } | Entity::Procedure { .. } => &[],
     }
+}
+
+/// Whether a `*` stands in it, so that its size is not known.
+pub(crate) fn is_starred(entry: &Entry) -> bool
+    ensures { result ≡ is_starred (item_in (entry_view entry.now).entity) }
+{
+    has_star(attributes(entry), dimensions(entry))
 }
 
 /// Whether it is a variable: an item that is neither an entry nor a built-in function.

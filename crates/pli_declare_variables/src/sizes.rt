@@ -1,7 +1,7 @@
 //! Which variables are too large. What the items take goes from the last to the first, so that no tree is built, and
 //! nothing recurs as deep as structures nest.
-ghost use Rattle.std.specs.Prelude.{◌≡◌, ◌<◌, ◌+◌, ◌++◌, ◌∷◌, [], ◌&&◌, false, map, length, get_or, set, Some, Option};
-ghost use Rattle.std.specs.Prelude.{option_map, OnOk, IfOk, ℕ};
+ghost use Rattle.std.specs.Prelude.{◌≡◌, ◌<◌, ◌+◌, ◌++◌, ◌∷◌, [], ◌&&◌, not, false, map, length, get_or, set, Some};
+ghost use Rattle.std.specs.Prelude.{Option, option_map, OnOk, IfOk, ℕ};
 ghost use Rattle.std.specs.Option.{is_none};
 ghost use Rattle.pli_base.specs.views.DeclarationView.{attribute_view};
 ghost use Rattle.pli_map.specs.Description.{Description, Structure, Members};
@@ -12,13 +12,13 @@ ghost use Rattle.pli_declare_tables.specs.answers.Answers.{AreBehindOwners};
 ghost use Rattle.pli_declare_tables.specs.Tables.{numbers_from};
 ghost use Rattle.pli_declare_tables.specs.views.TableView.{entry_view, entries_view};
 ghost use Rattle.pli_declare_variables.specs.Descriptions.{is_of_shape, described, inside, members_made, member_then};
-ghost use Rattle.pli_declare_variables.specs.Descriptions.{is_large, is_large_at, ShapesAreSound};
+ghost use Rattle.pli_declare_variables.specs.Descriptions.{is_large, is_starred, is_large_at, ShapesAreSound};
 ghost use Rattle.pli_declare_variables.specs.answers.Measures.{of_layout, IsMeasured, AreMeasured, IsFront};
 ghost use Rattle.pli_declare_variables.specs.Places as places;
 ghost use Rattle.pli_declare_variables.specs.Places.{item_in, members_of};
 ghost use Rattle.pli_declare_variables.specs.declared.sizes.Measured.TheVariants as variants;
 
-use crate::items::{attributes, dimensions, is_variable};
+use crate::items::{attributes, dimensions, is_starred, is_variable};
 use pli_base::Code;
 use pli_base::declaration::WrittenBounds;
 use pli_declare_attributes::{array_layout, scalar_layout};
@@ -190,12 +190,13 @@ fn measure_all(
     Ok(measured)
 }
 
-/// Whether an entry is a variable of its own, and over the limit.
+/// Whether an entry is a variable of its own, and over the limit; no `*` stands in it.
 fn is_large_variable(entry: &Entry, is_over: bool) -> bool
     ensures { result ≡ (is_none (entry_view entry.now).owner && places.is_variable (entry_view entry.now).entity
-        && is_over) }
+        && is_over
+        && not (is_starred (item_in (entry_view entry.now).entity))) }
 {
-    entry.owner.is_none() && is_variable(entry) && is_over
+    entry.owner.is_none() && is_variable(entry) && is_over && !is_starred(entry)
 }
 
 /// For each entry whether it is a variable of its own that is too large, where its size is known.

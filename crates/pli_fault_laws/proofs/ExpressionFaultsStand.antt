@@ -8,6 +8,8 @@ use Rattle.pli_base.specs.declared.code.Code.{Code}
 use Rattle.pli_base.specs.declared.code.Code.TheVariants.{WrongOperandType}
 use Rattle.pli_base.specs.declared.syntax.Joining.TheVariants.{Member, Located}
 use Rattle.pli_base.specs.declared.token.Fault.{Fault}
+use Rattle.pli_map.specs.Description.{Description}
+use Rattle.pli_map.specs.ParameterTypes.{ParameterType, stated}
 use Rattle.pli_resolve.specs.declared.built_in.BuiltInFunction.{BuiltInFunction}
 use Rattle.pli_resolve.specs.declared.built_in.BuiltInFunction.TheVariants as functions
 use Rattle.pli_type.specs.ExpressionTypes.{TypedValue}
@@ -17,7 +19,7 @@ use Rattle.pli_type.specs.Names.{NamedAs, AVariable, AFunction, AProcedure, ALab
 use Rattle.pli_type.specs.Names.{NamedProcedure, Naming}
 use Rattle.pli_type.specs.ProcedureCalls.{arguments_passed, or_wrong_argument, result_of}
 use Rattle.pli_type.specs.References.{Role, AsValue, AsArgument, AsLocator, Referent, StridedPart}
-use Rattle.pli_type.specs.References.{settled, begins_somewhere, LocatorBefore, NotLocated}
+use Rattle.pli_type.specs.References.{settled, open_settled, whole_meant, begins_somewhere, LocatorBefore, NotLocated}
 use Rattle.pli_type.specs.Typing as typing
 use Rattle.pli_type.specs.Typing.{Segment, OfVariable, OfFunction, OfEmpty, OfNoVariable, or_fault, first_token, denoted}
 use Rattle.pli_type.specs.Typing.{referred, joined, begun, is_call, all_subscripts, subscripts_in, all_arguments}
@@ -114,14 +116,24 @@ only_somewhere : (high at : ℕ) (o : Option Referent) → at < high → Only hi
 only_somewhere high at None h = told high _ _ h
 only_somewhere high at (Some r) h = fine high _
 
-only_settled : (high : ℕ) (role : Role) (locator : LocatorBefore) (at : ℕ) (v : NamedVariable) (xs : List TypedExpression)
-    (o : Option StridedPart) → at < high → Only high (settled role locator at v xs o)
-only_settled high role locator at v xs None h = told high _ _ h
-only_settled high role locator at v xs (Some p) h = only_if high _ _ _ (told high _ _ h) (only_somewhere high at _ h)
+only_settled : (high : ℕ) (role : Role) (locator : LocatorBefore) (at : ℕ) (v : NamedVariable) (whole : Description)
+    (xs : List TypedExpression) (o : Option StridedPart) → at < high → Only high (settled role locator at v whole xs o)
+only_settled high role locator at v whole xs None h = told high _ _ h
+only_settled high role locator at v whole xs (Some p) h = only_if high _ _ _ (told high _ _ h) (only_somewhere high at _ h)
+
+only_open : (high : ℕ) (role : Role) (locator : LocatorBefore) (at : ℕ) (v : NamedVariable) (xs : List TypedExpression)
+    (o : Option ParameterType) → at < high → Only high (open_settled role locator at v xs o)
+only_open high role locator at v xs None h = told high _ _ h
+only_open high role locator at v xs (Some type) h = only_if high _ _ _ (told high _ _ h) (only_somewhere high at _ h)
+
+only_whole : (high : ℕ) (role : Role) (locator : LocatorBefore) (at : ℕ) (v : NamedVariable) (xs : List TypedExpression)
+    (o : Option Description) → at < high → Only high (whole_meant role locator at v xs o)
+only_whole high role locator at v xs (Some d) h = only_settled high role locator at v d xs _ h
+only_whole high role locator at v xs None h = only_open high role locator at v xs _ h
 
 only_ended : (high : ℕ) (role : Role) (s : Segment) → Stands high s → Only high (ended role s)
 only_ended high role (OfVariable locator at v xs) h =
-    only_then high _ _ (only_settled high role locator at v xs _ h) (λ r. fine high _)
+    only_then high _ _ (only_whole high role locator at v xs (stated v.whole) h) (λ r. fine high _)
 only_ended high role (OfFunction value) h = fine high _
 only_ended high role OfEmpty h = fine high _
 only_ended high role (OfNoVariable at) h = told high _ _ h

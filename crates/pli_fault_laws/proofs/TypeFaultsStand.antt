@@ -12,6 +12,7 @@ use Rattle.pli_base.specs.declared.syntax.Identifier.{Identifier}
 use Rattle.pli_base.specs.declared.syntax.Joining.TheVariants.{Member, Located}
 use Rattle.pli_base.specs.declared.token.Fault.{Fault}
 use Rattle.pli_map.specs.Description.{Description}
+use Rattle.pli_map.specs.ParameterTypes.{ParameterType, Stated, AnyString}
 use Rattle.pli_parse.proofs.StatementTokens.{unit_read_rises}
 use Rattle.pli_type.specs.AllocationTyping.{in_turn, only_variable, place_given, kept_for, allocated, all_allocated, freed}
 use Rattle.pli_type.specs.Checked.{checked, typed_as}
@@ -38,16 +39,25 @@ only_aggregate : (high equals : ℕ) (target : Referent) (m : Meant) → equals 
 only_aggregate high equals target (OneValue v) h = told high _ _ h
 only_aggregate high equals target (WholeAggregate source) h = only_if high _ _ _ (fine high _) (told high _ _ h)
 
+only_scalar : (high : ℕ) (n : Naming) (equals : ℕ) (target : Referent) (type : ParameterType) (e : Expression) → equals < high
+    → Below high (expression_tokens e) → Only high (statements.one_assigned n equals target type e)
+only_scalar high n equals target (Stated d) e q h =
+    only_if high _ _ _
+    (only_then high _ _ (only_denoted high n AsValue e h) (λ given. only_or high CannotAssign equals _ q))
+    (only_then high _ _ (only_value_of high n e h)
+    (λ v. only_then high _ _ (only_or high CannotAssign equals _ q) (λ x. fine high _)))
+only_scalar high n equals target (AnyString form) e q h =
+    only_then high _ _ (only_value_of high n e h)
+    (λ v. only_then high _ _ (only_or high CannotAssign equals _ q) (λ x. fine high _))
+only_scalar high n equals target type e q h = told high _ _ q
+
 only_assigned : (high : ℕ) (n : Naming) (at equals : ℕ) (d : Denoted) (e : Expression) → at < high → equals < high
     → Below high (expression_tokens e) → Only high (statements.assigned n at equals d e)
 only_assigned high n at equals (DenotesVariable target) e a q h =
     only_if high _ _ _
     (only_then high _ _ (only_then high _ _ (only_denoted high n AsArgument e h) (λ d. fine high _))
     (λ m. only_aggregate high equals target m q))
-    (only_if high _ _ _
-    (only_then high _ _ (only_denoted high n AsValue e h) (λ d. only_or high CannotAssign equals _ q))
-    (only_then high _ _ (only_value_of high n e h)
-    (λ v. only_then high _ _ (only_or high CannotAssign equals _ q) (λ x. fine high _))))
+    (only_scalar high n equals target target.description e q h)
 only_assigned high n at equals (DenotesResult value) e a q h = told high _ _ a
 only_assigned high n at equals DenotesEmpty e a q h = told high _ _ a
 
@@ -153,7 +163,7 @@ only_repeat high n r kept (Some (tree.To to by)) h = fine high _
 only_repeat high n r kept (Some (tree.By by to)) h = fine high _
 only_repeat high n r kept (Some (tree.Repeat next)) h =
     only_then high _ _ (only_value_of high n next h)
-    (λ v. only_then high _ _ (only_or high CannotAssign (first_token next) _ (first_below high next h)) (λ x. fine high _))
+    (λ v. only_or high CannotAssign (first_token next) _ (first_below high next h))
 
 in_turn_stands : (high : ℕ) {A B : Type 0} (tokens : A → List ℕ) (each : A → Result B Fault)
     → ((x : A) → Below high (tokens x) → Only high (each x)) → (xs : List A) → Below high (tokens_of_each tokens xs)

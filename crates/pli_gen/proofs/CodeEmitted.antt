@@ -4,8 +4,8 @@ use Rattle.std.specs.List.{flat_map, list_all, AllByRecursion}
 use Rattle.std.proofs.lemmas.Bool.Decides.{nat_tests}
 use Rattle.std.proofs.lemmas.List.{append_assoc, append-nil, length-append, at_drop_more}
 use Rattle.pli_map.specs.Description.{Description}
-use Rattle.pli_map.specs.Same.{same}
-use Rattle.pli_map.specs.laws.SameLaws.{same_decides}
+use Rattle.pli_map.specs.ParameterTypes.{Stated, same_type}
+use Rattle.pli_map.specs.laws.ParameterLaws.{same_type_decides}
 use Rattle.pli_program.specs.Program as op
 use Rattle.pli_type_tree.specs.Templates.{Template}
 use Rattle.pli_type_keys.specs.Same.{same_template, same_value}
@@ -41,7 +41,7 @@ wide_is e (i ∷ is) = wide_is (with_instruction e i) is ∙ either e.is_wide (i
 -- the tables
 abbrev pub tables_after : NumberedTables → List op.Instruction → NumberedTables
 tables_after t is = record {
-  descriptions = numbered same t.descriptions (flat_map descriptions_named is);
+  descriptions = numbered same_type t.descriptions (flat_map descriptions_named is);
   templates = numbered same_template t.templates (flat_map templates_named is);
   values = numbered same_value t.values (flat_map values_named is);
 }
@@ -49,7 +49,7 @@ tables_after t is = record {
 after_one : (t : NumberedTables) (i : op.Instruction) (is : List op.Instruction) → tables_after (tables_with t i) is ≡ tables_after t (i ∷ is)
 after_one t i is =
     same_tables _ _ _ _ _ _
-    (sym (numbered_after same t.descriptions (descriptions_named i) (flat_map descriptions_named is)))
+    (sym (numbered_after same_type t.descriptions (descriptions_named i) (flat_map descriptions_named is)))
     (sym (numbered_after same_template t.templates (templates_named i) (flat_map templates_named is)))
     (sym (numbered_after same_value t.values (values_named i) (flat_map values_named is)))
 
@@ -61,14 +61,14 @@ tables_are e (i ∷ is) = tables_are (with_instruction e i) is ∙ after_one e.t
 -- a number that was given stays, whatever is numbered behind it
 kept : (t : NumberedTables) (i : op.Instruction) (is : List op.Instruction) (n : ℕ) → Fits n i → emitted t i ≡ emitted (tables_after t (i ∷ is)) i
 kept t (op.Field offset d) is n h =
-    ap (λ k. coded.Field offset (min k 65535)) (sym (first_number same same_decides t.descriptions d (flat_map descriptions_named is)))
-kept t (op.Fit d) is n h = ap (λ k. coded.Fit (min k 65535)) (sym (first_number same same_decides t.descriptions d (flat_map descriptions_named is)))
+    ap (λ k. coded.Field offset (min k 65535)) (sym (first_number same_type same_type_decides t.descriptions (Stated d) (flat_map descriptions_named is)))
+kept t (op.Fit d) is n h = ap (λ k. coded.Fit (min k 65535)) (sym (first_number same_type same_type_decides t.descriptions (Stated d) (flat_map descriptions_named is)))
 kept t (op.MakeDummy d) is n h =
     ap (λ k. coded.MakeDummy (min k 65535)) (sym (first_number same_template template_decides t.templates (dummy d) (flat_map templates_named is)))
 kept t (op.Constant v) is n h =
     ap (λ k. coded.Constant (min k 65535)) (sym (first_number same_value value_decides t.values v (flat_map values_named is)))
-kept t (op.Based d) is n h = ap (λ k. coded.Based (min k 65535)) (sym (first_number same same_decides t.descriptions d (flat_map descriptions_named is)))
-kept t (op.FreeBased d) is n h = ap (λ k. coded.FreeBased (min k 65535)) (sym (first_number same same_decides t.descriptions d (flat_map descriptions_named is)))
+kept t (op.Based d) is n h = ap (λ k. coded.Based (min k 65535)) (sym (first_number same_type same_type_decides t.descriptions (Stated d) (flat_map descriptions_named is)))
+kept t (op.FreeBased d) is n h = ap (λ k. coded.FreeBased (min k 65535)) (sym (first_number same_type same_type_decides t.descriptions (Stated d) (flat_map descriptions_named is)))
 kept t (op.AllocateBased u) is n h =
     ap (λ k. coded.AllocateBased (min k 65535)) (sym (first_number same_template template_decides t.templates u (flat_map templates_named is)))
 kept t (op.AllocateInArea u after) is n h =
@@ -163,8 +163,8 @@ module _ (t : NumberedTables) (place : ℕ → ℕ) where
     cut_short : (n : ℕ) → nat_le n 65535 ≡ true → min n 65535 ≡ n
     cut_short n h = grind (arith, nat_tests)
 
-    description_cut : (d : Description) → min (number_in same t.descriptions d) 65535 ≡ number_in same t.descriptions d
-    description_cut d = let h = number_within same t.descriptions d in cut _ (omega (arith, h, few_descriptions))
+    description_cut : (d : Description) → min (number_in same_type t.descriptions (Stated d)) 65535 ≡ number_in same_type t.descriptions (Stated d)
+    description_cut d = let h = number_within same_type t.descriptions (Stated d) in cut _ (omega (arith, h, few_descriptions))
 
     template_cut : (u : Template) → min (number_in same_template t.templates u) 65535 ≡ number_in same_template t.templates u
     template_cut u = let h = number_within same_template t.templates u in cut _ (omega (arith, h, few_templates))
@@ -199,6 +199,7 @@ module _ (t : NumberedTables) (place : ℕ → ℕ) where
     whole (op.FreeControlled global) h f = ap coded.FreeControlled (cut_short global f)
     whole (op.CountGenerations global) h f = ap coded.CountGenerations (cut_short global f)
     whole (op.On c block) h f = ap (coded.On c) (cut_short block f)
+    whole (op.SubscriptIn dimension) h f = ap coded.SubscriptIn (cut_byte dimension f)
     whole (op.SetTemporary number) h f = ap coded.SetTemporary (cut_short number f)
     whole (op.TakeTemporary number) h f = ap coded.TakeTemporary (cut_short number f)
     whole op.Nothing h f = absurd h

@@ -3,7 +3,7 @@ use Rattle.std.proofs.Common.{◌≡◌, ℕ, ◌≤◌, List, [], ◌∷◌, �
 use Rattle.std.specs.List.{AllByRecursion}
 use Rattle.pli_program.specs.Program as op
 use Rattle.pli_type_tree.specs.TypedTree.{Called, AllocatedItem, AllocatesControlled, AllocatesBased, AllocatesInArea}
-use Rattle.pli_type_tree.specs.TypedTree.{Form, Null, Assign, AssignAggregate, AssignArea, EmptyArea, Put, If, Begin, Group, While, Iterate, Call, Goto, Return, ReturnValue, Stop, On, Revert, Signal, Allocate, Free}
+use Rattle.pli_type_tree.specs.TypedTree.{Form, Null, Assign, AssignString, AssignAggregate, AssignArea, EmptyArea, Put, If, Begin, Group, While, Iterate, Call, Goto, Return, ReturnValue, Stop, On, Revert, Signal, Allocate, Free}
 use Rattle.pli_gen_emit.specs.TreeTranslation.{value_code, place_code, skip_code, items_code, conversion_code, allocation_code, allocations_code, behind}
 use Rattle.pli_gen_emit.specs.answers.Pieces.{simple_code}
 use Rattle.pli_gen_emit.specs.answers.Instructions.{step_place}
@@ -52,6 +52,10 @@ all_pass f p n h = simple_passes (simple_code f p) n h
 
 form_passes : (f : Form) (p n : ℕ) → behind (simple_code f p) p ≤ n → Passes n (simple_code f p)
 form_passes (Assign target value) p n h = all_pass (Assign target value) p n (both_then (place_code target) (value_code value) op.Store (place_simple target) (value_simple value) tt)
+form_passes (AssignString target value) p n h =
+    let rest = op.FitToPlace ∷ op.Store ∷ [] in
+    all_pass (AssignString target value) p n
+    (simple_both (place_code target ++ value_code value) rest (simple_both (place_code target) (value_code value) (place_simple target) (value_simple value)) (tt, (tt, tt)))
 form_passes (AssignAggregate target source) p n h = all_pass (AssignAggregate target source) p n (both_then (place_code target) (place_code source) op.Copy (place_simple target) (place_simple source) tt)
 form_passes (AssignArea target source) p n h = all_pass (AssignArea target source) p n (both_then (place_code target) (place_code source) op.AssignArea (place_simple target) (place_simple source) tt)
 form_passes (EmptyArea target) p n h = all_pass (EmptyArea target) p n (simple_both (place_code target) (op.EmptyArea ∷ []) (place_simple target) (tt, tt))

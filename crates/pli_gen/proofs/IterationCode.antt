@@ -4,7 +4,7 @@ use Rattle.std.specs.List.{AllByRecursion}
 use Rattle.pli_program.specs.Program as op
 use Rattle.pli_operation.specs.declared.operation.Operation.TheVariants as calculate
 use Rattle.pli_type_tree.specs.Iterations.{kept_by, limit_number, step_number, is_iterated}
-use Rattle.pli_type_tree.specs.TypedTree.{TypedExpression, Iteration, TypedRange, Once, ToBy, ByTo, Repeated}
+use Rattle.pli_type_tree.specs.TypedTree.{TypedExpression, Iteration, TypedRange, Once, ToBy, ByTo, Repeated, RepeatedString}
 use Rattle.pli_gen_emit.specs.TreeTranslation.{value_code, place_code, behind, keeps_code, conversion_code, sets_code, start_code, test_against, limit_test, while_test, guarded}
 use Rattle.pli_gen_emit.specs.TreeTranslation.{tests_code, counted_code, advances_code, back_code, turn_place, list_place, iterate_code}
 use Rattle.pli_gen_emit.specs.answers.Instructions.{step_place}
@@ -41,6 +41,10 @@ advances_simple (ByTo by to) i = counted_simple i 1
 advances_simple (Repeated next) i =
     let value = value_code next in
     simple_both (place_code i.control) (value ++ op.Store ∷ []) (place_simple i.control) (simple_both value (op.Store ∷ []) (value_simple next) (tt, tt))
+advances_simple (RepeatedString next) i =
+    let value = value_code next in
+    let rest = op.FitToPlace ∷ op.Store ∷ [] in
+    simple_both (place_code i.control) (value ++ rest) (place_simple i.control) (simple_both value rest (value_simple next) (tt, (tt, tt)))
 
 -- tests
 abbrev GuardSimple : Option (List op.Instruction) → Type 0

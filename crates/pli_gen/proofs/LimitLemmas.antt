@@ -3,12 +3,13 @@ use Rattle.std.proofs.Common.{◌≡◌, ℕ, suc, ◌+◌, ◌≤◌, ◌<◌, 
 use Rattle.std.specs.Global.{Global}
 use Rattle.std.specs.Prelude.{fold}
 use Rattle.std.specs.List.{list_all, list_any, sum_by, AllByRecursion}
+use Rattle.std.specs.Option.{option_and_then}
 use Rattle.std.proofs.lemmas.Bool.Decides.{nat_tests}
 use Rattle.std.proofs.lemmas.List.{at_drop_more, length-map}
 use Rattle.pli_map.specs.Description as tree
 use Rattle.pli_map.specs.Description.{Description}
-use Rattle.pli_map.specs.Same.{same}
-use Rattle.pli_map.specs.laws.SameLaws.{same_decides}
+use Rattle.pli_map.specs.ParameterTypes.{ParameterType, Stated, same_type, stated}
+use Rattle.pli_map.specs.laws.ParameterLaws.{same_type_decides}
 use Rattle.pli_program.specs.Program as op
 use Rattle.pli_map.specs.declared.description.Description as program
 use Rattle.pli_map.specs.declared.description.Description.TheVariants as made
@@ -18,10 +19,9 @@ use Rattle.pli_map.specs.views.DescriptionView.{description_view, members_view}
 use Rattle.pli_type_tree.specs.Templates.{InitialScalar, Template}
 use Rattle.pli_type_tree.specs.TypedTree as typed
 use Rattle.pli_type_tree.specs.TypedTree.{TypedUnit}
-use Rattle.pli_code.specs.CodeFields as fields
 use Rattle.pli_gen_emit.specs.TreeTranslation.{BlockTree, behind, block_code}
 use Rattle.pli_gen_emit.specs.Encoding.{NumberedTables, number_in, template_number, template_code, global_code, instruction_code, coded_blocks, coded_unit}
-use Rattle.pli_gen.specs.Limits.{is_over, member_count, has_many_members, one_has_many, has_many_slots, bytes_of, initial_bytes_of, initial_bytes, has_wide_number, is_too_long}
+use Rattle.pli_gen.specs.Limits.{is_over, member_count, has_many_members, one_has_many, has_many_types, has_many_slots, bytes_of, initial_bytes_of, initial_bytes, is_narrow, has_wide_number, is_too_long}
 use Rattle.pli_gen_emit.specs.answers.Instructions.{instruction_fits}
 use Rattle.pli_gen.specs.answers.Pieces.{block_fits, takes_many_slots, template_bytes, HaveDescriptions}
 use Rattle.pli_gen.proofs.FieldLemmas.{blocks_as_coded, instructions_as_coded, both_of}
@@ -85,13 +85,13 @@ few_members d v one is few found =
     found ∙ sym (structure_limits d v is ∙ ap (λ b. b || one_has_many (members_view v.items)) (within 65535 (length v.items) few))
 
 -- what a number of an entry leads to
-bytes_there : (ds : List Description) (d : Description) (is : List InitialScalar) → Has same same_decides ds d
-    → initial_bytes_of ds (record { description = number_in same ds d; initial = is }) ≡ template_bytes (record { description = d; initial = is })
+bytes_there : (ds : List ParameterType) (d : Description) (is : List InitialScalar) → Has same_type same_type_decides ds (Stated d)
+    → initial_bytes_of ds (record { description = number_in same_type ds (Stated d); initial = is }) ≡ template_bytes (record { description = d; initial = is })
 bytes_there ds d [] h = refl
-bytes_there ds d (i ∷ is) h = ap bytes_of (number_stands same same_decides ds d h)
+bytes_there ds d (i ∷ is) h = ap (λ o. bytes_of (option_and_then stated o)) (number_stands same_type same_type_decides ds (Stated d) h)
 
 module _ (t : NumberedTables) where
-  all_bytes : (ts : List Template) (n : ℕ) → AllByRecursion (λ u. list_any (same u.description) t.descriptions ≡ true) ts
+  all_bytes : (ts : List Template) (n : ℕ) → AllByRecursion (λ u. list_any (same_type (Stated u.description)) t.descriptions ≡ true) ts
       → fold (λ sum u. sum + initial_bytes_of t.descriptions u) n (map (template_code t) ts) ≡ fold (λ sum u. sum + template_bytes u) n ts
   all_bytes [] n h = refl
   all_bytes (u ∷ ts) n h =
@@ -130,17 +130,17 @@ module _ (t : NumberedTables) (u : TypedUnit) (bs : List BlockTree) (code : List
   wide_numbers = not (list_all block_fits bs && list_all instruction_fits code)
 
   abbrev pub large_parts : Bool
-  large_parts = list_any takes_many_slots bs || list_any has_many_members t.descriptions || nat_lt 16777216 (sum_by template_bytes t.templates) || wide_numbers
+  large_parts = list_any takes_many_slots bs || list_any has_many_types t.descriptions || nat_lt 16777216 (sum_by template_bytes t.templates) || wide_numbers
 
   wide_as_coded : has_wide_number (coded_unit t u bs code) ≡ wide_numbers
   wide_as_coded =
-      ap (λ b. not (b && list_all fields.instruction_fits (map (instruction_code t) code))) (blocks_as_coded t bs 0)
+      ap (λ b. not (b && list_all is_narrow (map (instruction_code t) code))) (blocks_as_coded t bs 0)
       ∙ ap (λ b. not (list_all block_fits bs && b)) (instructions_as_coded t code)
 
   abbrev whole : (templates globals blocks instructions : ℕ) (slots : Bool) (bytes : ℕ) (wide : Bool) → Bool
   whole templates globals blocks instructions slots bytes wide =
       is_over t.descriptions || nat_lt 65535 templates || is_over t.values || nat_lt 65535 globals || nat_lt 65535 blocks || nat_lt 65535 instructions
-      || slots || list_any has_many_members t.descriptions || nat_lt 16777216 bytes || wide
+      || slots || list_any has_many_types t.descriptions || nat_lt 16777216 bytes || wide
 
   pub limits_apart : (long_tables || long_lists || large_parts) ≡ is_too_long (coded_unit t u bs code)
   limits_apart =
@@ -152,8 +152,8 @@ module _ (t : NumberedTables) (u : TypedUnit) (bs : List BlockTree) (code : List
       let coded = coded_blocks t bs 0 in
       let e = sum_by template_bytes t.templates in
       let c = coded_unit t u bs code in
-      four_apart (long_tables || long_lists) s (list_any has_many_members t.descriptions) (nat_lt 16777216 e) wide_numbers
-      ∙ ap (λ c. c || s || list_any has_many_members t.descriptions || nat_lt 16777216 e || wide_numbers) (three_apart long_tables (is_over u.globals) (is_over bs) (is_over code))
+      four_apart (long_tables || long_lists) s (list_any has_many_types t.descriptions) (nat_lt 16777216 e) wide_numbers
+      ∙ ap (λ c. c || s || list_any has_many_types t.descriptions || nat_lt 16777216 e || wide_numbers) (three_apart long_tables (is_over u.globals) (is_over bs) (is_over code))
       ∙ sym (
       ap (λ m. whole m (length (map (global_code t) u.globals)) (length coded) (length (map (instruction_code t) code)) (list_any has_many_slots coded) (initial_bytes c) (has_wide_number c))
       (length-map t.templates (template_code t))
@@ -192,7 +192,7 @@ pub record Short (t : NumberedTables) (u : TypedUnit) (bs : List BlockTree) (cod
   pub blocks : length bs ≤ 65535
   pub instructions : length code ≤ 65535
   pub slots : list_any has_many_slots (coded_blocks t bs 0) ≡ false
-  pub members : list_any has_many_members t.descriptions ≡ false
+  pub members : list_any has_many_types t.descriptions ≡ false
   pub bytes : initial_bytes (coded_unit t u bs code) ≤ 16777216
   pub block_numbers : list_all block_fits bs ≡ true
   pub code_numbers : list_all instruction_fits code ≡ true

@@ -3,10 +3,10 @@ use Rattle.std.proofs.Common.{◌≡◌, ℕ, suc, nat_eq, if◌then◌else◌, 
 use Rattle.std.specs.List.{AllByRecursion}
 use Rattle.pli_program.specs.Program as op
 use Rattle.pli_type_tree.specs.TypedTree.{Callee, OfBlock, OfEntry}
-use Rattle.pli_type_tree.specs.TypedTree.{Root, InSlot, OfProgram, NewestOf, Located, TypedOperation, Fit, Operate, TypedExpression, Literal, Held, Calculated, Called, Generations, Address, AsPointer, AsOffset, TypedReference, Whole, Part}
-use Rattle.pli_type_tree.specs.TypedTree.{Operands, NoOperand, OperandThen, Subscripts, NoSubscript, SubscriptThen, TypedArguments, NoArgument, ByPlace, ByDummy}
-use Rattle.pli_type_tree.specs.TypedTree.{Conversion, ByOperations, AsPointerIn, AsOffsetIn, FreedItem, FreesControlled, FreesBased}
-use Rattle.pli_gen_emit.specs.TreeTranslation.{argument_count, root_code, call_instruction, operation_code, value_code, place_code, operands_code, subscripts_code, arguments_code, skip_code, items_code, operations_code, conversion_code, freeing_code, freeings_code, behind}
+use Rattle.pli_type_tree.specs.TypedTree.{Root, InSlot, OfProgram, NewestOf, Located, TypedOperation, Fit, Operate, TypedExpression, Literal, Held, Calculated, Called, Generations, Address, AsPointer, AsOffset, Bounded, TypedReference, Whole, Part, ElementOf}
+use Rattle.pli_type_tree.specs.TypedTree.{Operands, NoOperand, OperandThen, Subscripts, NoSubscript, SubscriptThen, TypedArguments, NoArgument, ByPlace, ByDummy, ByString}
+use Rattle.pli_type_tree.specs.TypedTree.{Conversion, ByOperations, AsPointerIn, AsOffsetIn, ToPlace, FreedItem, FreesControlled, FreesBased}
+use Rattle.pli_gen_emit.specs.TreeTranslation.{argument_count, root_code, call_instruction, operation_code, value_code, place_code, operands_code, subscripts_code, dimensions_code, arguments_code, skip_code, items_code, operations_code, conversion_code, freeing_code, freeings_code, behind}
 use Rattle.pli_gen_emit.specs.answers.Instructions.{step_place}
 use Rattle.pli_gen.specs.answers.Pieces.{Fits}
 
@@ -54,6 +54,8 @@ mutual
   value_simple (Address variable) = simple_both (place_code variable) (op.AddressOf ∷ []) (place_simple variable) (tt, tt)
   value_simple (AsPointer area offset) = both_then (value_code offset) (place_code area) op.ToPointer (value_simple offset) (place_simple area) tt
   value_simple (AsOffset area pointer) = both_then (value_code pointer) (place_code area) op.ToOffset (value_simple pointer) (place_simple area) tt
+  value_simple (Bounded which dimension variable) =
+      simple_both (place_code variable) (op.BoundOf which dimension ∷ []) (place_simple variable) (tt, tt)
 
   root_simple : (r : Root) → AllSimple (root_code r)
   root_simple (InSlot outward slot) = (tt, tt)
@@ -65,6 +67,8 @@ mutual
   place_simple (Whole root) = root_simple root
   place_simple (Part root offset description subscripts) =
       simple_both (root_code root) (op.Field offset description ∷ subscripts_code subscripts) (root_simple root) (tt, subscripts_simple subscripts)
+  place_simple (ElementOf root subscripts) =
+      simple_both (root_code root) (dimensions_code 1 subscripts) (root_simple root) (dimensions_simple 1 subscripts)
 
   operands_simple : (es : Operands) → AllSimple (operands_code es)
   operands_simple NoOperand = tt
@@ -75,11 +79,18 @@ mutual
   subscripts_simple (SubscriptThen stride value more) =
       simple_both (value_code value) (op.Subscript stride.low stride.high stride.multiplier ∷ subscripts_code more) (value_simple value) (tt, subscripts_simple more)
 
+  dimensions_simple : (k : ℕ) (es : Operands) → AllSimple (dimensions_code k es)
+  dimensions_simple k NoOperand = tt
+  dimensions_simple k (OperandThen value more) =
+      simple_both (value_code value) (op.SubscriptIn k ∷ dimensions_code (suc k) more) (value_simple value) (tt, dimensions_simple (suc k) more)
+
   arguments_simple : (args : TypedArguments) → AllSimple (arguments_code args)
   arguments_simple NoArgument = tt
   arguments_simple (ByPlace variable more) = simple_both (place_code variable) (arguments_code more) (place_simple variable) (arguments_simple more)
   arguments_simple (ByDummy description value more) =
       simple_both (value_code value) (op.MakeDummy description ∷ arguments_code more) (value_simple value) (tt, arguments_simple more)
+  arguments_simple (ByString form value more) =
+      simple_both (value_code value) (op.MakeStringDummy form ∷ arguments_code more) (value_simple value) (tt, arguments_simple more)
 
 operations_simple : (os : List TypedOperation) → AllSimple (operations_code os)
 operations_simple [] = tt
@@ -89,6 +100,7 @@ pub conversion_simple : (conversion : Conversion) → AllSimple (conversion_code
 conversion_simple (ByOperations operations) = operations_simple operations
 conversion_simple (AsPointerIn area) = simple_both (place_code area) (op.ToPointer ∷ []) (place_simple area) (tt, tt)
 conversion_simple (AsOffsetIn area) = simple_both (place_code area) (op.ToOffset ∷ []) (place_simple area) (tt, tt)
+conversion_simple (ToPlace operations) = simple_both (operations_code operations) (op.FitToPlace ∷ []) (operations_simple operations) (tt, tt)
 
 pub items_simple : (es : List TypedExpression) → AllSimple (items_code es)
 items_simple [] = tt

@@ -5,7 +5,7 @@ use Rattle.pli_program.specs.Program as op
 use Rattle.pli_code.specs.declared.instruction.Instruction.{Instruction}
 use Rattle.pli_code.specs.declared.instruction.Instruction.TheVariants as coded
 use Rattle.pli_type_tree.specs.TypedTree.{TypedExpression, TypedStatement, Statement, TypedStatements, NoStatement, StatementThen, NoElse, Else}
-use Rattle.pli_type_tree.specs.TypedTree.{Form, Null, Assign, AssignAggregate, AssignArea, EmptyArea, Put, If, Begin, Group, While, Iterate, Call, Goto, Return, ReturnValue, Stop, On, Revert, Signal, Allocate, Free}
+use Rattle.pli_type_tree.specs.TypedTree.{Form, Null, Assign, AssignString, AssignAggregate, AssignArea, EmptyArea, Put, If, Begin, Group, While, Iterate, Call, Goto, Return, ReturnValue, Stop, On, Revert, Signal, Allocate, Free}
 use Rattle.pli_gen_emit.specs.TreeTranslation.{BlockTree, behind, value_code, statement_code, form_code, list_code, end_code, block_code, blocks_code}
 use Rattle.pli_gen_emit.specs.TreeTranslation.{places_in, places_in_form, places_among, places_of, statement_place, list_place}
 use Rattle.pli_gen_emit.specs.answers.Instructions.{step_place}
@@ -109,6 +109,7 @@ mutual
       iterate_passed number iteration (list_code statements) p m d e ∙ list_begins statements (list_place iteration p) m d
   form_begins number Null p m d e = none_in_form Null p m d
   form_begins number (Assign target value) p m d e = none_in_form (Assign target value) p m d
+  form_begins number (AssignString target value) p m d e = none_in_form (AssignString target value) p m d
   form_begins number (AssignAggregate target source) p m d e = none_in_form (AssignAggregate target source) p m d
   form_begins number (AssignArea target source) p m d e = none_in_form (AssignArea target source) p m d
   form_begins number (EmptyArea target) p m d e = none_in_form (EmptyArea target) p m d

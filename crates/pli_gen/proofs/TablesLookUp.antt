@@ -1,24 +1,25 @@
 -- The tables of a unit's code have what its instructions and blocks name.
 use Rattle.std.specs.Prelude.{◌≡◌, ℕ, Some, None, List, [], ◌∷◌, ◌++◌, map, length, slice_get, refl}
 use Rattle.std.specs.List.{flat_map, AllByRecursion}
+use Rattle.std.specs.Option.{option_and_then}
 use Rattle.std.proofs.Common.{ap, ◌∙◌, option_map}
 use Rattle.std.proofs.lemmas.Option.{slice_get-map}
 use Rattle.pli_map.specs.Description.{Description}
-use Rattle.pli_map.specs.Same.{same}
+use Rattle.pli_map.specs.ParameterTypes.{ParameterType, Stated, same_type, stated}
 use Rattle.pli_map.specs.Variables.{Variable}
 use Rattle.pli_program.specs.Program as op
 use Rattle.pli_program.specs.Program.{Block, UnitCode}
 use Rattle.pli_type_tree.specs.Templates.{Template, variable_of}
 use Rattle.pli_type_tree.specs.TypedTree.{Global, OwnVariable, ExternalVariable, EntryPoint, TypedUnit}
-use Rattle.pli_code.specs.CodeTables.{Code, looked_up, template_at, variables_at, block_looked_up, program_of, there, naming, with_description, described}
+use Rattle.pli_code.specs.CodeTables.{Code, looked_up, template_at, variables_at, block_looked_up, program_of, there, naming, with_description, described, stated_at}
 use Rattle.pli_code.specs.CodeTables.{global_before, globals_linked}
 use Rattle.pli_gen_emit.specs.TreeTranslation.{BlockTree, blocks_of, blocks_at, block_at, block_code, behind, instructions_of, globals_code, unit_code}
 use Rattle.pli_gen_emit.specs.Encoding.{NumberedTables, tables_for, descriptions_named, templates_named, values_named, dummy}
 use Rattle.pli_type_keys.specs.Same.{same_value, same_template}
 use Rattle.pli_gen_emit.specs.Encoding.{signature_descriptions, global_descriptions, global_templates, block_templates}
-use Rattle.pli_gen_emit.specs.Encoding.{description_number, template_number, instruction_code, template_code, global_code, coded_blocks, coded_unit, code_of}
+use Rattle.pli_gen_emit.specs.Encoding.{stated_number, template_number, instruction_code, template_code, global_code, coded_blocks, coded_unit, code_of}
 use Rattle.pli_gen.specs.laws.ListLaws.{all_front, all_back}
-use Rattle.pli_map.specs.laws.SameLaws.{same_decides}
+use Rattle.pli_map.specs.laws.ParameterLaws.{same_type_decides}
 use Rattle.pli_type_keys.specs.laws.KeyLaws.{value_decides, template_decides}
 use Rattle.pli_gen_emit.proofs.TableNumbers.{Has, number_stands, has_all}
 use Rattle.pli_gen.proofs.UnitLemmas.{globals_described}
@@ -27,25 +28,25 @@ module _ (tables : NumberedTables) (u : TypedUnit) (bs : List BlockTree) (code :
   abbrev c : Code
   c = coded_unit tables u bs code
 
-  abbrev HasDescription : Description → Type 0
-  HasDescription d = Has same same_decides tables.descriptions d
+  abbrev HasDescription : ParameterType → Type 0
+  HasDescription d = Has same_type same_type_decides tables.descriptions d
 
   abbrev HasTemplate : Template → Type 0
   HasTemplate t = Has same_template template_decides tables.templates t
 
-  description_there : (d : Description) → HasDescription d → slice_get c.descriptions (description_number tables d) ≡ Some d
-  description_there d h = number_stands same same_decides tables.descriptions d h
+  description_there : (d : Description) → HasDescription (Stated d) → stated_at c (stated_number tables d) ≡ Some d
+  description_there d h = ap (option_and_then stated) (number_stands same_type same_type_decides tables.descriptions (Stated d) h)
 
-  template_there : (t : Template) → HasTemplate t → HasDescription t.description → template_at c (template_number tables t) ≡ Some t
+  template_there : (t : Template) → HasTemplate t → HasDescription (Stated t.description) → template_at c (template_number tables t) ≡ Some t
   template_there t h d =
       ap (with_description c) (slice_get-map (template_code tables) tables.templates (template_number tables t) ∙ ap (option_map (template_code tables)) (number_stands same_template template_decides tables.templates t h))
       ∙ ap (described c t.initial) (description_there t.description d)
 
   -- a template with its description
   abbrev InTables : Template → Type 0
-  InTables t = HasTemplate t × HasDescription t.description
+  InTables t = HasTemplate t × HasDescription (Stated t.description)
 
-  both : (ts : List Template) → AllByRecursion HasTemplate ts → AllByRecursion HasDescription (map (λ t. t.description) ts) → AllByRecursion InTables ts
+  both : (ts : List Template) → AllByRecursion HasTemplate ts → AllByRecursion HasDescription (map (λ t. Stated t.description) ts) → AllByRecursion InTables ts
   both [] h d = tt
   both (t ∷ ts) h d = ((h.0, d.0), both ts h.1 d.1)
 
@@ -119,11 +120,11 @@ looked_up_is_unit_code u links =
     let outside = flat_map global_templates u.globals in
     let from_signature = signature_descriptions u.signature in
     let from_globals = flat_map global_descriptions u.globals in
-    let from_blocks = map (λ t. t.description) inside in
+    let from_blocks = map (λ t. Stated t.description) inside in
     let from_code = flat_map descriptions_named code in
     let has = HasDescription t u bs code in
     let has_template = HasTemplate t u bs code in
-    let described_all = has_all same same_decides (from_signature ++ from_globals ++ from_blocks ++ from_code) [] in
+    let described_all = has_all same_type same_type_decides (from_signature ++ from_globals ++ from_blocks ++ from_code) [] in
     let templates_all = has_all same_template template_decides (outside ++ inside ++ flat_map templates_named code) [] in
     let values_all = has_all same_value value_decides (flat_map values_named code) [] in
     let described_front = all_front has (from_signature ++ from_globals ++ from_blocks) from_code described_all in

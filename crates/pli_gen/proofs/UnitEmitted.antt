@@ -1,7 +1,7 @@
 -- What was emitted for a unit: the tables, the numbers and the instructions of its code.
 use Rattle.std.proofs.Common.{◌≡◌, ◌++◌, ℕ, ◌≤◌, ◌∙◌, not, Bool, true, false, List, [], map, length, refl, sym, ap, subst, arith}
 use Rattle.std.specs.List.{flat_map, list_all}
-use Rattle.pli_map.specs.Same.{same}
+use Rattle.pli_map.specs.ParameterTypes.{Stated, same_type}
 use Rattle.pli_program.specs.Program as op
 use Rattle.pli_type_keys.specs.Same.{same_template}
 use Rattle.pli_type_tree.specs.TypedTree.{TypedUnit}
@@ -44,11 +44,11 @@ module _ (u : TypedUnit) (e : Emitted) (made : IsEmitted u e) where
 
   pub numbered_for : tables ≡ tables_for u blocks code
   numbered_for =
-      let ds = signature_descriptions u.signature ++ flat_map global_descriptions u.globals ++ map (λ t. t.description) (block_templates blocks) in
+      let ds = signature_descriptions u.signature ++ flat_map global_descriptions u.globals ++ map (λ t. Stated t.description) (block_templates blocks) in
       let ts = flat_map global_templates u.globals ++ block_templates blocks in
       after
       ∙ same_tables _ _ _ _ _ _
-      (sym (numbered_after same [] ds (flat_map descriptions_named code)))
+      (sym (numbered_after same_type [] ds (flat_map descriptions_named code)))
       (sym (numbered_after same_template [] ts (flat_map templates_named code)))
       refl
 

@@ -2,9 +2,8 @@
 use Rattle.std.proofs.Common.{◌≡◌, ℕ, ◌||◌, ◌&&◌, not, nat_lt, Bool, true, false, if◌then◌else◌, None, List, [], ◌∷◌, ◌++◌, map, length, refl, sym, ap, subst, ◌∙◌}
 use Rattle.std.specs.List.{flat_map, list_all, list_any, AllByRecursion}
 use Rattle.std.proofs.lemmas.List.{length-map}
-use Rattle.pli_map.specs.Description.{Description}
-use Rattle.pli_map.specs.Same.{same}
-use Rattle.pli_map.specs.laws.SameLaws.{same_decides}
+use Rattle.pli_map.specs.ParameterTypes.{ParameterType, Stated, same_type}
+use Rattle.pli_map.specs.laws.ParameterLaws.{same_type_decides}
 use Rattle.pli_value.specs.Value.{Value}
 use Rattle.pli_program.specs.Program as op
 use Rattle.pli_type_tree.specs.Templates.{Template}
@@ -17,7 +16,7 @@ use Rattle.pli_gen_emit.specs.Encoding.{NumberedTables, tables_for, numbered, de
 use Rattle.pli_type_keys.specs.Same.{same_template, same_value}
 use Rattle.pli_gen_emit.specs.Encoding.{signature_descriptions, global_descriptions, global_templates, block_templates}
 use Rattle.pli_gen_emit.specs.Encoding.{template_code, signature_code, global_code, instruction_code, coded_block, coded_blocks, coded_unit, code_of}
-use Rattle.pli_gen.specs.Limits.{is_over, has_many_slots, has_many_members, initial_bytes, is_too_long}
+use Rattle.pli_gen.specs.Limits.{is_over, has_many_slots, has_many_types, initial_bytes, is_narrow, is_too_long}
 use Rattle.pli_gen.specs.laws.ListLaws.{all_front, all_back}
 use Rattle.pli_gen_emit.specs.answers.Pieces.{entries_of}
 use Rattle.pli_gen_emit.specs.answers.Instructions.{instruction_fits, retargeted}
@@ -38,29 +37,29 @@ module _ {X : Type 0} (P : X → Type 0) (alike : X → X → Bool) where
       let b = list_any (alike x) table in
       put_all xs (if b then table else table ++ x ∷ []) (put_one table x b h k.0) k.1
 
-module _ (ds : List Description) where
+module _ (ds : List ParameterType) where
   abbrev HasIts : Template → Type 0
-  HasIts t = list_any (same t.description) ds ≡ true
+  HasIts t = list_any (same_type (Stated t.description)) ds ≡ true
 
-  variables_stand : (ts : List Template) → AllByRecursion (Has same same_decides ds) (map (λ t. t.description) ts) → AllByRecursion HasIts ts
+  variables_stand : (ts : List Template) → AllByRecursion (Has same_type same_type_decides ds) (map (λ t. Stated t.description) ts) → AllByRecursion HasIts ts
   variables_stand [] h = tt
   variables_stand (t ∷ ts) h = (h.0, variables_stand ts h.1)
 
   -- those of globals
-  pub globals_described : (gs : List Global) → AllByRecursion (Has same same_decides ds) (flat_map global_descriptions gs)
-      → AllByRecursion (Has same same_decides ds) (map (λ t. t.description) (flat_map global_templates gs))
+  pub globals_described : (gs : List Global) → AllByRecursion (Has same_type same_type_decides ds) (flat_map global_descriptions gs)
+      → AllByRecursion (Has same_type same_type_decides ds) (map (λ t. Stated t.description) (flat_map global_templates gs))
   globals_described [] h = tt
   globals_described (OwnVariable kind t ∷ gs) h = (h.0, globals_described gs h.1)
   globals_described (ExternalVariable name kind t ∷ gs) h = (h.0, globals_described gs h.1)
   globals_described (EntryPoint name s ∷ gs) h =
-      globals_described gs (all_back (Has same same_decides ds) (signature_descriptions s) (flat_map global_descriptions gs) h)
+      globals_described gs (all_back (Has same_type same_type_decides ds) (signature_descriptions s) (flat_map global_descriptions gs) h)
 
-  templates_stand : (is : List op.Instruction) → AllByRecursion (Has same same_decides ds) (flat_map descriptions_named is) → AllByRecursion HasIts (flat_map templates_named is)
+  templates_stand : (is : List op.Instruction) → AllByRecursion (Has same_type same_type_decides ds) (flat_map descriptions_named is) → AllByRecursion HasIts (flat_map templates_named is)
   templates_stand [] h = tt
   templates_stand (op.MakeDummy d ∷ is) h = (h.0, templates_stand is h.1)
   templates_stand (op.AllocateBased t ∷ is) h = (h.0, templates_stand is h.1)
   templates_stand (op.AllocateInArea t after ∷ is) h = (h.0, templates_stand is h.1)
-  templates_stand (i ∷ is) h = templates_stand is (all_back (Has same same_decides ds) (descriptions_named i) (flat_map descriptions_named is) h)
+  templates_stand (i ∷ is) h = templates_stand is (all_back (Has same_type same_type_decides ds) (descriptions_named i) (flat_map descriptions_named is) h)
 
 -- each template's description is in its table
 pub tables_stand : (u : TypedUnit) (bs : List BlockTree) (code : List op.Instruction) → HaveDescriptions (tables_for u bs code)
@@ -69,11 +68,11 @@ tables_stand u bs code =
     let outside = flat_map global_templates u.globals in
     let from_signature = signature_descriptions u.signature in
     let from_globals = flat_map global_descriptions u.globals in
-    let from_blocks = map (λ t. t.description) variables in
+    let from_blocks = map (λ t. Stated t.description) variables in
     let from_code = flat_map descriptions_named code in
     let ds = (tables_for u bs code).descriptions in
-    let has = Has same same_decides ds in
-    let all = has_all same same_decides (from_signature ++ from_globals ++ from_blocks ++ from_code) [] in
+    let has = Has same_type same_type_decides ds in
+    let all = has_all same_type same_type_decides (from_signature ++ from_globals ++ from_blocks ++ from_code) [] in
     let front = all_front has (from_signature ++ from_globals ++ from_blocks) from_code all in
     let globals = all_back has from_signature from_globals (all_front has (from_signature ++ from_globals) from_blocks front) in
     let blocks = all_back has (from_signature ++ from_globals) from_blocks front in
@@ -120,7 +119,7 @@ module _ (places : List (ℕ × ℕ)) where
     all_targets [] = refl
     all_targets (i ∷ is) = ap (λ x. x ∷ map (retargeted place) is) (one_target i) ∙ ap (λ xs. with_target places i ∷ xs) (all_targets is)
 
-abbrev pub coded : CodedSignature → List Description → List CodedTemplate → List Value → List CodedGlobal → List CodedBlock → List Instruction → Code
+abbrev pub coded : CodedSignature → List ParameterType → List CodedTemplate → List Value → List CodedGlobal → List CodedBlock → List Instruction → Code
 coded s ds ts vs gs bs is = record { signature = s; descriptions = ds; templates = ts; values = vs; globals = gs; blocks = bs; instructions = is }
 
 module _ (t : NumberedTables) where
@@ -130,7 +129,7 @@ module _ (t : NumberedTables) where
 
   -- a unit's code, part by part
   pub unit_coded : (u : TypedUnit) (bs : List BlockTree) (code : List op.Instruction) (entries : List ℕ)
-      (s : CodedSignature) (ds : List Description) (ts : List CodedTemplate) (vs : List Value) (gs : List CodedGlobal) (cs : List CodedBlock) (is : List Instruction)
+      (s : CodedSignature) (ds : List ParameterType) (ts : List CodedTemplate) (vs : List Value) (gs : List CodedGlobal) (cs : List CodedBlock) (is : List Instruction)
       → entries ≡ entries_of bs 0 → s ≡ signature_code t u.signature
       → ds ≡ t.descriptions → ts ≡ map (template_code t) t.templates → vs ≡ t.values → gs ≡ map (global_code t) u.globals → cs ≡ blocks_with_entries t bs entries
       → is ≡ map (instruction_code t) code
@@ -150,8 +149,8 @@ tables_again : (u : TypedUnit) (bs : List BlockTree) → tables_for u bs (blocks
 tables_again u bs =
     let code = blocks_code bs 0 in
     let places = places_of bs 0 in
-    let with : List Description → List Template → List Value → NumberedTables = λ ds ts vs. record {
-      descriptions = numbered same [] (signature_descriptions u.signature ++ flat_map global_descriptions u.globals ++ map (λ t. t.description) (block_templates bs) ++ ds);
+    let with : List ParameterType → List Template → List Value → NumberedTables = λ ds ts vs. record {
+      descriptions = numbered same_type [] (signature_descriptions u.signature ++ flat_map global_descriptions u.globals ++ map (λ t. Stated t.description) (block_templates bs) ++ ds);
       templates = numbered same_template [] (flat_map global_templates u.globals ++ block_templates bs ++ ts);
       values = numbered same_value [] vs;
     } in
@@ -169,12 +168,12 @@ limits_again t u bs code other e fit =
     let c = coded_unit t u bs code in
     let number = instruction_code t in
     let count : length (map number code) ≡ length (map number other) = length-map code number ∙ e ∙ sym (length-map other number) in
-    let narrow : list_all fields.instruction_fits (map number code) ≡ list_all fields.instruction_fits (map number other) =
+    let narrow : list_all is_narrow (map number code) ≡ list_all is_narrow (map number other) =
     instructions_as_coded t code ∙ fit ∙ sym (instructions_as_coded t other) in
     let with : ℕ → Bool → Bool = λ n b. is_over c.descriptions || is_over c.templates || is_over c.values || is_over c.globals || is_over c.blocks || nat_lt 65535 n
-    || list_any has_many_slots c.blocks || list_any has_many_members c.descriptions || nat_lt 16777216 (initial_bytes c)
+    || list_any has_many_slots c.blocks || list_any has_many_types c.descriptions || nat_lt 16777216 (initial_bytes c)
     || not (list_all fields.block_fits c.blocks && b) in
-    ap (λ n. with n (list_all fields.instruction_fits (map number code))) count ∙ ap (with (length (map number other))) narrow
+    ap (λ n. with n (list_all is_narrow (map number code))) count ∙ ap (with (length (map number other))) narrow
 
 -- the parts of a unit, as they are made
 module _ (u : TypedUnit) (bs : List BlockTree) (code : List op.Instruction) (t : NumberedTables)
@@ -200,7 +199,7 @@ abbrev signed : List ℕ → CodedSignature
 signed ps = record { parameters = ps; result = None }
 
 -- code whose parts are empty
-pub nothing_coded : (ps : List ℕ) (ds : List Description) (ts : List CodedTemplate) (vs : List Value) (gs : List CodedGlobal) (cs : List CodedBlock) (is : List Instruction)
+pub nothing_coded : (ps : List ℕ) (ds : List ParameterType) (ts : List CodedTemplate) (vs : List Value) (gs : List CodedGlobal) (cs : List CodedBlock) (is : List Instruction)
     → ps ≡ [] → ds ≡ [] → ts ≡ [] → vs ≡ [] → gs ≡ [] → cs ≡ [] → is ≡ [] → coded (signed ps) ds ts vs gs cs is ≡ no_code
 nothing_coded ps ds ts vs gs cs is p d t v g c i =
     let s = signed [] in

@@ -1,1 +1,2 @@
+pub mod ExtentExamples
 pub mod TranslationExamples

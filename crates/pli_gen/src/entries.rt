@@ -1,7 +1,7 @@
 //! The entries of a unit's tables, copied, with the numbers of what they name. Each function appends to a list of its
 //! caller's, so that none has a list to let go of where memory runs out.
 ghost use Rattle.std.specs.Prelude.{◌≡◌, ◌++◌, map, replicate, IfOk, OnOk};
-ghost use Rattle.pli_map.specs.views.DescriptionView.{description_view};
+ghost use Rattle.pli_map.specs.views.ParameterView.{type_view};
 ghost use Rattle.pli_value.specs.Value.{value_view};
 ghost use Rattle.pli_type_tree.specs.views.TemplateView.{initial_view, groups_view};
 ghost use Rattle.pli_code.specs.views.CodeView.{coded_template_view};
@@ -11,23 +11,22 @@ ghost use Rattle.pli_gen_emit.specs.views.TableView.{tables_view};
 use crate::numbers::Numbers;
 use pli_code::CodedTemplate;
 use pli_gen_emit::{NumberedTables, template_key};
-use pli_map::Description;
+use pli_map::ParameterType;
 use pli_type_tree::{InitialScalar, VariableGroup};
 use pli_value::Value;
 use std::alloc::{AllocError, Global};
 
-/// Appends copies of the descriptions of a table.
-pub(crate) fn copy_descriptions(
+/// Appends copies of the types in the table of descriptions.
+pub(crate) fn copy_types(
     alloc: Global,
     tables: &NumberedTables<'_>,
-    copied: &mut Vec<Description>,
+    copied: &mut Vec<ParameterType>,
 ) -> Result<(), AllocError>
     ensures { OnOk result
-        (map description_view copied.new.items ≡ map description_view copied.old.items
-        ++ (tables_view tables.now).descriptions) }
+        (map type_view copied.new.items ≡ map type_view copied.old.items ++ (tables_view tables.now).descriptions) }
 {
     for key in tables.descriptions.as_slice() {
-        copied.push(key.description.copy(alloc)?)?;
+        copied.push(key.of.copy(alloc)?)?;
     }
     Ok(())
 }

@@ -1,4 +1,5 @@
 //! Worked examples of the translation.
+ghost use Rattle.pli_gen.specs.examples.ExtentExamples.{ControlFitted, ExtentsUsed, TypesNumbered};
 ghost use Rattle.pli_gen.specs.examples.TranslationExamples.{AssignedAndPrinted, PartOfStructure};
 ghost use Rattle.pli_gen.specs.examples.TranslationExamples.{ArgumentsHanded, AggregateCopied, Counted};
 ghost use Rattle.pli_gen.specs.examples.TranslationExamples.{JumpsAndBlocks, WholeUnit, NumberedWell};
@@ -10,7 +11,7 @@ ghost use Rattle.pli_gen.specs.examples.TranslationExamples.{UnitsNumbered};
 
 /// Worked examples: an assignment and PUT; a reference with subscripts; a call; an aggregate; a group with a control
 /// variable; jumps between blocks; tables; globals and calls of entries; ALLOCATE, FREE and ALLOCATION; what
-/// pointers lead to; what areas hold; ON-units.
+/// pointers lead to; what areas hold; ON-units; extents that are those of the argument.
 #[tactic(auto, using(crate::proofs::UnitsNumbered::units_numbered))]
 pub fn worked_examples()
     ensures assigned_and_printed { AssignedAndPrinted }
@@ -33,4 +34,7 @@ pub fn worked_examples()
     ensures areas_used { AreasUsed }
     ensures units_established { UnitsEstablished }
     ensures units_numbered { UnitsNumbered }
+    ensures extents_used { ExtentsUsed }
+    ensures control_fitted { ControlFitted }
+    ensures types_numbered { TypesNumbered }
 {}

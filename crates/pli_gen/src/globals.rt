@@ -1,32 +1,33 @@
 //! What the external procedure takes and gives, and the globals, with the numbers of what they name.
 ghost use Rattle.std.specs.Prelude.{◌≡◌, ◌++◌, map, option_map, replicate, IfOk, OnOk};
 ghost use Rattle.pli_map.specs.views.DescriptionView.{description_view};
+ghost use Rattle.pli_map.specs.views.ParameterView.{type_view};
 ghost use Rattle.pli_type_tree.specs.views.GlobalView.{signature_view, global_group_view, globals_view};
 ghost use Rattle.pli_code.specs.CodeTables as plain;
 ghost use Rattle.pli_code.specs.views.CodeView.{global_view};
-ghost use Rattle.pli_gen_emit.specs.Encoding.{description_number, signature_code, global_code};
+ghost use Rattle.pli_gen_emit.specs.Encoding.{stated_number, signature_code, global_code, description_number};
 ghost use Rattle.pli_gen_emit.specs.views.TableView.{tables_view};
 
 use crate::numbers::Numbers;
 use pli_base::Name;
 use pli_code::{CodedGlobal, CodedSignature};
 use pli_gen_emit::template_key;
-use pli_map::Description;
+use pli_map::{Description, ParameterType};
 use pli_program::VariableKind;
 use pli_type_tree::{GlobalGroup, Signature};
 use std::alloc::{AllocError, Global};
 
-/// Appends the numbers of descriptions.
-pub(crate) fn encode_descriptions<'a>(
+/// Appends the numbers of types of parameters.
+pub(crate) fn encode_types<'a>(
     numbers: Numbers<'_, 'a>,
-    descriptions: &'a [Description],
+    types: &'a [ParameterType],
     list: &mut Vec<u16>,
 ) -> Result<(), AllocError>
     ensures { let number = description_number (tables_view numbers.entry.tables.now) in
-        OnOk result (list.new.items ≡ list.old.items ++ map number (map description_view descriptions.now)) }
+        OnOk result (list.new.items ≡ list.old.items ++ map number (map type_view types.now)) }
 {
-    for description in descriptions {
-        list.push(numbers.description(description))?;
+    for parameter in types {
+        list.push(numbers.of_type(parameter.lent()))?;
     }
     Ok(())
 }
@@ -36,7 +37,7 @@ pub(crate) fn result_number<'a>(
     numbers: Numbers<'_, 'a>,
     result_of: &'a Option<Description>,
 ) -> Option<u16>
-    ensures { let number = description_number (tables_view numbers.entry.tables.now) in
+    ensures { let number = stated_number (tables_view numbers.entry.tables.now) in
         result ≡ option_map number (option_map description_view result_of.now) }
 {
     match result_of {
@@ -137,7 +138,7 @@ fn encode_entries<'a>(
         ≡ map global_view globals.old.items ++ map (λ name. plain.EntryPoint name coded) names.now) }
 {
     let mut taken = Vec::new(alloc);
-    encode_descriptions(numbers, signature.parameters.as_slice(), &mut taken)?;
+    encode_types(numbers, signature.parameters.as_slice(), &mut taken)?;
     let given = result_number(numbers, &signature.result);
     put_entries(alloc, globals, names, taken.as_slice(), given)
 }

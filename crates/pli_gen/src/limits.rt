@@ -2,19 +2,20 @@
 ghost use Rattle.std.specs.Prelude.{◌≡◌, ◌+◌, ◌≤◌, ◌||◌, ◌&&◌, not, nat_lt, min, map, length};
 ghost use Rattle.std.specs.List.{list_all, list_any, sum_by};
 ghost use Rattle.pli_map.specs.views.DescriptionView.{description_view, members_view};
+ghost use Rattle.pli_map.specs.views.ParameterView.{type_seen, type_view};
 ghost use Rattle.pli_type_tree.specs.views.GlobalView.{global_group_view, globals_view};
 ghost use Rattle.pli_type_tree.specs.views.TemplateView.{groups_view};
 ghost use Rattle.pli_type_tree.specs.views.TypedView.{unit_view};
 ghost use Rattle.pli_gen_emit.specs.Encoding.{code_of};
 ghost use Rattle.pli_gen_emit.specs.answers.Units.{IsEmitted};
-ghost use Rattle.pli_gen.specs.Limits.{is_over, has_many_members, one_has_many, is_too_long};
+ghost use Rattle.pli_gen.specs.Limits.{is_over, has_many_members, has_many_types, one_has_many, is_too_long};
 ghost use Rattle.pli_gen.specs.answers.Pieces.{takes_many_slots, template_bytes, block_fits};
 ghost use Rattle.pli_gen_emit.specs.views.BlockView.{block_tree, block_trees};
 ghost use Rattle.pli_type_keys.specs.views.KeyView.{templated};
 ghost use Rattle.pli_gen_emit.specs.views.TableView.{tables_view};
 
 use pli_gen_emit::{BlockSource, Emitted, NumberedTables};
-use pli_map::{Description, far_size};
+use pli_map::{Description, ParameterType, TypeRef, far_size};
 use pli_type_keys::TemplateKey;
 use pli_type_tree::{GlobalGroup, TypedUnit, VariableGroup};
 
@@ -81,12 +82,36 @@ fn one_has_many(members: &[Description]) -> bool
     false
 }
 
-/// Whether a description in a table has too many members somewhere.
+/// The same of what is stated of a type. No parameter is a structure in which a `*` stands.
+#[cycle(types)]
+fn has_many_within(of: &ParameterType) -> bool
+    ensures { result ≡ has_many_types (type_view of.now) }
+{
+    match of {
+        ParameterType::Stated(description) => has_many_members(description),
+        ParameterType::AnyString(_) => false,
+        ParameterType::AnyArray { element, .. } => has_many_within(element),
+        ParameterType::ArrayOf { element, .. } => has_many_within(element),
+        ParameterType::StructureOf(_) => true,
+    }
+}
+
+/// The same of a type that is lent.
+fn has_many_types(of: TypeRef<'_>) -> bool
+    ensures { result ≡ has_many_types (type_seen of.entry) }
+{
+    match of {
+        TypeRef::Stated(description) => has_many_members(description),
+        TypeRef::Open(of) => has_many_within(of),
+    }
+}
+
+/// Whether a type in a table has too many members somewhere.
 fn has_wide_structure(tables: &NumberedTables<'_>) -> bool
-    ensures { result ≡ list_any has_many_members (tables_view tables.now).descriptions }
+    ensures { result ≡ list_any has_many_types (tables_view tables.now).descriptions }
 {
     for key in tables.descriptions.as_slice() {
-        if has_many_members(key.description) {
+        if has_many_types(key.of) {
             return true;
         }
     }
@@ -201,7 +226,7 @@ fn has_large_part(emitted: &Emitted<'_>) -> bool
         let t = tables_view e.emitter.tables in
         let blocks = block_trees e.blocks.items in
         result
-        ≡ list_any takes_many_slots blocks || list_any has_many_members t.descriptions
+        ≡ list_any takes_many_slots blocks || list_any has_many_types t.descriptions
         || nat_lt 16777216 (sum_by template_bytes t.templates)
         || not (list_all block_fits blocks && not e.emitter.is_wide) }
 {

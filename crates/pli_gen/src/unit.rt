@@ -11,8 +11,8 @@ ghost use Rattle.pli_gen.specs.Limits.{is_too_long};
 ghost use Rattle.pli_gen.specs.answers.Pieces.{block_fits, blocks_with_entries, no_code};
 ghost use Rattle.pli_gen_emit.specs.views.TableView.{tables_view};
 
-use crate::entries::{copy_descriptions, copy_values, encode_templates, encode_variables};
-use crate::globals::{encode_descriptions, encode_globals, result_number};
+use crate::entries::{copy_types, copy_values, encode_templates, encode_variables};
+use crate::globals::{encode_globals, encode_types, result_number};
 use crate::gotos::land_gotos;
 use crate::numbers::Numbers;
 use pli_code::{Block, Code};
@@ -93,9 +93,9 @@ pub(crate) fn encode_unit(
     let tables = &emitted.emitter.tables;
     let numbers = Numbers { tables };
     let taken = unit.signature.parameters.as_slice();
-    encode_descriptions(numbers, taken, &mut code.signature.parameters)?;
+    encode_types(numbers, taken, &mut code.signature.parameters)?;
     code.signature.result = result_number(numbers, &unit.signature.result);
-    copy_descriptions(alloc, tables, &mut code.descriptions)?;
+    copy_types(alloc, tables, &mut code.descriptions)?;
     encode_templates(alloc, numbers, &mut code.templates)?;
     copy_values(alloc, tables, &mut code.values)?;
     encode_globals(alloc, numbers, unit.globals.as_slice(), &mut code.globals)?;

@@ -2,9 +2,8 @@
 use Rattle.std.proofs.Common.{◌≡◌, ℕ, zero, suc, ◌==◌, Bool, false, List, [], ◌∷◌, map, length, replicate, refl, sym, ap, ◌∙◌, true≢false, arith}
 use Rattle.std.specs.List.{flat_map, AllByRecursion}
 use Rattle.pli_base.specs.Name.{Name}
-use Rattle.pli_map.specs.Description.{Description}
-use Rattle.pli_map.specs.Same.{same}
-use Rattle.pli_map.specs.laws.SameLaws.{same_decides}
+use Rattle.pli_map.specs.ParameterTypes.{ParameterType, Stated, same_type}
+use Rattle.pli_map.specs.laws.ParameterLaws.{same_type_decides}
 use Rattle.pli_program.specs.declared.kind.VariableKind.{VariableKind}
 use Rattle.pli_type_tree.specs.Templates.{Template}
 use Rattle.pli_type_tree.specs.TypedTree.{Signature, Global, OwnVariable, ExternalVariable, EntryPoint}
@@ -20,9 +19,9 @@ not_none [] b is some e = true≢false (sym is ∙ some)
 not_none (x ∷ xs) b is some e = omega (arith, e)
 
 -- variables of a unit's own
-pub own_described : (kind : VariableKind) (ts : List Template) → map (λ t. t.description) ts ≡ flat_map global_descriptions (map (OwnVariable kind) ts)
+pub own_described : (kind : VariableKind) (ts : List Template) → map (λ t. Stated t.description) ts ≡ flat_map global_descriptions (map (OwnVariable kind) ts)
 own_described kind [] = refl
-own_described kind (t ∷ ts) = ap (λ ds. t.description ∷ ds) (own_described kind ts)
+own_described kind (t ∷ ts) = ap (λ ds. Stated t.description ∷ ds) (own_described kind ts)
 
 pub own_templated : (kind : VariableKind) (ts : List Template) → ts ≡ flat_map global_templates (map (OwnVariable kind) ts)
 own_templated kind [] = refl
@@ -33,9 +32,9 @@ abbrev pub external : VariableKind → Template → List Name → List Global
 external kind t names = map (λ name. ExternalVariable name kind t) names
 
 pub external_described : (kind : VariableKind) (t : Template) (names : List Name)
-    → map (λ t. t.description) (replicate (length names) t) ≡ flat_map global_descriptions (external kind t names)
+    → map (λ t. Stated t.description) (replicate (length names) t) ≡ flat_map global_descriptions (external kind t names)
 external_described kind t [] = refl
-external_described kind t (n ∷ ns) = ap (λ ds. t.description ∷ ds) (external_described kind t ns)
+external_described kind t (n ∷ ns) = ap (λ ds. Stated t.description ∷ ds) (external_described kind t ns)
 
 pub external_templated : (kind : VariableKind) (t : Template) (names : List Name) → replicate (length names) t ≡ flat_map global_templates (external kind t names)
 external_templated kind t [] = refl
@@ -45,21 +44,21 @@ external_templated kind t (n ∷ ns) = ap (λ ts. t ∷ ts) (external_templated 
 abbrev entries : Signature → List Name → List Global
 entries s names = map (λ name. EntryPoint name s) names
 
-entries_again : (s : Signature) (names : List Name) (table : List Description) → AllByRecursion (Has same same_decides table) (signature_descriptions s)
-    → numbered same table (flat_map global_descriptions (entries s names)) ≡ table
+entries_again : (s : Signature) (names : List Name) (table : List ParameterType) → AllByRecursion (Has same_type same_type_decides table) (signature_descriptions s)
+    → numbered same_type table (flat_map global_descriptions (entries s names)) ≡ table
 entries_again s [] table h = refl
 entries_again s (n ∷ ns) table h =
     let rest = flat_map global_descriptions (entries s ns) in
-    numbered_after same table (signature_descriptions s) rest
-    ∙ ap (λ t. numbered same t rest) (all_there same same_decides (signature_descriptions s) table h) ∙ entries_again s ns table h
+    numbered_after same_type table (signature_descriptions s) rest
+    ∙ ap (λ t. numbered same_type t rest) (all_there same_type same_type_decides (signature_descriptions s) table h) ∙ entries_again s ns table h
 
-pub entries_described : (s : Signature) (names : List Name) → (length names ≡ 0 → ⊥) → (table : List Description)
-    → numbered same table (signature_descriptions s) ≡ numbered same table (flat_map global_descriptions (entries s names))
+pub entries_described : (s : Signature) (names : List Name) → (length names ≡ 0 → ⊥) → (table : List ParameterType)
+    → numbered same_type table (signature_descriptions s) ≡ numbered same_type table (flat_map global_descriptions (entries s names))
 entries_described s [] some table = absurd (some refl)
 entries_described s (n ∷ ns) some table =
     let ds = signature_descriptions s in
     let rest = flat_map global_descriptions (entries s ns) in
-    sym (numbered_after same table ds rest ∙ entries_again s ns (numbered same table ds) (has_all same same_decides ds table))
+    sym (numbered_after same_type table ds rest ∙ entries_again s ns (numbered same_type table ds) (has_all same_type same_type_decides ds table))
 
 pub entries_templated : (s : Signature) (names : List Name) (table : List Template) → table ≡ numbered same_template table (flat_map global_templates (entries s names))
 entries_templated s [] table = refl

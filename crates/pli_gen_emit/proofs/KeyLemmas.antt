@@ -8,9 +8,8 @@ use Rattle.std.specs.List.{list_any, AllByRecursion}
 use Rattle.std.specs.Ordering.{on}
 use Rattle.std.proofs.lemmas.List.{at_drop_more, map-append}
 use Rattle.indexmap.specs.IndexSet.{insert_key}
-use Rattle.pli_map.specs.Description.{Description}
-use Rattle.pli_map.specs.Same.{same}
-use Rattle.pli_map.specs.laws.SameLaws.{same_decides}
+use Rattle.pli_map.specs.ParameterTypes.{ParameterType, Stated, same_type}
+use Rattle.pli_map.specs.laws.ParameterLaws.{same_type_decides}
 use Rattle.pli_type_tree.specs.Templates.{Template}
 use Rattle.pli_value.specs.Value.{Value}
 use Rattle.pli_gen_emit.specs.Encoding.{NumberedTables, numbered}
@@ -62,24 +61,24 @@ module _ {X Y : Type 0} (alike : Y → Y → Bool) (all : List X → List Y) (on
       at_drop_more (λ ys. numbered alike table (all ys)) xs i d lt in
       ap (λ t. numbered alike t rest) e ∙ sym (numbered_after alike table (one x) rest) ∙ ap (numbered alike table) (sym (splits x (drop (i + 1) xs))) ∙ sym step ∙ was
 
-described_again : (n : ℕ) (t : Template) → map (λ t. t.description) (replicate n t) ≡ replicate n t.description
+described_again : (n : ℕ) (t : Template) → map (λ t. Stated t.description) (replicate n t) ≡ replicate n (Stated t.description)
 described_again zero t = refl
-described_again (suc n) t = ap (λ ds. t.description ∷ ds) (described_again n t)
+described_again (suc n) t = ap (λ ds. Stated t.description ∷ ds) (described_again n t)
 
-pub group_described : (n : ℕ) (table : List Description) (t : Template) → (n ≡ 0 → ⊥) → numbered same table (t.description ∷ []) ≡ numbered same table (map (λ t. t.description) (replicate n t))
-group_described n table t some = repeated same same_decides n table t.description some ∙ ap (numbered same table) (sym (described_again n t))
+pub group_described : (n : ℕ) (table : List ParameterType) (t : Template) → (n ≡ 0 → ⊥) → numbered same_type table (Stated t.description ∷ []) ≡ numbered same_type table (map (λ t. Stated t.description) (replicate n t))
+group_described n table t some = repeated same_type same_type_decides n table (Stated t.description) some ∙ ap (numbered same_type table) (sym (described_again n t))
 
 pub group_templated : (n : ℕ) (table : List Template) (t : Template) → (n ≡ 0 → ⊥) → numbered same_template table (t ∷ []) ≡ numbered same_template table (replicate n t)
 group_templated n table t some = repeated same_template template_decides n table t some
 
 -- the descriptions of the variables of groups, and of blocks
-pub described_apart : (ts us : List Template) → map (λ t. t.description) (ts ++ us) ≡ map (λ t. t.description) ts ++ map (λ t. t.description) us
-described_apart ts us = map-append (λ t. t.description) ts us
+pub described_apart : (ts us : List Template) → map (λ t. Stated t.description) (ts ++ us) ≡ map (λ t. Stated t.description) ts ++ map (λ t. Stated t.description) us
+described_apart ts us = map-append (λ t. Stated t.description) ts us
 
-abbrev tables : List Description → List Template → List Value → NumberedTables
+abbrev tables : List ParameterType → List Template → List Value → NumberedTables
 tables ds ts vs = record { descriptions = ds; templates = ts; values = vs }
 
-pub same_tables : (ds ds2 : List Description) (ts ts2 : List Template) (vs vs2 : List Value) → ds ≡ ds2 → ts ≡ ts2 → vs ≡ vs2 → tables ds ts vs ≡ tables ds2 ts2 vs2
+pub same_tables : (ds ds2 : List ParameterType) (ts ts2 : List Template) (vs vs2 : List Value) → ds ≡ ds2 → ts ≡ ts2 → vs ≡ vs2 → tables ds ts vs ≡ tables ds2 ts2 vs2
 same_tables ds ds2 ts ts2 vs vs2 d t v = ap (λ x. tables x ts vs) d ∙ ap (λ x. tables ds2 x vs) t ∙ ap (tables ds2 ts2) v
 
 -- what is so where a call succeeded

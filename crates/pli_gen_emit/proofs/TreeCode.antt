@@ -6,15 +6,15 @@ use Rattle.pli_map.specs.views.DescriptionView.{description_view}
 use Rattle.pli_program.specs.Program as op
 use Rattle.pli_type_tree.specs.TypedTree.{TypedArguments, NoArgument}
 use Rattle.pli_type_tree.specs.views.TypedView.{root_view, callee_view, operation_view, expression_view, reference_view, argument_before, operands_view, subscripts_view, arguments_view}
-use Rattle.pli_type_tree.specs.laws.TypedTreeLaws.{calculated_made, called_made, part_made, as_pointer_made, as_offset_made}
+use Rattle.pli_type_tree.specs.laws.TypedTreeLaws.{calculated_made, called_made, part_made, element_made, as_pointer_made, as_offset_made}
 use Rattle.pli_type_tree.specs.declared.expression.Callee.{Callee}
 use Rattle.pli_type_tree.specs.declared.expression.Root.{Root, Located}
 use Rattle.pli_type_tree.specs.declared.expression.TypedExpression.{TypedExpression, Calculated, Called, AsPointer, AsOffset}
 use Rattle.pli_type_tree.specs.declared.expression.TypedOperation.{TypedOperation}
-use Rattle.pli_type_tree.specs.declared.expression.TypedReference.{TypedReference, Part}
+use Rattle.pli_type_tree.specs.declared.expression.TypedReference.{TypedReference, Part, ElementOf}
 use Rattle.pli_type_tree.specs.declared.expression.TypedSubscript.{TypedSubscript}
-use Rattle.pli_type_tree.specs.declared.expression.TypedArgument.{TypedArgument, ByPlace, ByDummy}
-use Rattle.pli_gen_emit.specs.TreeTranslation.{argument_count, root_code, call_instruction, operation_code, value_code, place_code, operands_code, subscripts_code, arguments_code}
+use Rattle.pli_type_tree.specs.declared.expression.TypedArgument.{TypedArgument, ByPlace, ByDummy, ByString}
+use Rattle.pli_gen_emit.specs.TreeTranslation.{argument_count, root_code, call_instruction, operation_code, value_code, place_code, operands_code, subscripts_code, dimensions_code, arguments_code}
 
 pub operation_code_made : (operation : TypedOperation) (operands : Vec TypedExpression Global)
     → value_code (expression_view (Calculated operation operands)) ≡ operands_code (operands_view operands.items) ++ operation_code (operation_view operation) ∷ []
@@ -23,6 +23,7 @@ operation_code_made operation operands = ap value_code (calculated_made operatio
 one_more : (a : TypedArgument) (more : TypedArguments) → argument_count (argument_before a more) ≡ suc (argument_count more)
 one_more (ByPlace r) more = refl
 one_more (ByDummy d e) more = refl
+one_more (ByString form e) more = refl
 
 pub arguments_counted : (xs : List TypedArgument) → argument_count (arguments_view xs) ≡ length xs
 arguments_counted [] = refl
@@ -53,8 +54,14 @@ pub part_code_made : (root : Root) (offset : ℕ) (description : Description) (s
     ≡ root_code (root_view root) ++ op.Field offset (description_view description) ∷ subscripts_code (subscripts_view subscripts.items)
 part_code_made root offset description subscripts = ap place_code (part_made root offset description subscripts)
 
+pub element_code_made : (root : Root) (subscripts : Vec TypedExpression Global)
+    → place_code (reference_view (ElementOf root subscripts)) ≡ root_code (root_view root) ++ dimensions_code 1 (operands_view subscripts.items)
+element_code_made root subscripts = ap place_code (element_made root subscripts)
+
 -- an argument's code, and that of the others
 pub argument_first : (a : TypedArgument) (more : TypedArguments) → arguments_code (argument_before a more) ≡ arguments_code (argument_before a NoArgument) ++ arguments_code more
 argument_first (ByPlace r) more = ap (λ x. x ++ arguments_code more) (sym (append-nil (place_code (reference_view r))))
 argument_first (ByDummy d e) more =
     sym (append_assoc (value_code (expression_view e)) (op.MakeDummy (description_view d) ∷ []) (arguments_code more))
+argument_first (ByString form e) more =
+    sym (append_assoc (value_code (expression_view e)) (op.MakeStringDummy form ∷ []) (arguments_code more))

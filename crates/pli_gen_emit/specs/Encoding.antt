@@ -1,11 +1,11 @@
 -- The code of a unit with its tables: descriptions, templates and values are numbered by first use, and equal
--- ones once (own). First comes what the external procedure takes and gives, then the globals, then the
+-- ones once (own). Types of parameters with a `*` are numbered among the descriptions. First comes what the external procedure takes and gives, then the globals, then the
 -- variables of the blocks, then the instructions, block after block.
 use Rattle.std.specs.Prelude.{ℕ, suc, Bool, option_map, List, [], ◌∷◌, ◌++◌, map}
 use Rattle.std.specs.Prelude.{length, if◌then◌else◌}
 use Rattle.std.specs.List.{flat_map, list_any}
 use Rattle.pli_map.specs.Description.{Description}
-use Rattle.pli_map.specs.Same.{same}
+use Rattle.pli_map.specs.ParameterTypes.{ParameterType, Stated, same_type}
 use Rattle.pli_value.specs.Value.{Value}
 use Rattle.pli_program.specs.Program as op
 use Rattle.pli_type_tree.specs.Templates.{Template}
@@ -34,15 +34,15 @@ number_in alike (y ∷ ys) x = if alike x y then 0 else suc (number_in alike ys 
 abbrev pub dummy : Description → Template
 dummy d = record { description = d; initial = [] }
 
--- the descriptions that an instruction names
-abbrev pub descriptions_named : op.Instruction → List Description
-descriptions_named (op.Field offset d) = d ∷ []
-descriptions_named (op.Based d) = d ∷ []
-descriptions_named (op.MakeDummy d) = d ∷ []
-descriptions_named (op.Fit d) = d ∷ []
-descriptions_named (op.AllocateBased t) = t.description ∷ []
-descriptions_named (op.AllocateInArea t after) = t.description ∷ []
-descriptions_named (op.FreeBased d) = d ∷ []
+-- the descriptions that an instruction names, in which no `*` stands
+abbrev pub descriptions_named : op.Instruction → List ParameterType
+descriptions_named (op.Field offset d) = Stated d ∷ []
+descriptions_named (op.Based d) = Stated d ∷ []
+descriptions_named (op.MakeDummy d) = Stated d ∷ []
+descriptions_named (op.Fit d) = Stated d ∷ []
+descriptions_named (op.AllocateBased t) = Stated t.description ∷ []
+descriptions_named (op.AllocateInArea t after) = Stated t.description ∷ []
+descriptions_named (op.FreeBased d) = Stated d ∷ []
 descriptions_named i = []
 
 -- the templates that it names
@@ -58,13 +58,13 @@ values_named (op.Constant v) = v ∷ []
 values_named i = []
 
 -- what a signature names: its parameters, then its result
-abbrev pub signature_descriptions : Signature → List Description
-signature_descriptions s = s.parameters ++ there s.result
+abbrev pub signature_descriptions : Signature → List ParameterType
+signature_descriptions s = s.parameters ++ map Stated (there s.result)
 
 -- the descriptions that a global names
-abbrev pub global_descriptions : Global → List Description
-global_descriptions (OwnVariable kind t) = t.description ∷ []
-global_descriptions (ExternalVariable name kind t) = t.description ∷ []
+abbrev pub global_descriptions : Global → List ParameterType
+global_descriptions (OwnVariable kind t) = Stated t.description ∷ []
+global_descriptions (ExternalVariable name kind t) = Stated t.description ∷ []
 global_descriptions (EntryPoint name signature) = signature_descriptions signature
 
 -- the templates that it names
@@ -79,7 +79,7 @@ block_templates bs = flat_map (λ b. b.head.variables) bs
 
 -- the entries of tables
 pub record NumberedTables : Type 0 where
-  pub descriptions : List Description
+  pub descriptions : List ParameterType
   pub templates : List Template
   pub values : List Value
 
@@ -87,9 +87,9 @@ pub record NumberedTables : Type 0 where
 abbrev pub tables_for : TypedUnit → List BlockTree → List op.Instruction → NumberedTables
 tables_for u bs code = record {
   descriptions =
-      numbered same []
+      numbered same_type []
       (signature_descriptions u.signature ++ flat_map global_descriptions u.globals
-      ++ map (λ t. t.description) (block_templates bs) ++ flat_map descriptions_named code);
+      ++ map (λ t. Stated t.description) (block_templates bs) ++ flat_map descriptions_named code);
   templates =
       numbered same_template []
       (flat_map global_templates u.globals ++ block_templates bs ++ flat_map templates_named code);
@@ -98,9 +98,13 @@ tables_for u bs code = record {
 
 -- with these tables
 module _ (tables : NumberedTables) where
+  -- the number of a type among the descriptions
+  abbrev pub description_number : ParameterType → ℕ
+  description_number t = number_in same_type tables.descriptions t
+
   -- the number of a description
-  abbrev pub description_number : Description → ℕ
-  description_number d = number_in same tables.descriptions d
+  abbrev pub stated_number : Description → ℕ
+  stated_number d = description_number (Stated d)
 
   -- the number of a template
   abbrev pub template_number : Template → ℕ
@@ -123,15 +127,15 @@ module _ (tables : NumberedTables) where
   instruction_code op.Stop = coded.Stop
   instruction_code (op.Local outward slot) = coded.Local outward slot
   instruction_code (op.Global number) = coded.Global number
-  instruction_code (op.Field offset d) = coded.Field offset (description_number d)
+  instruction_code (op.Field offset d) = coded.Field offset (stated_number d)
   instruction_code (op.Subscript low high multiplier) = coded.Subscript low high multiplier
-  instruction_code (op.Based d) = coded.Based (description_number d)
+  instruction_code (op.Based d) = coded.Based (stated_number d)
   instruction_code (op.Constant v) = coded.Constant (number_in same_value tables.values v)
   instruction_code op.Load = coded.Load
   instruction_code op.Store = coded.Store
   instruction_code op.Copy = coded.Copy
   instruction_code (op.MakeDummy d) = coded.MakeDummy (template_number (dummy d))
-  instruction_code (op.Fit d) = coded.Fit (description_number d)
+  instruction_code (op.Fit d) = coded.Fit (stated_number d)
   instruction_code (op.Operate operation) = coded.Operate operation
   instruction_code op.AddressOf = coded.AddressOf
   instruction_code op.ToPointer = coded.ToPointer
@@ -141,7 +145,7 @@ module _ (tables : NumberedTables) where
   instruction_code (op.CountGenerations global) = coded.CountGenerations global
   instruction_code (op.AllocateBased t) = coded.AllocateBased (template_number t)
   instruction_code (op.AllocateInArea t after) = coded.AllocateInArea (template_number t) after
-  instruction_code (op.FreeBased d) = coded.FreeBased (description_number d)
+  instruction_code (op.FreeBased d) = coded.FreeBased (stated_number d)
   instruction_code op.AssignArea = coded.AssignArea
   instruction_code op.EmptyArea = coded.EmptyArea
   instruction_code (op.On c block) = coded.On c block
@@ -151,17 +155,22 @@ module _ (tables : NumberedTables) where
   instruction_code op.Skip = coded.Skip
   instruction_code (op.SetTemporary number) = coded.SetTemporary number
   instruction_code (op.TakeTemporary number) = coded.TakeTemporary number
+  instruction_code (op.SubscriptIn dimension) = coded.SubscriptIn dimension
+  instruction_code (op.BoundOf which dimension) = coded.BoundOf which dimension
+  instruction_code (op.MakeStringDummy form) = coded.MakeStringDummy form
+  instruction_code op.FitToPlace = coded.FitToPlace
   instruction_code op.Nothing = coded.Constant (length tables.values)
 
   -- a template with its description's number
   abbrev pub template_code : Template → CodedTemplate
-  template_code t = record { description = description_number t.description; initial = t.initial }
+  template_code t =
+      record { description = stated_number t.description; initial = t.initial }
 
   -- a signature with the numbers of its descriptions
   abbrev pub signature_code : Signature → CodedSignature
   signature_code s = record {
     parameters = map description_number s.parameters;
-    result = option_map description_number s.result;
+    result = option_map stated_number s.result;
   }
 
   -- a global with the numbers of what it names

@@ -7,7 +7,7 @@ use Rattle.std.specs.List.{filter, flat_map, range_with_len}
 use Rattle.pli_run.specs.declared.ending.RunError.TheVariants.{NoReturnedValue}
 use Rattle.pli_program.specs.Program.{Instruction, Step, Line, Jump, JumpUnless, Local, Field}
 use Rattle.pli_program.specs.Program.{Subscript, Constant, Load, Store, Copy, MakeDummy, Operate, Skip}
-use Rattle.pli_program.specs.Program.{Raise}
+use Rattle.pli_program.specs.Program.{Raise, SubscriptIn, BoundOf, MakeStringDummy, FitToPlace}
 use Rattle.pli_program.specs.Program.{BlockKind, BeginBlock, Block, GlobalCode, UnitCode}
 use Rattle.pli_program.specs.Program as op
 use Rattle.pli_operation.specs.declared.operation.Operation.TheVariants.{Add, Within}
@@ -16,9 +16,11 @@ use Rattle.pli_type_tree.specs.Iterations.{kept_by, limit_number, step_number, i
 use Rattle.pli_type_tree.specs.Templates.{variable_of}
 use Rattle.pli_type_tree.specs.TypedTree.{Root, InSlot, OfProgram, NewestOf, Located, TypedExpression}
 use Rattle.pli_type_tree.specs.TypedTree.{Literal, Held, Calculated, Called, Generations, Address, AsPointer}
-use Rattle.pli_type_tree.specs.TypedTree.{AsOffset, TypedReference, Whole, Part, Operands, NoOperand}
+use Rattle.pli_type_tree.specs.TypedTree.{AsOffset, Bounded, TypedReference, Whole, Part, ElementOf, Operands}
+use Rattle.pli_type_tree.specs.TypedTree.{NoOperand}
 use Rattle.pli_type_tree.specs.TypedTree.{OperandThen, Subscripts, NoSubscript, SubscriptThen, TypedArguments}
-use Rattle.pli_type_tree.specs.TypedTree.{NoArgument, ByPlace, ByDummy, Conversion, ByOperations}
+use Rattle.pli_type_tree.specs.TypedTree.{NoArgument, ByPlace, ByDummy, ByString, Conversion, ByOperations}
+use Rattle.pli_type_tree.specs.TypedTree.{ToPlace, AssignString, RepeatedString}
 use Rattle.pli_type_tree.specs.TypedTree.{AsPointerIn, AsOffsetIn, BlockHead, TypedStatement, Statement}
 use Rattle.pli_type_tree.specs.TypedTree.{Form, Null, Assign, AssignAggregate, AssignArea, EmptyArea, Put, If}
 use Rattle.pli_type_tree.specs.TypedTree.{Begin, Group, While, Iterate, TypedRange, Once, ToBy, ByTo}
@@ -37,6 +39,7 @@ abbrev pub argument_count : TypedArguments → ℕ
 argument_count NoArgument = 0
 argument_count (ByPlace variable more) = suc (argument_count more)
 argument_count (ByDummy description value more) = suc (argument_count more)
+argument_count (ByString form value more) = suc (argument_count more)
 
 -- references and expressions
 
@@ -53,7 +56,7 @@ operation_code (tree.Operate operation) = Operate operation
 abbrev mutual
   -- the value of an expression: a constant; a variable's place and what it holds; the operands and the
   -- operation; the arguments and the call; the count of generations; a variable's place and the pointer to
-  -- it; a locator's value, the place of an area, and the conversion
+  -- it; a locator's value, the place of an area, and the conversion; an array's place and the bound
   pub value_code : TypedExpression → List Instruction
   value_code (Literal value) = Constant value ∷ []
   value_code (Held variable) = place_code variable ++ Load ∷ []
@@ -64,6 +67,7 @@ abbrev mutual
   value_code (Address variable) = place_code variable ++ op.AddressOf ∷ []
   value_code (AsPointer area offset) = value_code offset ++ place_code area ++ op.ToPointer ∷ []
   value_code (AsOffset area pointer) = value_code pointer ++ place_code area ++ op.ToOffset ∷ []
+  value_code (Bounded which dimension variable) = place_code variable ++ BoundOf which dimension ∷ []
 
   -- the place at which a reference begins; the global of a CONTROLLED variable is the place of its newest
   -- generation; a locator's value leads to that of a BASED one
@@ -73,11 +77,13 @@ abbrev mutual
   root_code (NewestOf number) = op.Global number ∷ []
   root_code (Located locator description) = value_code locator ++ op.Based description ∷ []
 
-  -- a place: the variable's; for a part of one its field, and then its subscripts
+  -- a place: the variable's; for a part of one its field, and then its subscripts; for an element of an array
+  -- that has the bounds of an argument its subscripts alone
   pub place_code : TypedReference → List Instruction
   place_code (Whole root) = root_code root
   place_code (Part root offset description subscripts) =
       root_code root ++ Field offset description ∷ subscripts_code subscripts
+  place_code (ElementOf root subscripts) = root_code root ++ dimensions_code 1 subscripts
 
   -- the values of operands, from left to right
   pub operands_code : Operands → List Instruction
@@ -90,12 +96,20 @@ abbrev mutual
   subscripts_code (SubscriptThen stride value more) =
       value_code value ++ Subscript stride.low stride.high stride.multiplier ∷ subscripts_code more
 
+  -- the same by the dimensions from this one on
+  pub dimensions_code : (dimension : ℕ) → Operands → List Instruction
+  dimensions_code k NoOperand = []
+  dimensions_code k (OperandThen value more) =
+      value_code value ++ SubscriptIn k ∷ dimensions_code (suc k) more
+
   -- a place, or a value and its dummy argument
   pub arguments_code : TypedArguments → List Instruction
   arguments_code NoArgument = []
   arguments_code (ByPlace variable more) = place_code variable ++ arguments_code more
   arguments_code (ByDummy description value more) =
       value_code value ++ MakeDummy description ∷ arguments_code more
+  arguments_code (ByString form value more) =
+      value_code value ++ MakeStringDummy form ∷ arguments_code more
 
 -- the code of a call, with its arguments
 abbrev pub call_code : Callee → TypedArguments → List Instruction
@@ -117,11 +131,13 @@ abbrev pub operations_code : List TypedOperation → List Instruction
 operations_code [] = []
 operations_code (operation ∷ more) = operation_code operation ∷ operations_code more
 
--- a value becomes that of a variable that gets it: by operations, or by the place of an area
+-- a value becomes that of a variable that gets it, whose place is below it: by operations, by the place of an
+-- area, or by operations and the length of the string at the place
 abbrev pub conversion_code : Conversion → List Instruction
 conversion_code (ByOperations operations) = operations_code operations
 conversion_code (AsPointerIn area) = place_code area ++ op.ToPointer ∷ []
 conversion_code (AsOffsetIn area) = place_code area ++ op.ToOffset ∷ []
+conversion_code (ToPlace operations) = operations_code operations ++ FitToPlace ∷ []
 
 -- the place behind code that begins at a place
 abbrev pub behind : List Instruction → ℕ → ℕ
@@ -237,6 +253,7 @@ advances_code Once i = []
 advances_code (ToBy to by) i = counted_code i 2
 advances_code (ByTo by to) i = counted_code i 1
 advances_code (Repeated next) i = place_code i.control ++ (value_code next ++ Store ∷ [])
+advances_code (RepeatedString next) i = place_code i.control ++ (value_code next ++ (FitToPlace ∷ Store ∷ []))
 
 -- and the jump back to the tests; nothing of it where there is one turn
 abbrev pub back_code : (iterated : Bool) (number : ℕ) (between : List Instruction) (turn : ℕ)
@@ -269,6 +286,8 @@ abbrev mutual
   pub form_code : (number : ℕ) → Form → (at : ℕ) → List Instruction
   form_code number Null p = []
   form_code number (Assign target value) p = place_code target ++ value_code value ++ Store ∷ []
+  form_code number (AssignString target value) p =
+      place_code target ++ value_code value ++ (FitToPlace ∷ Store ∷ [])
   form_code number (AssignAggregate target source) p = place_code target ++ place_code source ++ Copy ∷ []
   form_code number (AssignArea target source) p =
       place_code target ++ place_code source ++ op.AssignArea ∷ []

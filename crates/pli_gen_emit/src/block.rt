@@ -84,6 +84,7 @@ fn collect_in<'a>(parent: usize, statement: &'a TypedStatement, blocks: &mut Col
         Form::Iterate { statements, .. } => collect_among(parent, statements.as_slice(), blocks),
         Form::Null
         | Form::Assign { .. }
+        | Form::AssignString { .. }
         | Form::AssignAggregate { .. }
         | Form::AssignArea { .. }
         | Form::EmptyArea(_)

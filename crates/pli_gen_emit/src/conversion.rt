@@ -35,6 +35,10 @@ fn emit_conversion<'a>(conversion: &'a Conversion, code: &mut Emitter<'a>)
             emit_place(area, code);
             code.emit(Instruction::ToOffset);
         }
+        Conversion::ToPlace(operations) => {
+            emit_operations(operations.as_slice(), code);
+            code.emit(Instruction::FitToPlace);
+        }
     }
 }
 

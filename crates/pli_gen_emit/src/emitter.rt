@@ -271,6 +271,15 @@ impl<'a> Emitter<'a> {
         });
     }
 
+    /// Appends the test of a subscript of this dimension of the array that a place is, and what it does to the place.
+    pub(crate) fn subscript_in(&mut self, dimension: usize)
+        ensures { Emits self.old self.new (op.SubscriptIn dimension ∷ []) }
+    {
+        let fits = dimension <= BYTE_LIMIT;
+        let dimension = byte(dimension);
+        self.put(fits, Instruction::SubscriptIn { dimension });
+    }
+
     /// Appends a constant.
     pub(crate) fn constant(&mut self, value: &'a Value)
         ensures { Emits self.old self.new (op.Constant (value_view value.now) ∷ []) }

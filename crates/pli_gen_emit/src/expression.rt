@@ -6,7 +6,7 @@ ghost use Rattle.pli_type_tree.specs.views.TypedView.{argument_before};
 ghost use Rattle.pli_type_tree.specs.views.TypedView.{operands_view, subscripts_view, arguments_view};
 ghost use Rattle.pli_type_tree.specs.TypedTree.{NoArgument};
 ghost use Rattle.pli_gen_emit.specs.TreeTranslation.{value_code, root_code, place_code, operands_code, subscripts_code};
-ghost use Rattle.pli_gen_emit.specs.TreeTranslation.{arguments_code};
+ghost use Rattle.pli_gen_emit.specs.TreeTranslation.{dimensions_code, arguments_code};
 ghost use Rattle.pli_gen_emit.specs.answers.Emitting.{Emits};
 
 use crate::emitter::Emitter;
@@ -50,6 +50,17 @@ pub(crate) fn emit_value<'a>(expression: &'a TypedExpression, code: &mut Emitter
             emit_value(pointer, code);
             emit_place(area, code);
             code.emit(Instruction::ToOffset)
+        }
+        TypedExpression::Bounded {
+            which,
+            dimension,
+            variable,
+        } => {
+            emit_place(variable, code);
+            code.emit(Instruction::BoundOf {
+                which: *which,
+                dimension: *dimension,
+            })
         }
     }
 }
@@ -100,6 +111,10 @@ pub(crate) fn emit_place<'a>(reference: &'a TypedReference, code: &mut Emitter<'
             code.field(*offset, description);
             emit_subscripts(subscripts.as_slice(), code)
         }
+        TypedReference::ElementOf { root, subscripts } => {
+            emit_root(root, code);
+            emit_dimensions(subscripts.as_slice(), code)
+        }
     }
 }
 
@@ -114,6 +129,17 @@ fn emit_subscripts<'a>(subscripts: &'a [TypedSubscript], code: &mut Emitter<'a>)
     }
 }
 
+/// Emits the code of a subscript for each dimension of an array.
+#[cycle(emit)]
+fn emit_dimensions<'a>(subscripts: &'a [TypedExpression], code: &mut Emitter<'a>)
+    ensures { Emits code.old code.new (dimensions_code 1 (operands_view subscripts.now)) }
+{
+    for at in 0..subscripts.len() {
+        emit_value(&subscripts[at], code);
+        code.subscript_in(at + 1);
+    }
+}
+
 /// Emits the code of an argument.
 #[cycle(emit)]
 fn emit_argument<'a>(argument: &'a TypedArgument, code: &mut Emitter<'a>)
@@ -124,6 +150,10 @@ fn emit_argument<'a>(argument: &'a TypedArgument, code: &mut Emitter<'a>)
         TypedArgument::ByDummy { description, value } => {
             emit_value(value, code);
             code.make_dummy(description)
+        }
+        TypedArgument::ByString { form, value } => {
+            emit_value(value, code);
+            code.emit(Instruction::MakeStringDummy { form: *form })
         }
     }
 }

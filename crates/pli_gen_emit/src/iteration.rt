@@ -31,7 +31,7 @@ fn emit_kept<'a>(range: &'a TypedRange, first: usize, code: &mut Emitter<'a>)
     ensures { Emits code.old code.new (keeps_code (suc first) (kept_by (range_view range.now))) }
 {
     match range {
-        TypedRange::Once | TypedRange::Repeated(_) => {}
+        TypedRange::Once | TypedRange::Repeated(_) | TypedRange::RepeatedString(_) => {}
         TypedRange::ToBy { to, by } => {
             emit_value(to, code);
             code.set_temporary(first, 1);
@@ -70,7 +70,7 @@ fn limit_number(range: &TypedRange) -> Option<u8>
     ensures { result ≡ plain.limit_number (range_view range.now) }
 {
     match range {
-        TypedRange::Once | TypedRange::Repeated(_) => None,
+        TypedRange::Once | TypedRange::Repeated(_) | TypedRange::RepeatedString(_) => None,
         TypedRange::ToBy { .. } => Some(1),
         TypedRange::ByTo { to, .. } => match to {
             None => None,
@@ -84,7 +84,7 @@ fn step_number(range: &TypedRange) -> u8
     ensures { result ≡ plain.step_number (range_view range.now) }
 {
     match range {
-        TypedRange::Once | TypedRange::Repeated(_) => 0,
+        TypedRange::Once | TypedRange::Repeated(_) | TypedRange::RepeatedString(_) => 0,
         TypedRange::ToBy { .. } => 2,
         TypedRange::ByTo { .. } => 1,
     }
@@ -168,6 +168,12 @@ fn emit_advance<'a>(iteration: &'a Iteration, code: &mut Emitter<'a>)
         TypedRange::Repeated(next) => {
             emit_place(&iteration.control, code);
             emit_value(next, code);
+            code.emit(Instruction::Store);
+        }
+        TypedRange::RepeatedString(next) => {
+            emit_place(&iteration.control, code);
+            emit_value(next, code);
+            code.emit(Instruction::FitToPlace);
             code.emit(Instruction::Store);
         }
     }

@@ -131,6 +131,12 @@ pub(crate) fn emit_simple<'a>(form: &'a Form, code: &mut Emitter<'a>)
             emit_value(value, code);
             code.emit(Instruction::Store);
         }
+        Form::AssignString { target, value } => {
+            emit_place(target, code);
+            emit_value(value, code);
+            code.emit(Instruction::FitToPlace);
+            code.emit(Instruction::Store);
+        }
         Form::AssignAggregate { target, source } => {
             emit_places(target, source, code);
             code.emit(Instruction::Copy);

@@ -93,6 +93,7 @@ fn emit_form<'a>(number: u32, form: &'a Form, code: &mut Emitter<'a>)
         }
         Form::Null
         | Form::Assign { .. }
+        | Form::AssignString { .. }
         | Form::AssignAggregate { .. }
         | Form::AssignArea { .. }
         | Form::EmptyArea(_)

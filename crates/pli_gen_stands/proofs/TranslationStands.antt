@@ -10,14 +10,14 @@ use Rattle.pli_base.specs.Name.{Name}
 use Rattle.pli_base.specs.declared.statement.Condition.{Condition}
 use Rattle.pli_operation.specs.declared.operation.Operation.TheVariants.{Add, Within}
 use Rattle.pli_program.specs.Program.{is_on_unit, Instruction, Block, UnitCode}
-use Rattle.pli_type_tree.specs.TypedTree.{TypedOperation, Fit, Operate, Root, InSlot, OfProgram, NewestOf, Located, TypedExpression, Literal, Held, Calculated, Called, Generations, Address, AsPointer, AsOffset, TypedReference, Whole, Part, Operands, NoOperand, OperandThen}
-use Rattle.pli_type_tree.specs.TypedTree.{Subscripts, NoSubscript, SubscriptThen, TypedArguments, NoArgument, ByPlace, ByDummy, TypedStatement, Statement}
-use Rattle.pli_type_tree.specs.TypedTree.{Conversion, ByOperations, AsPointerIn, AsOffsetIn, AllocatedItem, AllocatesControlled, AllocatesBased, AllocatesInArea, FreedItem, FreesControlled, FreesBased, Form, Null, Assign, AssignAggregate, AssignArea, EmptyArea, Put, Allocate, Free, If, Begin, Group, While, Iterate, Call, Goto, Return, ReturnValue, Stop, On, Revert, Signal}
+use Rattle.pli_type_tree.specs.TypedTree.{TypedOperation, Fit, Operate, Root, InSlot, OfProgram, NewestOf, Located, TypedExpression, Literal, Held, Calculated, Called, Generations, Address, AsPointer, AsOffset, Bounded, TypedReference, Whole, Part, ElementOf, Operands, NoOperand, OperandThen}
+use Rattle.pli_type_tree.specs.TypedTree.{Subscripts, NoSubscript, SubscriptThen, TypedArguments, NoArgument, ByPlace, ByDummy, ByString, TypedStatement, Statement}
+use Rattle.pli_type_tree.specs.TypedTree.{Conversion, ByOperations, AsPointerIn, AsOffsetIn, ToPlace, AllocatedItem, AllocatesControlled, AllocatesBased, AllocatesInArea, FreedItem, FreesControlled, FreesBased, Form, Null, Assign, AssignString, AssignAggregate, AssignArea, EmptyArea, Put, Allocate, Free, If, Begin, Group, While, Iterate, Call, Goto, Return, ReturnValue, Stop, On, Revert, Signal}
 use Rattle.pli_type_tree.specs.Iterations.{kept_by, limit_number, step_number, is_iterated}
-use Rattle.pli_type_tree.specs.TypedTree.{Iteration, TypedRange, Once, ToBy, ByTo, Repeated}
+use Rattle.pli_type_tree.specs.TypedTree.{Iteration, TypedRange, Once, ToBy, ByTo, Repeated, RepeatedString}
 use Rattle.pli_type_tree.specs.TypedTree.{Callee, OfBlock, OfEntry, Global, OwnVariable, ExternalVariable, EntryPoint}
 use Rattle.pli_type_tree.specs.TypedTree.{OtherWise, NoElse, Else, TypedStatements, NoStatement, StatementThen, TypedProcedure, TypedUnit}
-use Rattle.pli_gen_emit.specs.TreeTranslation.{argument_count, root_code, call_instruction, operation_code, value_code, place_code, operands_code, subscripts_code, arguments_code, call_code, skip_code, items_code, operations_code, conversion_code, allocation_code, allocations_code, freeing_code, freeings_code, behind}
+use Rattle.pli_gen_emit.specs.TreeTranslation.{argument_count, root_code, call_instruction, operation_code, value_code, place_code, operands_code, subscripts_code, dimensions_code, arguments_code, call_code, skip_code, items_code, operations_code, conversion_code, allocation_code, allocations_code, freeing_code, freeings_code, behind}
 use Rattle.pli_gen_emit.specs.TreeTranslation.{statement_code, form_code, list_code, places_in, places_in_form, places_in_else, places_among, statement_place, with_target, BlockTree, begin_block}
 use Rattle.pli_gen_emit.specs.TreeTranslation.{blocks_in, blocks_of_form, blocks_among, blocks_of_procedure, blocks_of, end_code, block_code, blocks_code, places_of, block_at, blocks_at, globals_code, unit_code}
 use Rattle.pli_gen_emit.specs.TreeTranslation.{keeps_code, sets_code, start_code, test_against, limit_test, while_test, guarded, tests_code, advances_code, back_code}
@@ -100,6 +100,7 @@ module _ (u : UnitCode) (places : List (ℕ × ℕ)) (unit : ℕ) (at : Label �
   counts NoArgument = refl
   counts (ByPlace r more) = ap suc (counts more)
   counts (ByDummy d e more) = ap suc (counts more)
+  counts (ByString form e more) = ap suc (counts more)
 
   -- a call behind its arguments
   called : (callee : Callee) (args : TypedArguments) → Made (call_instruction callee (argument_count args) ∷ []) (stand.Is u (stand.call_of callee (arguments_in args)))
@@ -131,6 +132,8 @@ module _ (u : UnitCode) (places : List (ℕ × ℕ)) (unit : ℕ) (at : Label �
         two_parts (value_code e) (place_code area) op.ToPointer (stand.ValueStands u e) (stand.PlaceStands u area) (λ p h. value_stands e p h) (λ p h. place_stands area p h) p h
     value_stands (AsOffset area e) p h =
         two_parts (value_code e) (place_code area) op.ToOffset (stand.ValueStands u e) (stand.PlaceStands u area) (λ p h. value_stands e p h) (λ p h. place_stands area p h) p h
+    value_stands (Bounded which dimension r) p h =
+        joined (place_code r) (op.BoundOf which dimension ∷ []) (stand.PlaceStands u r) (stand.Is u (op.BoundOf which dimension)) (λ p h. place_stands r p h) (one (op.BoundOf which dimension)) p h
 
     operands_stand : (es : Operands) → Made (operands_code es) (stand.OperandsStand u es)
     operands_stand NoOperand p h = refl
@@ -149,6 +152,16 @@ module _ (u : UnitCode) (places : List (ℕ × ℕ)) (unit : ℕ) (at : Label �
     place_stands (Part root offset d subscripts) p h =
         joined (root_code root) (op.Field offset d ∷ subscripts_code subscripts) (stand.RootStands u root) (Then (stand.Is u (op.Field offset d)) (stand.SubscriptsStand u subscripts))
         (λ p h. root_stands root p h) (before (op.Field offset d) (subscripts_code subscripts) (stand.SubscriptsStand u subscripts) (λ p h. subscripts_stand subscripts p h)) p h
+    place_stands (ElementOf root subscripts) p h =
+        joined (root_code root) (dimensions_code 1 subscripts) (stand.RootStands u root) (stand.DimensionsStand u 1 subscripts) (λ p h. root_stands root p h)
+        (λ p h. dimensions_stand 1 subscripts p h) p h
+
+    dimensions_stand : (dimension : ℕ) (es : Operands) → Made (dimensions_code dimension es) (stand.DimensionsStand u dimension es)
+    dimensions_stand dimension NoOperand p h = refl
+    dimensions_stand dimension (OperandThen e more) p h =
+        joined (value_code e) (op.SubscriptIn dimension ∷ dimensions_code (suc dimension) more) (stand.ValueStands u e)
+        (Then (stand.Is u (op.SubscriptIn dimension)) (stand.DimensionsStand u (suc dimension) more)) (λ p h. value_stands e p h)
+        (before (op.SubscriptIn dimension) (dimensions_code (suc dimension) more) (stand.DimensionsStand u (suc dimension) more) (λ p h. dimensions_stand (suc dimension) more p h)) p h
 
     subscripts_stand : (ss : Subscripts) → Made (subscripts_code ss) (stand.SubscriptsStand u ss)
     subscripts_stand NoSubscript p h = refl
@@ -164,6 +177,9 @@ module _ (u : UnitCode) (places : List (ℕ × ℕ)) (unit : ℕ) (at : Label �
     arguments_stand (ByDummy d e more) p h =
         joined (value_code e) (op.MakeDummy d ∷ arguments_code more) (stand.ValueStands u e) (Then (stand.Is u (op.MakeDummy d)) (stand.ArgumentsStand u more))
         (λ p h. value_stands e p h) (before (op.MakeDummy d) (arguments_code more) (stand.ArgumentsStand u more) (λ p h. arguments_stand more p h)) p h
+    arguments_stand (ByString form e more) p h =
+        joined (value_code e) (op.MakeStringDummy form ∷ arguments_code more) (stand.ValueStands u e) (Then (stand.Is u (op.MakeStringDummy form)) (stand.ArgumentsStand u more))
+        (λ p h. value_stands e p h) (before (op.MakeStringDummy form) (arguments_code more) (stand.ArgumentsStand u more) (λ p h. arguments_stand more p h)) p h
 
   -- a condition, whose jump leads to a place that is no earlier
   test_stands : (e : TypedExpression) (target p : ℕ) → suc (behind (value_code e) p) ≤ target → Stand (value_code e) p
@@ -195,7 +211,41 @@ module _ (u : UnitCode) (places : List (ℕ × ℕ)) (unit : ℕ) (at : Label �
   conversion_stands : (conversion : Conversion) → Made (conversion_code conversion) (stand.ConversionStands u conversion)
   conversion_stands (ByOperations operations) = operations_stand operations
   conversion_stands (AsPointerIn area) = joined (place_code area) (op.ToPointer ∷ []) (stand.PlaceStands u area) (stand.Is u op.ToPointer) (place_stands area) (one op.ToPointer)
+  conversion_stands (ToPlace operations) =
+      joined (operations_code operations) (op.FitToPlace ∷ []) (stand.OperationsStand u operations) (stand.Is u op.FitToPlace) (operations_stand operations) (one op.FitToPlace)
   conversion_stands (AsOffsetIn area) = joined (place_code area) (op.ToOffset ∷ []) (stand.PlaceStands u area) (stand.Is u op.ToOffset) (place_stands area) (one op.ToOffset)
+
+  -- a string goes where the place of one is, fitted to that
+  fitted_stands : (target : TypedReference) (e : TypedExpression)
+      → Made (place_code target ++ value_code e ++ (op.FitToPlace ∷ op.Store ∷ [])) (stand.StringStands u target e)
+  fitted_stands target e p h =
+      let place = place_code target in
+      let value = value_code e in
+      let both = op.FitToPlace ∷ op.Store ∷ [] in
+      let r = split_three place value both p h in
+      let m = behind value (behind place p) in
+      record {
+        middle = behind place p;
+        fst = place_stands target p r.0;
+        snd = record {
+          middle = m;
+          fst = value_stands e (behind place p) r.1.0;
+          snd = record {
+            middle = suc m;
+            fst = record { here = r.1.1.0; ends = refl };
+            snd = record { here = r.1.1.1.0; ends = sym (behind_three place value both p) };
+          };
+        };
+      }
+
+  -- and in the list of an iterative group
+  string_stands : (target : TypedReference) (e : TypedExpression)
+      → Made (place_code target ++ (value_code e ++ op.FitToPlace ∷ op.Store ∷ [])) (stand.StringStands u target e)
+  string_stands target e =
+      let fits = stand.Is u op.FitToPlace in
+      let stores = stand.Is u op.Store in
+      joined (place_code target) (value_code e ++ op.FitToPlace ∷ op.Store ∷ []) (stand.PlaceStands u target) (Then (stand.ValueStands u e) (Then fits stores)) (place_stands target)
+      (joined (value_code e) (op.FitToPlace ∷ op.Store ∷ []) (stand.ValueStands u e) (Then fits stores) (value_stands e) (before op.FitToPlace (op.Store ∷ []) stores (one op.Store)))
 
   -- a pointer goes into the target, converted, and is kept till its place is there
   kept_stands : (temporary : ℕ) (target : TypedReference) (conversion : Conversion)
@@ -323,6 +373,7 @@ module _ (u : UnitCode) (places : List (ℕ × ℕ)) (unit : ℕ) (at : Label �
   advances_stand (Repeated next) i =
       joined (place_code i.control) (value_code next ++ op.Store ∷ []) (stand.PlaceStands u i.control) (Then (stand.ValueStands u next) (stand.Is u op.Store)) (place_stands i.control)
       (joined (value_code next) (op.Store ∷ []) (stand.ValueStands u next) (stand.Is u op.Store) (value_stands next) (one op.Store))
+  advances_stand (RepeatedString next) i = string_stands i.control next
 
   -- tests, whose jumps lead to a place that is no earlier
   limit_stands : (i : Iteration) (limit : Option ℕ) (step target p : ℕ) → behind (guarded (test_against i limit step) target) p ≤ target
@@ -492,6 +543,7 @@ module _ (u : UnitCode) (places : List (ℕ × ℕ)) (unit : ℕ) (at : Label �
       form_stands Null number block c fits room apart units inner p known h = refl
       form_stands (Assign target e) number block c fits room apart units inner p known h =
           two_parts (place_code target) (value_code e) op.Store (stand.PlaceStands u target) (stand.ValueStands u e) (place_stands target) (value_stands e) p h
+      form_stands (AssignString target e) number block c fits room apart units inner p known h = fitted_stands target e p h
       form_stands (AssignAggregate target source) number block c fits room apart units inner p known h =
           two_parts (place_code target) (place_code source) op.Copy (stand.PlaceStands u target) (stand.PlaceStands u source) (place_stands target) (place_stands source) p h
       form_stands (AssignArea target source) number block c fits room apart units inner p known h =
@@ -707,6 +759,7 @@ mutual
   numbered_in_form (Iterate i statements) p = numbered_among statements (list_place i p)
   numbered_in_form Null p = refl
   numbered_in_form (Assign target e) p = refl
+  numbered_in_form (AssignString target e) p = refl
   numbered_in_form (AssignAggregate target source) p = refl
   numbered_in_form (AssignArea target source) p = refl
   numbered_in_form (EmptyArea target) p = refl

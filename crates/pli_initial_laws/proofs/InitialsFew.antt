@@ -17,11 +17,11 @@ use Rattle.pli_declare_outline.specs.Outlines.{outline_of}
 use Rattle.pli_declare_tables.specs.Tables.{Entry, no_entry, entries_in}
 use Rattle.pli_declare_variables.specs.Declarations.{Declaration, DeclaredKind, OfItem, declaration_at, declared_in}
 use Rattle.pli_resolve.specs.ResolvedUnits.{resolved_unit_of, all_symbols, facts_of, block_regions_of}
-use Rattle.pli_resolve.specs.Symbols.{Symbol, SymbolKind, SymbolFacts, Way, Variable, Member, Label, Procedure, Entry as AnEntry, BuiltIn, no_way, symbol_kind, ways_of}
+use Rattle.pli_resolve.specs.Symbols.{Symbol, SymbolKind, SymbolFacts, Way, Variable, OpenParameter, Member, Label, Procedure, Entry as AnEntry, BuiltIn, no_way, symbol_kind, ways_of}
 use Rattle.pli_resolve.specs.declared.block_numbers.BlockRegion.{BlockRegion}
 use Rattle.pli_resolve.specs.declared.symbol.StorageClass.{StorageClass}
 use Rattle.pli_resolve.specs.declared.symbol.SymbolKey.{SymbolKey}
-use Rattle.pli_resolve.proofs.MembersAreParts.{found_of, members_are_parts, region_good, region_items, region_owners, symbol_nowhere, symbol_there}
+use Rattle.pli_resolve.proofs.MembersAreParts.{found_of, members_are_parts, own_not_member, region_good, region_items, region_owners, symbol_nowhere, symbol_there}
 use Rattle.pli_resolve_bounds.specs.SymbolBounds.{IsLimited}
 use Rattle.pli_resolve_bounds.proofs.SymbolsWithin.{symbols_are_limited}
 use Rattle.pli_map.specs.Parts.{PlacedPart}
@@ -71,6 +71,7 @@ module _ (P : InitialItem → Type 0) (root : ℕ) where
       with_kind : (kind : SymbolKind) → s.kind ≡ kind → AllByRecursion P (member_items root ss)
           → AllByRecursion P (member_items root (record { identifier = s.identifier; kind = kind } ∷ ss))
       with_kind (Variable d class scope values area) is rest = rest
+      with_kind (OpenParameter type slot area) is rest = rest
       with_kind (Member owner path values area) is rest =
           one_if (nat_eq owner root) path values (member_items root ss)
           (λ same. each 0 s path values area refl (is ∙ ap (λ o. Member o path values area) (eqb-true owner root same))) rest
@@ -114,6 +115,7 @@ items_distinct root (s ∷ ss) h =
     with_kind : (kind : SymbolKind) → s.kind ≡ kind → AreDistinct (map way_of (member_items root ss))
         → AreDistinct (map way_of (member_items root (record { identifier = s.identifier; kind = kind } ∷ ss)))
     with_kind (Variable d class scope values area) is rest = rest
+    with_kind (OpenParameter type slot area) is rest = rest
     with_kind (Member owner path values area) is rest =
         one (nat_eq owner root) path values
         (λ same. ways_differ path (member_items root ss) (later path values area (is ∙ ap (λ o. Member o path values area) (eqb-true owner root same)))) rest
@@ -131,7 +133,7 @@ IsOwned w owner root path = (o : ℕ) × (owner ≡ Some o) × (w.root ≡ root)
 only_member : (f : SymbolFacts) (ps : List Name) (w : Way) (i : Identifier) (owner : Option ℕ) (kind : DeclaredKind) (root : ℕ) (path : List ℕ) (initial : List InitialValue) (area : Option SymbolKey)
     → symbol_kind f ps w i owner kind ≡ Member root path initial area → IsOwned w owner root path
 only_member f ps w i (Some o) (OfItem (OfVariable v) d) root path initial area e = (o, refl, cc, cc)
-only_member f ps w i None (OfItem (OfVariable v) d) root path initial area e = cc
+only_member f ps w i None (OfItem (OfVariable v) d) root path initial area e = absurd (own_not_member v.taken _ _ _ _ _ _ root path initial area e)
 only_member f ps w i owner kind root path initial area e = cc
 
 module _ (u : ExternalProcedure) (h : resolution_faults u ≡ []) where
@@ -248,6 +250,7 @@ module _ (u : ExternalProcedure) (h : resolution_faults u ≡ []) where
       by : (kind : SymbolKind) → s.kind ≡ kind → IsLimited kind → HasFewInitial (symbols block) n kind
       by (Variable d class scope values area) is made =
           (variable_few block n s d class scope values area there is, omega (arith, scalars_take 512 d made.0, made.1))
+      by (OpenParameter type slot area) is made = tt
       by (Member root path values area) is made = tt
       by (Label statement) is made = tt
       by (Procedure inner returned area) is made = tt

@@ -2,16 +2,17 @@
 ghost use Rattle.std.specs.Prelude.{◌≡◌, Some, map, option_map};
 ghost use Rattle.std.specs.Cmp.Lexicographic.{pointwise};
 ghost use Rattle.std.specs.Option.{option_eq};
-ghost use Rattle.pli_map.specs.views.DescriptionView.{description_view};
+ghost use Rattle.pli_map.specs.ParameterTypes.{same_type};
+ghost use Rattle.pli_map.specs.views.ParameterView.{type_view};
 ghost use Rattle.pli_code.specs.CodeTables as tables;
 ghost use Rattle.pli_code.specs.views.CodeView.{code_view, coded_template_view, signature_view};
 ghost use Rattle.pli_link.specs.Alike as spec;
 ghost use Rattle.pli_type_keys.specs.views.KeyView.{templated};
 
 use pli_code::{Code, CodedSignature, CodedTemplate};
-use pli_map::Description;
+use pli_map::ParameterType;
 use pli_program::VariableKind;
-use pli_type_keys::TemplateKey;
+use pli_type_keys::{DescriptionKey, TemplateKey};
 
 /// Whether variables are both STATIC, or both CONTROLLED.
 pub(crate) fn is_same_kind(left: VariableKind, right: VariableKind) -> bool
@@ -25,9 +26,9 @@ pub(crate) fn is_same_kind(left: VariableKind, right: VariableKind) -> bool
     }
 }
 
-/// The description of this number, if the table has it.
-pub(crate) fn description_at(code: &Code, number: u16) -> Option<&Description>
-    ensures { option_map (λ d. description_view d.now) result ≡ spec.description_at (code_view code.now) number }
+/// The description of this number, or the type with a `*`, if the table has it.
+fn type_at(code: &Code, number: u16) -> Option<&ParameterType>
+    ensures { option_map (λ t. type_view t.now) result ≡ spec.description_at (code_view code.now) number }
 {
     code.descriptions.get(usize::from(number))
 }
@@ -38,7 +39,7 @@ fn found_template<'a>(code: &'a Code, template: &'a CodedTemplate) -> Option<Tem
         (Some (coded_template_view template.now)) }
 {
     Some(TemplateKey {
-        description: description_at(code, template.description)?,
+        description: code.description(template.description)?,
         initial: template.initial.as_slice(),
     })
 }
@@ -51,22 +52,28 @@ pub(crate) fn template_at(code: &Code, number: u16) -> Option<TemplateKey<'_>>
     found_template(code, template)
 }
 
-/// Whether descriptions of these numbers are equal.
+/// Whether types are equal; a `*` equals a `*` only.
+fn are_same_types(left: &ParameterType, right: &ParameterType) -> bool
+    ensures { result ≡ same_type (type_view left.now) (type_view right.now) }
+{
+    let left = DescriptionKey { of: left.lent() };
+    let right = DescriptionKey { of: right.lent() };
+    left == right
+}
+
+/// Whether types of these numbers are equal.
 fn is_same_description(left: &Code, left_number: u16, right: &Code, right_number: u16) -> bool
     ensures { result ≡ spec.same_found (spec.description_at (code_view left.now) left_number)
         (spec.description_at (code_view right.now) right_number) }
 {
-    match (
-        description_at(left, left_number),
-        description_at(right, right_number),
-    ) {
+    match (type_at(left, left_number), type_at(right, right_number)) {
         (None, None) => true,
-        (Some(left), Some(right)) => *left == *right,
+        (Some(left), Some(right)) => are_same_types(left, right),
         _ => false,
     }
 }
 
-/// Whether lists of numbers have equal descriptions.
+/// Whether lists of numbers have equal types.
 fn are_same_descriptions(
     left: &Code,
     left_numbers: &[u16],

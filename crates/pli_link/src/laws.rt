@@ -2,7 +2,7 @@
 ghost use Rattle.pli_link.specs.laws.Sorting.{NamesAreSorted};
 ghost use Rattle.pli_link.specs.examples.Examples.{TwoUnits, OneOfThree, NoneOfTwo, NoneCalled, OtherShared};
 ghost use Rattle.pli_link.specs.examples.Examples.{SameShared, ByName, ControlledShared, OtherKind, OtherTaken};
-ghost use Rattle.pli_link.specs.examples.Examples.{EntryAndVariables};
+ghost use Rattle.pli_link.specs.examples.Examples.{StarsAreStars, EntryAndVariables};
 ghost use Rattle.pli_link.specs.examples.Examples.{ToldOnce, TooLarge, NotTooLarge, SharedOnce};
 
 /// A law: the order of names with their units is a stable sort of them by name.
@@ -11,8 +11,8 @@ pub fn names_are_sorted()
 {}
 
 /// Worked examples: two main procedures, one of three units, none of two; an entry without a procedure, and with
-/// another one; external variables that are alike or not, in the order of their names, or CONTROLLED; and modules that
-/// are too large or not.
+/// another one; types with a `*`; external variables that are alike or not, in the order of their names, or CONTROLLED;
+/// and modules that are too large or not.
 pub fn worked_examples()
     ensures two_units { TwoUnits }
     ensures one_of_three { OneOfThree }
@@ -24,6 +24,7 @@ pub fn worked_examples()
     ensures controlled_shared { ControlledShared }
     ensures other_kind { OtherKind }
     ensures other_taken { OtherTaken }
+    ensures stars_are_stars { StarsAreStars }
     ensures entry_and_variables { EntryAndVariables }
     ensures told_once { ToldOnce }
     ensures too_large { TooLarge }

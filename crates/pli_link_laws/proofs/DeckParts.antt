@@ -5,7 +5,7 @@ use Rattle.pli_base.specs.Name.{Name}
 use Rattle.pli_map.specs.Description.{Description}
 use Rattle.pli_map.specs.Sizes.{size_of}
 use Rattle.pli_type_tree.specs.Templates.{InitialScalar, Template}
-use Rattle.pli_code.specs.CodeTables.{CodedTemplate, CodedGlobal, OwnVariable, ExternalVariable, EntryPoint, Code, Deck, there, described, with_description, template_at}
+use Rattle.pli_code.specs.CodeTables.{CodedTemplate, CodedGlobal, OwnVariable, ExternalVariable, EntryPoint, Code, Deck, there, stated_at, described, with_description, template_at}
 use Rattle.pli_program.specs.declared.kind.VariableKind.{VariableKind}
 use Rattle.pli_program.specs.declared.kind.VariableKind.TheVariants.{Static, Controlled}
 use Rattle.pli_link.specs.ModuleSize.{made_of, own_of}
@@ -68,7 +68,7 @@ template_same c t = by (slice_get c.templates t)
 
     by : (o : Option CodedTemplate) → bytes_by_template c o ≡ bytes_of (with_description c o)
     by None = refl
-    by (Some t) = named t.initial (slice_get c.descriptions t.description)
+    by (Some t) = named t.initial (stated_at c t.description)
 
 pub there_bytes : (o : Option Template) → total size_in (there o) ≡ bytes_of o
 there_bytes None = refl

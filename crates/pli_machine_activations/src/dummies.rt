@@ -1,9 +1,10 @@
 //! Dummy arguments.
-ghost use Rattle.std.specs.Prelude.{◌∷◌, IfOk};
+ghost use Rattle.std.specs.Prelude.{◌≡◌, ◌∷◌, true, IfOk};
 ghost use Rattle.pli_map.specs.views.DescriptionView.{description_view};
 ghost use Rattle.pli_value.specs.Value.{value_view};
-ghost use Rattle.pli_machine_step.specs.Machine.{OfValue, AtDummy, dummied};
-ghost use Rattle.pli_program.specs.Program.{MakeDummy};
+ghost use Rattle.pli_machine_step.specs.Machine.{OfValue, AtDummy, dummied, string_dummied};
+ghost use Rattle.pli_program.specs.Program.{MakeDummy, MakeStringDummy};
+ghost use Rattle.pli_store.specs.answers.Strings.{has_form};
 ghost use Rattle.pli_store.specs.views.StorageView.{place_view};
 ghost use Rattle.pli_machine_operate.specs.views.OperandView.{taken_operand};
 ghost use Rattle.pli_machine_activations.specs.answers.Used.{IsUsedUp};
@@ -13,8 +14,8 @@ ghost use Rattle.pli_machine_activations.specs.views.MachineView.{Does, Moves};
 use crate::machine::{Machine, Stop};
 use crate::stops::stop_at;
 use pli_machine_operate::{Operand, TakenPlace, pop_number, pop_value, push};
-use pli_map::Description;
-use pli_store::Place;
+use pli_map::{Description, StringForm};
+use pli_store::{Place, StringDescriptions};
 use pli_value::Value;
 use std::alloc::{AllocError, Global};
 
@@ -60,6 +61,45 @@ pub fn dummy_with<'m>(
         (OfValue (value_view value) ∷ here.operands) here frames w) machine.old machine.new stop) }
 {
     match machine.storage.make_dummy(alloc, description, value) {
+        Ok(place) => {
+            machine.here.pending.push(place.generation)?;
+            push(&mut machine.here.operands, Operand::AtDummy(place))?;
+            Ok(None)
+        }
+        Err(fault) => Ok(Some(stop_at(fault)?)),
+    }
+}
+
+/// Takes a string and puts the place of a dummy argument upon the operands that is as long as it is.
+pub fn make_string_dummy<'m>(
+    alloc: Global,
+    machine: &mut Machine<'m>,
+    strings: &'m StringDescriptions,
+    form: StringForm,
+) -> Result<Option<Stop>, AllocError>
+    requires { has_form strings.now form ≡ true }
+    ensures { IfOk result (Does (MakeStringDummy form) machine.old machine.new) }
+{
+    match pop_value(alloc, &mut machine.here.operands)? {
+        Some(value) => string_dummy_with(alloc, machine, strings, form, value),
+        None => Ok(Some(Stop::Fault)),
+    }
+}
+
+/// The same where the string is the newest value.
+fn string_dummy_with<'m>(
+    alloc: Global,
+    machine: &mut Machine<'m>,
+    strings: &'m StringDescriptions,
+    form: StringForm,
+    value: Value,
+) -> Result<Option<Stop>, AllocError>
+    requires { has_form strings.now form ≡ true }
+    ensures { IfOk result (λ stop. (image : Image) → Moves image
+        (λ here frames w. string_dummied form (OfValue (value_view value) ∷ here.operands) here frames w) machine.old
+        machine.new stop) }
+{
+    match machine.storage.push_string(alloc, strings, form, value) {
         Ok(place) => {
             machine.here.pending.push(place.generation)?;
             push(&mut machine.here.operands, Operand::AtDummy(place))?;

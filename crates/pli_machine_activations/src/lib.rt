@@ -26,7 +26,7 @@ mod walk;
 
 pub use calling::{call, enter_begin};
 pub use conditions::{condition_of, establish, raise, revert};
-pub use dummies::{dummy_with, make_dummy, use_up};
+pub use dummies::{dummy_with, make_dummy, make_string_dummy, use_up};
 pub use external::call_entry;
 pub use globals::{static_place, static_stack, unit_at};
 pub use leaving::{give_back, leave, return_from, return_value};

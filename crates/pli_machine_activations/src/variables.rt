@@ -31,7 +31,7 @@ pub fn template_of(code: &Code, number: u16) -> Option<(&Description, &[InitialS
         ≡ Some (record { description = description_view t.0.now; initial = map initial_view t.1.now })) }
 {
     let template = code.templates.get(number as usize)?;
-    let description = code.descriptions.get(template.description as usize)?;
+    let description = code.description(template.description)?;
     Some((description, &template.initial))
 }
 

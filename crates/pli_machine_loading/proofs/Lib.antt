@@ -1,4 +1,4 @@
+pub mod AskedLemmas
 pub mod ExternalPlaces
-pub mod LaidTables
 pub mod LinkedGlobals
 pub mod LoadingLemmas

@@ -1,2 +1,3 @@
+pub mod AskedForms
 pub mod LoadedModules
 pub mod MadeGlobals

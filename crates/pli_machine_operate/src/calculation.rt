@@ -3,7 +3,7 @@ ghost use Rattle.std.specs.Prelude.{◌≡◌, ◌≤◌, ◌∷◌, [], ℕ, mi
 ghost use Rattle.pli_map.specs.views.DescriptionView.{description_view};
 ghost use Rattle.pli_operation.specs.Operations as calculate;
 ghost use Rattle.pli_operation.specs.Operations.{calculated_from, calculated_with, calculated_by, are_comparable};
-ghost use Rattle.pli_operation.specs.Operations.{as_number, compared, stands, fitted_to, widest};
+ghost use Rattle.pli_operation.specs.Operations.{as_number, compared, stands, fitted_to, string_fitted_to, widest};
 ghost use Rattle.std.specs.Option.{option_copied};
 ghost use Rattle.pli_value.specs.Numbers.{within, quotient};
 ghost use Rattle.pli_value.specs.Strings.{concatenation};
@@ -277,6 +277,23 @@ pub fn fit(
         Value::Characters(text) => fit_text(description, text),
         Value::Bits(bits) => fit_bits(alloc, description, bits),
         Value::Locator(_) => Ok(Calculation::Misfits),
+    }
+}
+
+/// A string fitted to the description of a string; a description of anything else takes none.
+pub fn fit_string(
+    alloc: Global,
+    description: &Description,
+    value: Value,
+) -> Result<Calculation, AllocError>
+    ensures { IfOk result (λ c. calculation_view c ≡ string_fitted_to (description_view description.now)
+        (value_view value)) }
+{
+    match description {
+        Description::Character(_) => fit(alloc, description, value),
+        Description::Varying(_) => fit(alloc, description, value),
+        Description::Bit(_) => fit(alloc, description, value),
+        _ => Ok(Calculation::Misfits),
     }
 }
 

@@ -1,3 +1,4 @@
+pub mod AlongMoves
 pub mod AreaMoves
 pub mod GenerationMoves
 pub mod HaltLemmas

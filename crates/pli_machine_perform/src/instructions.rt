@@ -72,7 +72,7 @@ pub fn field<'m>(
     ensures { IfOk result (Does (looked_up (code_view code.now) (coded.Field offset description)) machine.old
         machine.new) }
 {
-    match code.descriptions.get(description as usize) {
+    match code.description(description) {
         Some(description) => field_at(machine, offset, description),
         None => Ok(Some(Stop::Fault)),
     }
@@ -226,7 +226,7 @@ pub fn fit<'m>(
     ensures { IfOk result (DoesIn (image_of unit.now.loaded.now)
         (looked_up (code_view unit.now.linked.now.deck.code) (coded.Fit description)) machine.old machine.new) }
 {
-    match unit.linked.deck.code.descriptions.get(description as usize) {
+    match unit.linked.deck.code.description(description) {
         Some(description) => fit_at(alloc, unit, machine, description),
         None => Ok(Some(Stop::Fault)),
     }

@@ -19,6 +19,7 @@ mod printing;
 mod slots;
 mod stepping;
 mod storing;
+mod strings;
 
 pub use performing::perform;
 pub use places::bounded;

@@ -1,10 +1,11 @@
 //! Instructions that calculate.
 ghost use Rattle.std.specs.Prelude.{◌≤◌, IfOk};
 ghost use Rattle.pli_map.specs.views.DescriptionView.{description_view};
-ghost use Rattle.pli_machine_step.specs.Machine.{fits};
+ghost use Rattle.pli_machine_step.specs.Machine.{fits, fits_to_place};
 ghost use Rattle.pli_machine_operate.specs.views.CalculationView.{calculation_view, immediate_view};
 ghost use Rattle.pli_operation.specs.Operations.{RaisesCondition};
-ghost use Rattle.pli_machine_perform.specs.views.ActView.{calculated_as, operated_as, operated_by};
+ghost use Rattle.pli_value.specs.Value.{value_view};
+ghost use Rattle.pli_machine_perform.specs.views.ActView.{calculated_as, fitted_at_newest, operated_as, operated_by};
 ghost use Rattle.pli_machine_perform.specs.views.HaltView.{Computes, ComputesWith};
 
 use crate::halting::Halt;
@@ -12,8 +13,8 @@ use pli_base::statement::Condition;
 use pli_machine_activations::Stop;
 use pli_machine_operate::{
     Calculation, Immediate, Operand, calculate_by, calculate_from, calculate_numbers,
-    calculate_with, fit, fit_number, is_within, pop_number, pop_three, pop_value, push,
-    take_three_numbers, take_two_numbers, take_value,
+    calculate_with, fit, fit_number, fit_string, is_within, newest_place, pop_number, pop_three,
+    pop_value, push, take_three_numbers, take_two_numbers, take_value,
 };
 use pli_map::Description;
 use pli_operation::Operation;
@@ -228,4 +229,34 @@ fn fit_to(
     };
     let calculation = fit(alloc, description, value)?;
     give(operands, calculation)
+}
+
+/// Fits a string to the newest place, which stays.
+fn fit_at_newest(
+    alloc: Global,
+    operands: &mut Vec<Operand>,
+    value: Value,
+) -> Result<Option<Halt>, AllocError>
+    ensures { IfOk result (Computes (fitted_at_newest (value_view value)) operands.old.items operands.new.items) }
+{
+    match newest_place(operands) {
+        Some(taken) => {
+            let calculation = fit_string(alloc, taken.place().description, value)?;
+            give(operands, calculation)
+        }
+        None => Ok(Some(Halt::Stops(Stop::Fault))),
+    }
+}
+
+/// Fits the newest operand, a string, to the place below it, which stays.
+pub fn operate_fit_to_place(
+    alloc: Global,
+    operands: &mut Vec<Operand>,
+) -> Result<Option<Halt>, AllocError>
+    ensures { IfOk result (Computes fits_to_place operands.old.items operands.new.items) }
+{
+    let Some(value) = pop_value(alloc, operands)? else {
+        return Ok(Some(Halt::Stops(Stop::Fault)));
+    };
+    fit_at_newest(alloc, operands, value)
 }

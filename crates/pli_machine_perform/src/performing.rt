@@ -1,6 +1,7 @@
 //! One instruction.
-ghost use Rattle.std.specs.Prelude.{◌≡◌, IfOk};
+ghost use Rattle.std.specs.Prelude.{◌≡◌, true, IfOk};
 ghost use Rattle.pli_code.specs.views.CodeView.{member_view};
+ghost use Rattle.pli_machine_activations.specs.answers.Served.{is_served};
 ghost use Rattle.pli_machine_activations.specs.views.ImageView.{image_of};
 ghost use Rattle.pli_machine_activations.specs.views.MachineView.{Performs};
 
@@ -16,9 +17,11 @@ use crate::pointers::{address_of, allocate_based, based, free_based};
 use crate::printing::{put, skip};
 use crate::slots::{global, local};
 use crate::stepping::{line, step};
+use crate::strings::{bound_of, fit_to_place, subscript_in};
 use pli_code::Instruction;
 use pli_machine_activations::{
-    ActiveUnit, Machine, Stop, call, call_entry, enter_begin, return_from, return_value,
+    ActiveUnit, Machine, Stop, call, call_entry, enter_begin, make_string_dummy, return_from,
+    return_value,
 };
 use std::alloc::{AllocError, Global};
 
@@ -31,7 +34,8 @@ pub fn perform<'m>(
     instruction: Instruction,
     machine: &mut Machine<'m>,
 ) -> Result<Option<Stop>, AllocError>
-    requires { machine.old.here.unit ≡ unit.now.number }
+    requires here { machine.old.here.unit ≡ unit.now.number }
+    requires served { is_served unit.now.loaded.now.strings.now instruction ≡ true }
     ensures { IfOk result (Performs (image_of unit.now.loaded.now)
         (member_view unit.now.linked.now) instruction machine.old machine.new) }
 {
@@ -94,5 +98,11 @@ pub fn perform<'m>(
         Instruction::On { condition, block } => Ok(establish(unit, machine, condition, block)),
         Instruction::Revert { condition } => Ok(revert(machine, condition)),
         Instruction::Signal { condition } => signal(alloc, unit, machine, condition),
+        Instruction::SubscriptIn { dimension } => subscript_in(machine, dimension),
+        Instruction::BoundOf { which, dimension } => bound_of(machine, which, dimension),
+        Instruction::MakeStringDummy { form } => {
+            make_string_dummy(alloc, machine, unit.loaded.strings, form)
+        }
+        Instruction::FitToPlace => fit_to_place(alloc, unit, machine),
     }
 }

@@ -35,7 +35,7 @@ pub fn based(
 ) -> Result<Option<Stop>, AllocError>
     ensures { IfOk result (Does (looked_up (code_view code.now) (coded.Based description)) machine.old machine.new) }
 {
-    match code.descriptions.get(description as usize) {
+    match code.description(description) {
         Some(description) => based_at(machine, description),
         None => Ok(Some(Stop::Fault)),
     }
@@ -123,7 +123,7 @@ pub fn free_based(
     ensures { IfOk result (Does (looked_up (code_view code.now) (coded.FreeBased description)) machine.old
         machine.new) }
 {
-    match code.descriptions.get(description as usize) {
+    match code.description(description) {
         Some(description) => free_at(machine, description),
         None => Ok(Some(Stop::Fault)),
     }

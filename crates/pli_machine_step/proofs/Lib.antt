@@ -3,3 +3,4 @@ pub mod RunsGrow
 pub mod RunsEnd
 pub mod ExamplesRun
 pub mod AreasRun
+pub mod ExtentsRun

@@ -1,2 +1,3 @@
 pub mod AreaExamples
+pub mod ExtentExamples
 pub mod MachineExamples

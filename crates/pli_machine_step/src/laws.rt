@@ -2,6 +2,9 @@
 ghost use Rattle.pli_machine_step.specs.laws.Laws.{EveryRunEnds, OneFrameEach, OneOutcome, RunsGoOn};
 ghost use Rattle.pli_machine_step.specs.examples.AreaExamples.{BlockPrints, OffsetPrints, BlocksEnd, AreaIsFull};
 ghost use Rattle.pli_machine_step.specs.examples.AreaExamples.{NotInArea, AreasFault, CopiesFail};
+ghost use Rattle.pli_machine_step.specs.examples.ExtentExamples.{DimensionLeads, NoDimensionFaults, BoundsPrint};
+ghost use Rattle.pli_machine_step.specs.examples.ExtentExamples.{StringDummyHolds, StringDummyFaults, FitsToPlace};
+ghost use Rattle.pli_machine_step.specs.examples.ExtentExamples.{FittingFaults, StringDummyIsDead};
 ghost use Rattle.pli_machine_step.specs.examples.MachineExamples.{SmallestStops, SmallestEnds, GotoLeaves};
 ghost use Rattle.pli_machine_step.specs.examples.MachineExamples.{GotoStops, CallStops, JumpsGoOn, JumpsFault};
 ghost use Rattle.pli_machine_step.specs.examples.MachineExamples.{TurnsStop, TooMany, ManyStop, EndFaults};
@@ -45,7 +48,7 @@ pub fn every_run_ends()
 /// a string that are there and that are not, how far a place is led on, a comparison, a sum of 32 binary digits, bits
 /// printed, a line ended, a variable that is made once, a call of another unit's procedure and a variable that both
 /// units have, the generations of a CONTROLLED one, BASED ones by their pointers, blocks of areas and offsets, and
-/// places that have ended and are copied.
+/// places that have ended and are copied; subscripts, bounds and strings whose extents are those of the argument.
 pub fn worked_examples()
     ensures smallest_stops { SmallestStops }
     ensures smallest_ends { SmallestEnds }
@@ -102,4 +105,12 @@ pub fn worked_examples()
     ensures not_in_area { NotInArea }
     ensures areas_fault { AreasFault }
     ensures copies_fail { CopiesFail }
+    ensures dimension_leads { DimensionLeads }
+    ensures no_dimension_faults { NoDimensionFaults }
+    ensures bounds_print { BoundsPrint }
+    ensures string_dummy_holds { StringDummyHolds }
+    ensures string_dummy_faults { StringDummyFaults }
+    ensures fits_to_place { FitsToPlace }
+    ensures fitting_faults { FittingFaults }
+    ensures string_dummy_is_dead { StringDummyIsDead }
 {}

@@ -19,3 +19,4 @@ pub mod StoredLawsHold
 pub mod StoredNumbers
 pub mod SubscriptLawsHold
 pub mod TableLemmas
+pub mod TypeEqualityLemmas

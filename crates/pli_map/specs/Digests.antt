@@ -4,6 +4,10 @@ use Rattle.std.specs.Prelude.{ℕ, ◌+◌, ◌*◌, ◌%◌, ◌^◌, List, [],
 use Rattle.pli_map.specs.declared.description.Bounds.{Bounds}
 use Rattle.pli_map.specs.Description.{Description, FixedBinary, Character, Varying, Bit, Pointer, Offset}
 use Rattle.pli_map.specs.Description.{Area, Array, Structure, Members, NoMembers, MemberThen}
+use Rattle.pli_map.specs.ParameterTypes.{ParameterType, Stated, AnyString, AnyArray, ArrayOf, StructureOf}
+use Rattle.pli_map.specs.ParameterTypes.{ParameterTypes, NoType, TypeThen}
+use Rattle.pli_map.specs.declared.parameter.StringForm.{StringForm}
+use Rattle.pli_map.specs.declared.parameter.StringForm.TheVariants as forms
 
 -- a digest with a number more
 abbrev pub mixed : (digest number : ℕ) → ℕ
@@ -31,3 +35,23 @@ abbrev mutual
   pub digest_of_members : (digest : ℕ) → Members → ℕ
   digest_of_members h NoMembers = h
   digest_of_members h (MemberThen d ds) = digest_of_members (mixed h (digest_of d)) ds
+
+-- of a form of strings
+abbrev pub digest_of_form : StringForm → ℕ
+digest_of_form forms.Character = 10
+digest_of_form forms.Varying = 11
+digest_of_form forms.Bit = 12
+
+abbrev mutual
+  -- of a type
+  pub digest_of_type : ParameterType → ℕ
+  digest_of_type (Stated d) = digest_of d
+  digest_of_type (AnyString form) = digest_of_form form
+  digest_of_type (AnyArray dimensions element) = mixed (mixed 13 dimensions) (digest_of_type element)
+  digest_of_type (ArrayOf bounds element) = mixed (digest_of_bounds 14 bounds) (digest_of_type element)
+  digest_of_type (StructureOf members) = digest_of_types 15 members
+
+  -- with the types of the members of a structure
+  pub digest_of_types : (digest : ℕ) → ParameterTypes → ℕ
+  digest_of_types h NoType = h
+  digest_of_types h (TypeThen t ts) = digest_of_types (mixed h (digest_of_type t)) ts

@@ -1,6 +1,8 @@
 pub mod Description
 pub mod Digests
+pub mod Dimensions
 pub mod Layouts
+pub mod ParameterTypes
 pub mod Parts
 pub mod Same
 pub mod ScalarPaths

@@ -1,3 +1,4 @@
 pub mod Examples
+pub mod ParameterExamples
 pub mod ScalarExamples
 pub mod StoredExamples

@@ -1,4 +1,5 @@
 pub mod Laws
+pub mod ParameterLaws
 pub mod SameLaws
 pub mod ScalarLaws
 pub mod StoredLaws

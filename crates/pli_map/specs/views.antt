@@ -1,3 +1,5 @@
 pub mod DescriptionView
+pub mod DimensionView
+pub mod ParameterView
 pub mod PartView
 pub mod TableView

@@ -204,7 +204,7 @@ pub fn are_same_scalars(left: &Description, right: &Description) -> bool
     }
 }
 
-fn same_bounds(left: &[Bounds], right: &[Bounds]) -> bool
+pub(crate) fn same_bounds(left: &[Bounds], right: &[Bounds]) -> bool
     ensures { IsTrue result ↔ (left.now ≡ right.now) }
 {
     left == right

@@ -2,11 +2,14 @@
 ghost use Rattle.std.specs.Prelude.{◌≡◌};
 ghost use Rattle.std.specs.Hash as fed;
 ghost use Rattle.std.proofs.Common.{ap};
-ghost use Rattle.pli_map.specs.Digests.{mixed, digest_of, digest_of_bounds, digest_of_members};
+ghost use Rattle.pli_map.specs.Digests.{mixed, digest_of, digest_of_bounds, digest_of_members, digest_of_form};
+ghost use Rattle.pli_map.specs.Digests.{digest_of_type, digest_of_types};
 ghost use Rattle.pli_map.specs.laws.SameLaws.{same_decides};
 ghost use Rattle.pli_map.specs.views.DescriptionView.{description_view, members_view};
+ghost use Rattle.pli_map.specs.views.ParameterView.{type_view, types_view, type_seen};
 
 use crate::description::{Bounds, Description};
+use crate::parameter::{ParameterType, StringForm, TypeRef};
 use std::hash::{Hash, Hasher};
 
 /// A digest with a number more.
@@ -58,6 +61,58 @@ fn digest_of_members(members: &[Description]) -> u64
         whole = mixed(whole, digest_of(member));
     }
     whole
+}
+
+/// The digest of a form of strings.
+fn digest_of_form(form: StringForm) -> u64
+    ensures { result ≡ digest_of_form form }
+{
+    match form {
+        StringForm::Character => 10,
+        StringForm::Varying => 11,
+        StringForm::Bit => 12,
+    }
+}
+
+/// The digest of a type that stands in memory of its own.
+#[cycle(type_digest)]
+fn digest_of_open(taken: &ParameterType) -> u64
+    ensures { result ≡ digest_of_type (type_view taken.now) }
+{
+    match taken {
+        ParameterType::Stated(description) => digest_of(description),
+        ParameterType::AnyString(form) => digest_of_form(*form),
+        ParameterType::AnyArray {
+            dimensions,
+            element,
+        } => mixed(mixed(13, u64::from(*dimensions)), digest_of_open(element)),
+        ParameterType::ArrayOf { bounds, element } => {
+            mixed(digest_of_bounds(14, bounds), digest_of_open(element))
+        }
+        ParameterType::StructureOf(members) => digest_of_types(members),
+    }
+}
+
+/// The digest of an open structure.
+#[cycle(type_digest)]
+fn digest_of_types(members: &[ParameterType]) -> u64
+    ensures { result ≡ digest_of_types 15 (types_view members.now) }
+{
+    let mut whole = 15;
+    for member in members {
+        whole = mixed(whole, digest_of_open(member));
+    }
+    whole
+}
+
+/// The digest of a type.
+pub fn digest_of_type(taken: TypeRef<'_>) -> u64
+    ensures { result ≡ digest_of_type (type_seen taken.entry) }
+{
+    match taken {
+        TypeRef::Stated(description) => digest_of(description),
+        TypeRef::Open(taken) => digest_of_open(taken),
+    }
 }
 
 impl Hash for Description {

@@ -4,6 +4,8 @@ ghost use Rattle.pli_map.specs.examples.Examples.{StridesAreAligned, NoElements}
 ghost use Rattle.pli_map.specs.laws.Laws.{PartsDoNotMeet, PartsLieWithin, PartsStandAligned, FourAlignments};
 ghost use Rattle.pli_map.specs.laws.Laws.{AreasAreRounded, ElementsAreWithinBounds, ElementsAreInRowMajorOrder};
 ghost use Rattle.pli_map.specs.laws.Laws.{ElementsAreCounted, SameIsEqual};
+ghost use Rattle.pli_map.specs.examples.ParameterExamples.{StringsAgree, ArraysAgree, ElementsAreOpen};
+ghost use Rattle.pli_map.specs.examples.ParameterExamples.{DimensionsAreKnown};
 ghost use Rattle.pli_map.specs.examples.ScalarExamples.{CountedScalars, FoundScalars, NamedSubscripts};
 ghost use Rattle.pli_map.specs.laws.ScalarLaws.{PartsAreFound, PartsAreDetermined, FoundIsPlaced, ScalarsLieWithin};
 ghost use Rattle.pli_map.specs.laws.ScalarLaws.{PartsOfParts, FilledPartsTakeBytes};
@@ -105,7 +107,8 @@ pub fn first_values_are_held()
     ensures { FirstValuesAreHeld }
 {}
 
-/// Worked examples of sizes, alignments and places, of scalars, of subscripts and of stored values.
+/// Worked examples of sizes, alignments and places, of scalars, of subscripts, of stored values and of types of
+/// parameters.
 pub fn worked_examples()
     ensures scalars { ScalarSizes }
     ensures members { MixedMembers }
@@ -119,4 +122,8 @@ pub fn worked_examples()
     ensures stored_numbers { StoredNumbers }
     ensures stored_strings { StoredStrings }
     ensures stored_locators { StoredLocators }
+    ensures strings_agree { StringsAgree }
+    ensures arrays_agree { ArraysAgree }
+    ensures elements_are_open { ElementsAreOpen }
+    ensures dimensions_are_known { DimensionsAreKnown }
 {}

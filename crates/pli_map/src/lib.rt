@@ -1,12 +1,14 @@
 //! Descriptions of storage, and what they take: sizes, alignments, where the parts of an array or a structure stand,
-//! and the bytes of values.
+//! and the bytes of values; and types of parameters, whose extents may be those of the argument.
 #![tactic(auto)]
 
 mod description;
 pub mod digest;
+mod dimension;
 mod extents;
 mod laws;
 mod layout;
+mod parameter;
 mod parts;
 mod scalars;
 mod sizes;
@@ -15,6 +17,7 @@ mod table;
 mod values;
 
 pub use description::{Bounds, Description, are_same_scalars};
+pub use dimension::{Dimension, WhichBound, nth_dimension};
 pub use extents::{FAR, far_size};
 pub use laws::{
     areas_are_rounded, elements_are_in_row_major_order, elements_are_within_bounds,
@@ -23,6 +26,7 @@ pub use laws::{
     parts_stand_aligned, same_is_equal, scalars_lie_within, stored_is_loaded, worked_examples,
 };
 pub use layout::{Layout, OVER_LIMIT, SIZE_LIMIT};
+pub use parameter::{ArrayRef, ParameterType, StringForm, TypeRef, agrees, array_of};
 pub use parts::{PathStep, PlacedPart, place};
 pub use scalars::{
     first_scalar, is_aggregate, is_area, is_scalar, scalars_in, stands_among, stands_in,

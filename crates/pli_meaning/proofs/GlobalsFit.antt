@@ -11,6 +11,7 @@ use Rattle.std.specs.Option.{option_eq}
 use Rattle.pli_base.specs.Name.{Name}
 use Rattle.pli_base.specs.Words.{same_name, is_among}
 use Rattle.pli_map.specs.Description.{Description}
+use Rattle.pli_map.specs.ParameterTypes.{ParameterType, Stated}
 use Rattle.pli_program.specs.declared.kind.VariableKind.{VariableKind}
 use Rattle.pli_program.specs.declared.kind.VariableKind.TheVariants.{Static, Controlled}
 use Rattle.pli_type_tree.specs.Templates.{Template}
@@ -83,10 +84,10 @@ some_is : {A : Type 0} (x y : A) → Some x ≡ Some y → x ≡ y
 some_is x y e = cc
 
 -- a signature is found in one way
-abbrev signature_of : List Description → Option Description → Signature
+abbrev signature_of : List ParameterType → Option Description → Signature
 signature_of ps r = record { parameters = ps; result = r }
 
-same_parameters : (ps qs : List Description) → map Some ps ≡ map Some qs → ps ≡ qs
+same_parameters : (ps qs : List ParameterType) → map Some ps ≡ map Some qs → ps ≡ qs
 same_parameters [] [] e = refl
 same_parameters [] (q ∷ qs) e = let bad : ⊥ = cc in absurd bad
 same_parameters (p ∷ ps) [] e = let bad : ⊥ = cc in absurd bad
@@ -95,7 +96,7 @@ same_parameters (p ∷ ps) (q ∷ qs) e =
     let rest : map Some ps ≡ map Some qs = cc in
     ap (λ x. x ∷ ps) first ∙ ap (λ xs. q ∷ xs) (same_parameters ps qs rest)
 
-same_result : (r s : Option Description) → option_map Some r ≡ option_map Some s → r ≡ s
+same_result : (r s : Option Description) → option_map (λ d. Some (Stated d)) r ≡ option_map (λ d. Some (Stated d)) s → r ≡ s
 same_result None None e = refl
 same_result None (Some s) e = let bad : ⊥ = cc in absurd bad
 same_result (Some r) None e = let bad : ⊥ = cc in absurd bad

@@ -1,12 +1,13 @@
 -- What the linker finds in the tables of a unit's code: what its tree has.
 use Rattle.std.specs.Prelude.{◌≡◌, ℕ, ◌+◌, Option, Some, None, option_map, List, [], ◌∷◌, ◌++◌, map, refl}
 use Rattle.std.specs.List.{flat_map, AllByRecursion}
+use Rattle.std.specs.Option.{option_and_then}
 use Rattle.std.proofs.Common.{ap, ◌∙◌}
 use Rattle.std.proofs.lemmas.Option.{slice_get-map}
 use Rattle.pli_base.specs.Name.{Name}
 use Rattle.pli_map.specs.Description.{Description}
-use Rattle.pli_map.specs.Same.{same}
-use Rattle.pli_map.specs.laws.SameLaws.{same_decides}
+use Rattle.pli_map.specs.ParameterTypes.{ParameterType, Stated, stated, same_type}
+use Rattle.pli_map.specs.laws.ParameterLaws.{same_type_decides}
 use Rattle.pli_meaning_typed.specs.TypedPrograms.{made_of_kind}
 use Rattle.pli_program.specs.declared.kind.VariableKind.{VariableKind}
 use Rattle.pli_program.specs.declared.kind.VariableKind.TheVariants.{Static, Controlled}
@@ -14,7 +15,7 @@ use Rattle.pli_type_tree.specs.Templates.{Template}
 use Rattle.pli_type_tree.specs.TypedTree.{Signature, Global, OwnVariable, ExternalVariable, EntryPoint, TypedUnit}
 use Rattle.pli_code.specs.CodeTables.{CodedGlobal, template_at, there, with_description, described}
 use Rattle.pli_gen_emit.specs.TreeTranslation.{blocks_of, instructions_of}
-use Rattle.pli_gen_emit.specs.Encoding.{NumberedTables, tables_for, description_number, template_number, template_code, signature_code, global_code, code_of}
+use Rattle.pli_gen_emit.specs.Encoding.{NumberedTables, tables_for, description_number, stated_number, template_number, template_code, signature_code, global_code, code_of}
 use Rattle.pli_gen_emit.specs.Encoding.{signature_descriptions, global_descriptions, global_templates, block_templates, descriptions_named, templates_named}
 use Rattle.pli_gen.specs.laws.ListLaws.{all_front, all_back}
 use Rattle.pli_type_keys.specs.Same.{same_template}
@@ -27,7 +28,7 @@ use Rattle.pli_link.specs.Names.{Declaration, shared_from}
 
 -- a signature that was found whole
 abbrev pub found : Signature → FoundSignature
-found s = record { parameters = map Some s.parameters; result = option_map Some s.result }
+found s = record { parameters = map Some s.parameters; result = option_map (λ d. Some (Stated d)) s.result }
 
 -- the variables that units share are declared so
 abbrev pub AreDeclared : List Global → List (Name × Declaration) → Type 0
@@ -60,31 +61,31 @@ abbrev pub coded_global : TypedUnit → Global → CodedGlobal
 coded_global u g = global_code (tables u) g
 
 module _ (u : TypedUnit) where
-  abbrev IsDescribed : Description → Type 0
-  IsDescribed d = description_at (code_of u) (description_number (tables u) d) ≡ Some d
+  abbrev IsDescribed : ParameterType → Type 0
+  IsDescribed t = description_at (code_of u) (description_number (tables u) t) ≡ Some t
 
   abbrev IsThere : Template → Type 0
   IsThere t = template_at (code_of u) (template_number (tables u) t) ≡ Some t
 
-  abbrev HasDescription : Description → Type 0
-  HasDescription d = Has same same_decides (tables u).descriptions d
+  abbrev HasDescription : ParameterType → Type 0
+  HasDescription t = Has same_type same_type_decides (tables u).descriptions t
 
   abbrev HasTemplate : Template → Type 0
   HasTemplate t = Has same_template template_decides (tables u).templates t
 
-  description_there : (d : Description) → HasDescription d → IsDescribed d
-  description_there d h = number_stands same same_decides (tables u).descriptions d h
+  description_there : (t : ParameterType) → HasDescription t → IsDescribed t
+  description_there t h = number_stands same_type same_type_decides (tables u).descriptions t h
 
-  template_there : (t : Template) → HasTemplate t → HasDescription t.description → IsThere t
+  template_there : (t : Template) → HasTemplate t → HasDescription (Stated t.description) → IsThere t
   template_there t h d =
       ap (with_description (code_of u)) (slice_get-map (template_code (tables u)) (tables u).templates (template_number (tables u) t) ∙ ap (option_map (template_code (tables u))) (number_stands same_template template_decides (tables u).templates t h))
-      ∙ ap (described (code_of u) t.initial) (description_there t.description d)
+      ∙ ap (λ o. described (code_of u) t.initial (option_and_then stated o)) (description_there (Stated t.description) d)
 
-  all_described : (ds : List Description) → AllByRecursion HasDescription ds → AllByRecursion IsDescribed ds
+  all_described : (ds : List ParameterType) → AllByRecursion HasDescription ds → AllByRecursion IsDescribed ds
   all_described [] h = tt
   all_described (d ∷ ds) h = (description_there d h.0, all_described ds h.1)
 
-  all_there : (ts : List Template) → AllByRecursion HasTemplate ts → AllByRecursion HasDescription (map (λ t. t.description) ts) → AllByRecursion IsThere ts
+  all_there : (ts : List Template) → AllByRecursion HasTemplate ts → AllByRecursion HasDescription (map (λ t. Stated t.description) ts) → AllByRecursion IsThere ts
   all_there [] h d = tt
   all_there (t ∷ ts) h d = (template_there t h.0 d.0, all_there ts h.1 d.1)
 
@@ -92,10 +93,10 @@ module _ (u : TypedUnit) where
   front_described =
       let bs = blocks_of u in
       let code = instructions_of bs in
-      let inside = map (λ t. t.description) (block_templates bs) in
+      let inside = map (λ t. Stated t.description) (block_templates bs) in
       let named = flat_map descriptions_named code in
       let front = signature_descriptions u.signature ++ flat_map global_descriptions u.globals in
-      all_front HasDescription front inside (all_front HasDescription (front ++ inside) named (has_all same same_decides (front ++ inside ++ named) []))
+      all_front HasDescription front inside (all_front HasDescription (front ++ inside) named (has_all same_type same_type_decides (front ++ inside ++ named) []))
 
   signature_described : AllByRecursion IsDescribed (signature_descriptions u.signature)
   signature_described = all_described _ (all_front HasDescription (signature_descriptions u.signature) (flat_map global_descriptions u.globals) front_described)
@@ -116,22 +117,23 @@ module _ (u : TypedUnit) where
 
   -- signatures are found whole
 
-  parameters_found : (ds : List Description) → AllByRecursion IsDescribed ds → map (description_at (code_of u)) (map (description_number (tables u)) ds) ≡ map Some ds
+  parameters_found : (ds : List ParameterType) → AllByRecursion IsDescribed ds → map (description_at (code_of u)) (map (description_number (tables u)) ds) ≡ map Some ds
   parameters_found [] h = refl
   parameters_found (d ∷ ds) h =
       ap (λ o. o ∷ map (description_at (code_of u)) (map (description_number (tables u)) ds)) h.0 ∙ ap (λ os. Some d ∷ os) (parameters_found ds h.1)
 
-  result_found : (d : Option Description) → AllByRecursion IsDescribed (there d) → option_map (description_at (code_of u)) (option_map (description_number (tables u)) d) ≡ option_map Some d
+  result_found : (d : Option Description) → AllByRecursion IsDescribed (map Stated (there d))
+      → option_map (description_at (code_of u)) (option_map (stated_number (tables u)) d) ≡ option_map (λ d. Some (Stated d)) d
   result_found None h = refl
   result_found (Some d) h = ap Some h.0
 
-  abbrev with_parts : List (Option Description) → Option (Option Description) → FoundSignature
+  abbrev with_parts : List (Option ParameterType) → Option (Option ParameterType) → FoundSignature
   with_parts ps r = record { parameters = ps; result = r }
 
   signature_found : (s : Signature) → AllByRecursion IsDescribed (signature_descriptions s) → signature_at (code_of u) (signature_code (tables u) s) ≡ found s
   signature_found s h =
-      ap (λ ps. with_parts ps (option_map (description_at (code_of u)) (option_map (description_number (tables u)) s.result))) (parameters_found s.parameters (all_front IsDescribed s.parameters (there s.result) h))
-      ∙ ap (with_parts (map Some s.parameters)) (result_found s.result (all_back IsDescribed s.parameters (there s.result) h))
+      ap (λ ps. with_parts ps (option_map (description_at (code_of u)) (option_map (stated_number (tables u)) s.result))) (parameters_found s.parameters (all_front IsDescribed s.parameters (map Stated (there s.result)) h))
+      ∙ ap (with_parts (map Some s.parameters)) (result_found s.result (all_back IsDescribed s.parameters (map Stated (there s.result)) h))
 
   pub own_signature_found : signature_at (code_of u) (code_of u).signature ≡ found u.signature
   own_signature_found = signature_found u.signature signature_described

@@ -20,7 +20,7 @@ use Rattle.pli_program.specs.declared.kind.VariableKind.TheVariants.{Static, Con
 use Rattle.pli_type_tree.specs.Templates.{Template}
 use Rattle.pli_type_tree.specs.TypedTree.{Global, OwnVariable, ExternalVariable, EntryPoint, TypedUnit}
 use Rattle.pli_gen_emit.specs.Encoding.{code_of}
-use Rattle.pli_gen.specs.Limits.{is_over, has_many_slots, has_many_members, initial_bytes, has_wide_number, is_too_long}
+use Rattle.pli_gen.specs.Limits.{is_over, has_many_slots, has_many_types, initial_bytes, has_wide_number, is_too_long}
 use Rattle.pli_link.specs.ModuleSize.{are_too_large, is_oversized, made_of, all_own, shared_in, variables_made}
 use Rattle.pli_link.specs.Names.{Declaration, meant, shared_from, all_shared, with_declaration, first_declared, externals}
 use Rattle.pli_link.proofs.Faultless.{IsSmall}
@@ -191,7 +191,7 @@ few_globals u is =
     let c = code_of u in
     let fits : is_over c.globals ≡ false =
     fourth_of (is_over c.descriptions) (is_over c.templates) (is_over c.values) (is_over c.globals) (is_over c.blocks) (is_over c.instructions)
-    (list_any has_many_slots c.blocks) (list_any has_many_members c.descriptions) (nat_lt 16777216 (initial_bytes c)) (has_wide_number c) is in
+    (list_any has_many_slots c.blocks) (list_any has_many_types c.descriptions) (nat_lt 16777216 (initial_bytes c)) (has_wide_number c) is in
     omega (arith, few c.globals fits, length-map u.globals (coded_global u))
 
 few_own : (entries : List (Name × Member)) (us : List TypedUnit) → AreOfMembers entries us → length (owned (all_globals us)) ≤ 65535 * length us

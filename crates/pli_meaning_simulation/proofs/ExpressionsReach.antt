@@ -1,10 +1,11 @@
 -- The machine does what expressions and references mean, for any operands and frames beneath.
-use Rattle.std.specs.Prelude.{◌≡◌, ℕ, ℤ, pos, ◌+◌, Option, Some, None, List, [], ◌∷◌, length, map, slice_get, refl}
+use Rattle.std.specs.Prelude.{◌≡◌, ℕ, suc, ℤ, pos, ◌+◌, Option, Some, None, List, [], ◌∷◌, length, map, slice_get, refl}
 use Rattle.std.proofs.Common.{ap, ◌∙◌, sym, subst, arith}
 use Rattle.pli_operation.specs.Operations.{Misfits, arity, calculated, fitted_to}
 use Rattle.pli_map.specs.Description.{Description}
 use Rattle.pli_world.specs.Storage.{Place}
 use Rattle.pli_world.specs.World.{World, Answer, held, slot_place, static_place, subscripted, calculation}
+use Rattle.pli_world.specs.Strings.{string_dummy_of, subscripted_by, bound_of_place}
 use Rattle.pli_world.specs.World.{dummy_of, led_on}
 use Rattle.pli_world.specs.Locating.{place_by, address_of, offset_made, pointer_within}
 use Rattle.pli_world.specs.Stacks.{generations_counted}
@@ -13,11 +14,11 @@ use Rattle.pli_program.specs.Program as op
 use Rattle.pli_program.specs.Program.{UnitCode, Program}
 use Rattle.pli_machine_step.specs.Machine.{Operand, OfValue, AtPlace, AtDummy, Locals, Frame, At, values_off, places_off, operated, act, resume}
 use Rattle.pli_type_tree.specs.TypedOperations.{comes_to}
-use Rattle.pli_type_tree.specs.TypedTree.{TypedOperation, Fit, Operate, Root, InSlot, OfProgram, NewestOf, Located, Callee, TypedExpression, Literal, Held, Calculated, Called, Generations, Address, AsPointer, AsOffset, TypedReference, Whole, Part, Operands, NoOperand, OperandThen, Subscripts, NoSubscript, SubscriptThen, TypedArguments, NoArgument, ByPlace, ByDummy}
+use Rattle.pli_type_tree.specs.TypedTree.{TypedOperation, Fit, Operate, Root, InSlot, OfProgram, NewestOf, Located, Callee, TypedExpression, Literal, Held, Calculated, Called, Generations, Address, AsPointer, AsOffset, Bounded, TypedReference, Whole, Part, ElementOf, Operands, NoOperand, OperandThen, Subscripts, NoSubscript, SubscriptThen, TypedArguments, NoArgument, ByPlace, ByDummy, ByString}
 use Rattle.pli_meaning_tree.specs.Effects.{Label, Doing, answered, resolved}
 use Rattle.pli_meaning_tree.specs.TreeMeaning as meaning
-use Rattle.pli_meaning_tree.specs.TreeMeaning.{Calls, a_value, in_order, root_place, element_of, value_of, place_of, element_at, called_with}
-use Rattle.pli_meaning_simulation.specs.CodeStands.{Then, Context, arguments_in, call_of, operation_code, Is, RootStands, ValueStands, OperandsStand, PlaceStands, SubscriptsStand, ArgumentsStand}
+use Rattle.pli_meaning_tree.specs.TreeMeaning.{Calls, a_value, in_order, root_place, element_of, dimension_of, value_of, place_of, element_at, element_by, called_with}
+use Rattle.pli_meaning_simulation.specs.CodeStands.{Then, Context, arguments_in, call_of, operation_code, Is, RootStands, ValueStands, OperandsStand, PlaceStands, SubscriptsStand, DimensionsStand, ArgumentsStand}
 use Rattle.pli_meaning_simulation.proofs.ReachesLemmas.{Fine, Comes, stays, frame, pushes, returns, Reaches, gives, then_reaches, bound, goes, answers}
 use Rattle.pli_meaning_simulation.proofs.ConditionsReach.{RaisesRun, resolved_run}
 use Rattle.pli_meaning_simulation.proofs.Arity.{Arity, Full, Misfit, full_or_misfit}
@@ -92,6 +93,13 @@ module _ (p : Program) (number : ℕ) (u : UnitCode) (at : Label → ℕ) where
     subscript_run low high multiplier is q (Bits bits) ops l fine fs w left = record { by = tt }
     subscript_run low high multiplier is q (LocatorValue a) ops l fine fs w left = record { by = tt }
 
+    dimension_run : (dimension : ℕ) {a b : ℕ} → Is u (op.SubscriptIn dimension) a b → (q : Place) (v : Value) (ops : List Operand) (l : Locals) → Fine c l → (fs : List Frame) (w : World) (left : ℕ)
+        → Reaches p number u at c (At (frame p number u a (OfValue v ∷ AtPlace q ∷ ops) l) fs w left) l (pushes p number u AtPlace b ops fs) fs (dimension_of dimension q v w left)
+    dimension_run dimension is q (Number x) ops l fine fs w left = answers p number u at there (λ x. AtPlace x ∷ ops) (subscripted_by dimension x q w) is fine w left refl
+    dimension_run dimension is q (Characters text) ops l fine fs w left = record { by = tt }
+    dimension_run dimension is q (Bits bits) ops l fine fs w left = record { by = tt }
+    dimension_run dimension is q (LocatorValue a) ops l fine fs w left = record { by = tt }
+
     -- an operation on what lies above
     pub operation_run : (operation : TypedOperation) {a b : ℕ} → Is u (operation_code operation) a b → (before : List Value) (ops : List Operand) (l : Locals) → Fine c l
         → (fs : List Frame) (w : World) (left : ℕ)
@@ -147,6 +155,9 @@ module _ (p : Program) (number : ℕ) (u : UnitCode) (at : Label → ℕ) where
           bound p number u at (value_of p.greatest call e w left) _ (value_run e is.fst ops l fine fs w left)
           (λ m k v w left. bound p number u at (place_of p.greatest call area w left) _ (place_run area is.snd.fst (OfValue v ∷ ops) m k.fine fs w left)
           (λ m k q w left. answers p number u at there (λ x. OfValue x ∷ ops) (offset_made q v w) is.snd.snd k.fine w left refl))
+      value_run (Bounded which dimension r) is ops l fine fs w left =
+          bound p number u at (place_of p.greatest call r w left) _ (place_run r is.fst ops l fine fs w left)
+          (λ m k q w left. answers p number u at there (λ v. OfValue v ∷ ops) (bound_of_place which dimension q w) is.snd k.fine w left refl)
 
       pub operated_run : (operands : Operands) (operation : TypedOperation) {a b : ℕ} → Then (OperandsStand u operands) (Is u (operation_code operation)) a b
           → (before : List Value) (ops : List Operand) (l : Locals) → Fine c l → (fs : List Frame) (w : World) (left : ℕ)
@@ -173,6 +184,9 @@ module _ (p : Program) (number : ℕ) (u : UnitCode) (at : Label → ℕ) where
           (λ m k q w left. bound p number u at (answered (led_on offset d q w) left) _
           (answers p number u at there (λ x. AtPlace x ∷ ops) (led_on offset d q w) is.snd.fst k.fine w left refl)
           (λ m k q w left. element_run subscripts is.snd.snd q ops m k.fine fs w left))
+      place_run (ElementOf root subscripts) is ops l fine fs w left =
+          bound p number u at (root_place p.greatest call root w left) _ (root_run root is.fst ops l fine fs w left)
+          (λ m k q w left. element_by_run subscripts 1 is.snd q ops m k.fine fs w left)
 
       pub element_run : (subscripts : Subscripts) {a b : ℕ} → SubscriptsStand u subscripts a b → (q : Place) (ops : List Operand) (l : Locals) → Fine c l
           → (fs : List Frame) (w : World) (left : ℕ)
@@ -184,6 +198,17 @@ module _ (p : Program) (number : ℕ) (u : UnitCode) (at : Label → ℕ) where
           bound p number u at (value_of p.greatest call e w left) _ (value_run e is.fst (AtPlace q ∷ ops) l fine fs w left)
           (λ m k v w left. bound p number u at (element_of s.low s.high s.multiplier q v w left) _ (subscript_run s.low s.high s.multiplier is.snd.fst q v ops m k.fine fs w left)
           (λ m k q w left. element_run more is.snd.snd q ops m k.fine fs w left))
+
+      element_by_run : (subscripts : Operands) (dimension : ℕ) {a b : ℕ} → DimensionsStand u dimension subscripts a b → (q : Place) (ops : List Operand) (l : Locals) → Fine c l
+          → (fs : List Frame) (w : World) (left : ℕ)
+          → Reaches p number u at c (At (frame p number u a (AtPlace q ∷ ops) l) fs w left) l (pushes p number u AtPlace b ops fs) fs (element_by p.greatest call dimension subscripts q w left)
+      element_by_run NoOperand dimension {a} {b} is q ops l fine fs w left =
+          gives p number u at q w left fine
+          (subst (λ m. Comes p (At (frame p number u a (AtPlace q ∷ ops) l) fs w left) (At (frame p number u m (AtPlace q ∷ ops) l) fs w left)) is (stays p _))
+      element_by_run (OperandThen e more) dimension is q ops l fine fs w left =
+          bound p number u at (value_of p.greatest call e w left) _ (value_run e is.fst (AtPlace q ∷ ops) l fine fs w left)
+          (λ m k v w left. bound p number u at (dimension_of dimension q v w left) _ (dimension_run dimension is.snd.fst q v ops m k.fine fs w left)
+          (λ m k q w left. element_by_run more (suc dimension) is.snd.snd q ops m k.fine fs w left))
 
       pub called_run : (arguments : TypedArguments) (callee : Callee) (count : ℕ) {a b : ℕ} → Then (ArgumentsStand u arguments) (Is u (call_of callee count)) a b
           → (before : List Argument) → arguments_in arguments + length before ≡ count → (ops : List Operand) (l : Locals) → Fine c l → (fs : List Frame) (w : World) (left : ℕ)
@@ -200,4 +225,9 @@ module _ (p : Program) (number : ℕ) (u : UnitCode) (at : Label → ℕ) where
           bound p number u at (value_of p.greatest call e w left) _ (value_run e is.fst.fst (arguments_above before ops) l fine fs w left)
           (λ m k v w left. bound p number u at (answered (dummy_of d v w) left) _
           (answers p number u at there (λ x. AtDummy x ∷ arguments_above before ops) (dummy_of d v w) is.fst.snd.fst k.fine w left refl)
+          (λ m k q w left. called_run more callee count (record { middle = is.middle; fst = is.fst.snd.snd; snd = is.snd }) (OfDummy q ∷ before) (omega arith) ops m k.fine fs w left))
+      called_run (ByString form e more) callee count is before all ops l fine fs w left =
+          bound p number u at (value_of p.greatest call e w left) _ (value_run e is.fst.fst (arguments_above before ops) l fine fs w left)
+          (λ m k v w left. bound p number u at (answered (string_dummy_of form v w) left) _
+          (answers p number u at there (λ x. AtDummy x ∷ arguments_above before ops) (string_dummy_of form v w) is.fst.snd.fst k.fine w left refl)
           (λ m k q w left. called_run more callee count (record { middle = is.middle; fst = is.fst.snd.snd; snd = is.snd }) (OfDummy q ∷ before) (omega arith) ops m k.fine fs w left))

@@ -13,10 +13,11 @@ use Rattle.pli_machine_step.specs.Machine as machine
 use Rattle.pli_machine_step.specs.Machine.{OfValue, AtPlace, Locals, Frame, State, At, Goes, given, faulty, calm, fresh, begun, enters, resume}
 use Rattle.pli_type_tree.specs.TypedTree.{Callee, TypedExpression, Called, TypedReference, TypedArguments, BlockHead, TypedStatements}
 use Rattle.pli_meaning_tree.specs.Effects.{Label, Effect, Gives, Jumps, Fails, Spent, Lost, Short, Flow, Next, Returned, Doing, and_then, nothing_done, answered, resolved, as_statement, back_at, truth, chosen, turns, leaving, block_end}
-use Rattle.pli_meaning_tree.specs.TreeMeaning.{Calls, no_value, printed_item, value_of, place_of, called_with, condition, assigns, assigns_aggregate, assigns_area, empties, puts, skips, does_call, signals, returns_value, establishes, labels_in, as_list, head_in, static_link, activation_of, in_block}
-use Rattle.pli_meaning_simulation.specs.CodeStands.{Span, Empty, Then, Context, deeper, Nests, arguments_in, block_of, Is, Guarded, Choice, Loop, BeginStands, OnStands, ValueStands, PlaceStands, ConditionStands, ItemsStand, SkipStands}
+use Rattle.pli_meaning_tree.specs.TreeMeaning.{Calls, no_value, printed_item, value_of, place_of, called_with, condition, assigns, fitted_at, assigns_string, assigns_aggregate, assigns_area, empties, puts, skips, does_call, signals, returns_value, establishes, labels_in, as_list, head_in, static_link, activation_of, in_block}
+use Rattle.pli_meaning_simulation.specs.CodeStands.{Span, Empty, Then, Context, deeper, Nests, arguments_in, block_of, Is, Guarded, Choice, Loop, BeginStands, OnStands, ValueStands, PlaceStands, ConditionStands, ItemsStand, SkipStands, StringStands}
 use Rattle.pli_meaning_simulation.proofs.ReachesLemmas.{Fine, Target, Comes, stays, from, frame, flows, tested, returns, Reaches, gives, passes, then_reaches, bound, goes_on, goes, begins, answers}
 use Rattle.pli_meaning_simulation.proofs.ConditionsReach.{resolved_run}
+use Rattle.pli_meaning_simulation.proofs.ConversionsReach.{fitted_run}
 use Rattle.pli_meaning_simulation.proofs.ExpressionsReach.{CallsRun, value_run, place_run, called_run}
 use Rattle.pli_meaning_simulation.proofs.ControlReaches.{turn_kept, fresh_fine, jump_on, chosen_run, start_of, caught_run, leaves, full_run, enters_run, truth_run, turns_run}
 
@@ -125,6 +126,14 @@ module _ (p : Program) (number : ℕ) (u : UnitCode) (at : Label → ℕ) where
           (λ m k q w left. bound p number u at (value_of p.greatest call e w left) _ (value_run p number u at there call calls_run c e is.snd.fst (AtPlace q ∷ []) m k.fine fs w left)
           (λ m k v w left. bound p number u at (answered (stored q v w) left) _ (answers p number u at there (λ _. []) (stored q v w) is.snd.snd k.fine w left refl)
           (λ m k _ w left. gives p number u at Next w left k.fine (stays p _))))
+
+      pub assign_string_run : (target : TypedReference) (e : TypedExpression) {c : Context} {a b : ℕ} → StringStands u target e a b → Runs c (assigns_string p.greatest call target e) a b
+      assign_string_run target e {c} is l fine fs w left =
+          bound p number u at (place_of p.greatest call target w left) _ (place_run p number u at there call calls_run c target is.fst [] l fine fs w left)
+          (λ m k q w left. bound p number u at (value_of p.greatest call e w left) _ (value_run p number u at there call calls_run c e is.snd.fst (AtPlace q ∷ []) m k.fine fs w left)
+          (λ m k v w left. bound p number u at (fitted_at p.greatest call q v w left) _ (fitted_run p number u at there call calls_run is.snd.snd.fst q v [] m k.fine fs w left)
+          (λ m k x w left. bound p number u at (answered (stored q x w) left) _ (answers p number u at there (λ _. []) (stored q x w) is.snd.snd.snd k.fine w left refl)
+          (λ m k _ w left. gives p number u at Next w left k.fine (stays p _)))))
 
       pub copy_run : (target source : TypedReference) {c : Context} {a b : ℕ} → Then (PlaceStands u target) (Then (PlaceStands u source) (Is u op.Copy)) a b
           → Runs c (assigns_aggregate p.greatest call target source) a b

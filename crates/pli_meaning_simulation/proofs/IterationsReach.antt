@@ -9,7 +9,7 @@ use Rattle.pli_program.specs.Program as op
 use Rattle.pli_program.specs.Program.{UnitCode, Program}
 use Rattle.pli_machine_step.specs.Machine.{Operand, OfValue, AtPlace, Locals, Frame, At, calm}
 use Rattle.pli_type_tree.specs.Iterations.{kept_by, limit_number, step_number, is_iterated}
-use Rattle.pli_type_tree.specs.TypedTree.{Operate, TypedExpression, TypedRange, Once, ToBy, ByTo, Repeated, Iteration}
+use Rattle.pli_type_tree.specs.TypedTree.{Operate, TypedExpression, TypedRange, Once, ToBy, ByTo, Repeated, RepeatedString, Iteration}
 use Rattle.pli_meaning_tree.specs.Effects.{Label, Gives, Flow, Next, Doing, nothing_done, followed, answered, resolved, as_statement, back_at, truth, chosen}
 use Rattle.pli_meaning_tree.specs.TreeMeaning.{Calls, value_of, place_of, keeps, kept, converted, sets, advanced, within_limit, while_holds, may_turn, advances, turned, iterates}
 use Rattle.pli_meaning_simulation.specs.CodeStands.{Span, Then, Context, using, deeper, Is, KeepsStand, SetsStand, AdvancedStands, LimitStands, WhileStands, TestStands, AdvancesStand, TurnsStand, IterateStands}
@@ -17,7 +17,7 @@ use Rattle.pli_meaning_simulation.proofs.ReachesLemmas.{Fine, Kept, kept_on, cal
 use Rattle.pli_meaning_simulation.proofs.ExpressionsReach.{CallsRun, operation_run, value_run, place_run}
 use Rattle.pli_meaning_simulation.proofs.ControlReaches.{turn_kept, chosen_run, truth_run, turns_run}
 use Rattle.pli_meaning_simulation.proofs.ConversionsReach.{converted_run}
-use Rattle.pli_meaning_simulation.proofs.FormsReach.{Runs, condition_run, assign_run}
+use Rattle.pli_meaning_simulation.proofs.FormsReach.{Runs, condition_run, assign_run, assign_string_run}
 use Rattle.pli_meaning_simulation.proofs.TemporariesReach.{using_fine, set_run, taken_run}
 
 -- values stand in temporaries from one on
@@ -90,7 +90,7 @@ module _ (p : Program) (number : ℕ) (u : UnitCode) (at : Label → ℕ) (there
     sets_run value V is run l fine h fs w left =
         bound p number u at (place_of p.greatest call i.control w left) _ (place_run p number u at there call calls_run c i.control is.fst [] l fine fs w left)
         (λ m k q w left. bound p number u at (value w left) _ (run is.middle is.snd.middle is.snd.fst (AtPlace q ∷ []) m k.fine (stay l m k h) fs w left)
-        (λ m k v w left. bound p number u at (converted p.greatest call i.conversion v w left) _ (converted_run p number u at there call calls_run i.conversion is.snd.snd.fst v (AtPlace q ∷ []) m k.fine fs w left)
+        (λ m k v w left. bound p number u at (converted p.greatest call i.conversion q v w left) _ (converted_run p number u at there call calls_run i.conversion is.snd.snd.fst q v [] m k.fine fs w left)
         (λ m k x w left. bound p number u at (answered (stored q x w) left) _ (answers p number u at there (λ _. []) (stored q x w) is.snd.snd.snd k.fine w left refl)
         (λ m k _ w left. gives p number u at Next w left k.fine (stays p _)))))
 
@@ -135,6 +135,7 @@ module _ (p : Program) (number : ℕ) (u : UnitCode) (at : Label → ℕ) (there
     advances_run (ToBy to by) a b is l fine h fs w left = sets_run (advanced p.greatest call i 2 vs) (AdvancedStands u i 2) is (advanced_run 2) l fine h fs w left
     advances_run (ByTo by to) a b is l fine h fs w left = sets_run (advanced p.greatest call i 1 vs) (AdvancedStands u i 1) is (advanced_run 1) l fine h fs w left
     advances_run (Repeated next) a b is l fine h fs w left = assign_run p number u at there call calls_run level i.control next is l fine fs w left
+    advances_run (RepeatedString next) a b is l fine h fs w left = assign_string_run p number u at there call calls_run level i.control next is l fine fs w left
 
     -- the turns; the list runs where a step may be taken
     turned_run : (iterated : Bool) (list : Context → Span) (B : Span) (run between : Doing Flow) {a b : ℕ} → TurnsStand u iterated (TestStands u i) list B c a b

@@ -6,14 +6,14 @@ use Rattle.pli_world.specs.Conditions.{reverted}
 use Rattle.pli_world.specs.World.{World}
 use Rattle.pli_program.specs.Program.{UnitCode, Program}
 use Rattle.pli_machine_step.specs.Machine.{Locals, Frame, At, calm}
-use Rattle.pli_type_tree.specs.TypedTree.{TypedExpression, TypedStatement, Statement, Form, Null, Assign, AssignAggregate, AssignArea, EmptyArea, Put, Allocate, Free, If, Begin, Group, While, Iterate, Call, Goto, Return, ReturnValue, Stop, On, Revert, Signal, OtherWise, NoElse, Else, TypedStatements, NoStatement, StatementThen}
+use Rattle.pli_type_tree.specs.TypedTree.{TypedExpression, TypedStatement, Statement, Form, Null, Assign, AssignString, AssignAggregate, AssignArea, EmptyArea, Put, Allocate, Free, If, Begin, Group, While, Iterate, Call, Goto, Return, ReturnValue, Stop, On, Revert, Signal, OtherWise, NoElse, Else, TypedStatements, NoStatement, StatementThen}
 use Rattle.pli_meaning_tree.specs.Effects.{Label, Next, Returned, and_then, followed, chosen}
 use Rattle.pli_meaning_tree.specs.TreeMeaning.{Calls, condition, number_of, bears, as_list, does, does_form, does_else, does_from}
 use Rattle.pli_meaning_simulation.specs.CodeStands.{Context, deeper, ConditionStands, StatementStands, FormStands, IfStands, ListStands}
 use Rattle.pli_meaning_simulation.proofs.ReachesLemmas.{Fine, calm_kept, frame, flows, Reaches, gives, passes, goes_on, goes, begins}
 use Rattle.pli_meaning_simulation.proofs.ExpressionsReach.{CallsRun}
 use Rattle.pli_meaning_simulation.proofs.ControlReaches.{start_of, goto_run}
-use Rattle.pli_meaning_simulation.proofs.FormsReach.{either, Runs, RunsCalm, begin_run, assign_run, copy_run, area_run, empty_run, on_run, signal_run, put_run, call_run, return_run, guarded_run, choice_run, list_run, while_run}
+use Rattle.pli_meaning_simulation.proofs.FormsReach.{either, Runs, RunsCalm, begin_run, assign_run, assign_string_run, copy_run, area_run, empty_run, on_run, signal_run, put_run, call_run, return_run, guarded_run, choice_run, list_run, while_run}
 use Rattle.pli_meaning_simulation.proofs.IterationsReach.{iterate_run}
 use Rattle.pli_meaning_simulation.proofs.StorageReaches.{allocations_run, freeings_run}
 
@@ -34,6 +34,7 @@ module _ (p : Program) (number : ℕ) (u : UnitCode) (at : Label → ℕ) (there
     form_run : (form : Form) (block n : ℕ) (c : Context) (a b : ℕ) → FormStands u number at block n form c a b → RunsCalm p number u at there c (does_form p.greatest call number level block n form) a b
     form_run Null block n c a b is l fine none fs w left = passes p number u at is fine w left
     form_run (Assign target e) block n c a b is l fine none fs w left = assign_run p number u at there call calls_run level target e is l fine fs w left
+    form_run (AssignString target e) block n c a b is l fine none fs w left = assign_string_run p number u at there call calls_run level target e is l fine fs w left
     form_run (AssignAggregate target source) block n c a b is l fine none fs w left = copy_run p number u at there call calls_run level target source is l fine fs w left
     form_run (AssignArea target source) block n c a b is l fine none fs w left = area_run p number u at there call calls_run level target source is l fine fs w left
     form_run (EmptyArea target) block n c a b is l fine none fs w left = empty_run p number u at there call calls_run level target is l fine fs w left

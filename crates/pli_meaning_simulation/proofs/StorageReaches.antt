@@ -49,7 +49,7 @@ module _ (p : Program) (number : ℕ) (u : UnitCode) (at : Label → ℕ) (there
   abbrev goes_converted : TypedReference → Conversion → Value → Doing Flow
   goes_converted target conversion v w left =
       and_then (place_of p.greatest call target w left)
-      (λ q w left. and_then (converted p.greatest call conversion v w left)
+      (λ q w left. and_then (converted p.greatest call conversion q v w left)
       (λ x w left. and_then (answered (stored q x w) left) (λ _ w left. Gives Next w left)))
 
   -- a block of an area; where there is no room, the frame waits at the beginning
@@ -79,8 +79,8 @@ module _ (p : Program) (number : ℕ) (u : UnitCode) (at : Label → ℕ) (there
       (place_run p number u at there call calls_run (using (suc t) c) target is.1.snd.snd.snd.fst [] n (using_fine (suc t) (using t c) n kept.fine) fs w left)
       (λ o k q w left. then_reaches p number u at
       (taken_run p number u at there t v is.1.snd.snd.snd.snd.fst (AtPlace q ∷ []) o (k.agree t (omega arith) ∙ here) fs w left)
-      (bound p number u at {to2 = flows p number u b fs} (converted p.greatest call conversion v w left) _
-      (converted_run p number u at there call calls_run conversion is.1.snd.snd.snd.snd.snd.fst v (AtPlace q ∷ []) o k.fine fs w left)
+      (bound p number u at {to2 = flows p number u b fs} (converted p.greatest call conversion q v w left) _
+      (converted_run p number u at there call calls_run conversion is.1.snd.snd.snd.snd.snd.fst q v [] o k.fine fs w left)
       (λ m k x w left. bound p number u at {to2 = flows p number u b fs} (answered (stored q x w) left) _
       (answers p number u at there (λ _. []) (stored q x w) is.1.snd.snd.snd.snd.snd.snd k.fine w left refl)
       (λ m k _ w left. gives p number u at Next w left k.fine (stays p _)))))))

@@ -17,15 +17,18 @@ use Rattle.pli_type_tree.specs.Iterations.{kept_by, temporaries_of, limit_number
 use Rattle.pli_type_tree.specs.Templates.{Template, variable_of}
 use Rattle.pli_type_tree.specs.TypedTree.{TypedOperation, Fit, Operate, Root, InSlot, OfProgram, NewestOf}
 use Rattle.pli_type_tree.specs.TypedTree.{Located, TypedExpression, Literal, Held, Calculated, Called}
-use Rattle.pli_type_tree.specs.TypedTree.{Generations, Address, AsPointer, AsOffset, TypedReference}
-use Rattle.pli_type_tree.specs.TypedTree.{Conversion, ByOperations, AsPointerIn, AsOffsetIn, AllocatedItem}
+use Rattle.pli_type_tree.specs.TypedTree.{Generations, Address, AsPointer, AsOffset, Bounded, TypedReference}
+use Rattle.pli_type_tree.specs.TypedTree.{Conversion, ByOperations, AsPointerIn, AsOffsetIn, ToPlace}
+use Rattle.pli_type_tree.specs.TypedTree.{AllocatedItem}
 use Rattle.pli_type_tree.specs.TypedTree.{AllocatesControlled, AllocatesBased, AllocatesInArea, FreedItem}
 use Rattle.pli_type_tree.specs.TypedTree.{FreesControlled, FreesBased, AssignArea, EmptyArea, Allocate, Free}
-use Rattle.pli_type_tree.specs.TypedTree.{Whole, Part, Operands, NoOperand, OperandThen, Subscripts}
+use Rattle.pli_type_tree.specs.TypedTree.{Whole, Part, ElementOf, Operands, NoOperand, OperandThen, Subscripts}
 use Rattle.pli_type_tree.specs.TypedTree.{NoSubscript, SubscriptThen, TypedArguments, NoArgument, ByPlace}
-use Rattle.pli_type_tree.specs.TypedTree.{ByDummy, BlockHead, TypedStatement, Statement, Form, Null, Assign}
+use Rattle.pli_type_tree.specs.TypedTree.{ByDummy, ByString, BlockHead, TypedStatement, Statement, Form, Null}
+use Rattle.pli_type_tree.specs.TypedTree.{Assign, AssignString}
 use Rattle.pli_type_tree.specs.TypedTree.{AssignAggregate, Put, If, Begin, Group, While, Iterate, TypedRange}
-use Rattle.pli_type_tree.specs.TypedTree.{Once, ToBy, ByTo, Repeated, Iteration, Call, Goto, Return}
+use Rattle.pli_type_tree.specs.TypedTree.{Once, ToBy, ByTo, Repeated, RepeatedString, Iteration, Call, Goto}
+use Rattle.pli_type_tree.specs.TypedTree.{Return}
 use Rattle.pli_type_tree.specs.TypedTree.{ReturnValue, Stop, On, Revert, Signal, OtherWise, NoElse, Else}
 use Rattle.pli_type_tree.specs.TypedTree.{TypedStatements}
 use Rattle.pli_type_tree.specs.TypedTree.{NoStatement, StatementThen, TypedProcedure, Callee, OfBlock}
@@ -83,6 +86,7 @@ abbrev pub arguments_in : TypedArguments → ℕ
 arguments_in NoArgument = 0
 arguments_in (ByPlace r more) = suc (arguments_in more)
 arguments_in (ByDummy d e more) = suc (arguments_in more)
+arguments_in (ByString form e more) = suc (arguments_in more)
 
 -- the instruction of a call
 abbrev pub call_of : Callee → (arguments : ℕ) → Instruction
@@ -133,6 +137,7 @@ module _ (u : UnitCode) where
     ValueStands (Address r) = Then (PlaceStands r) (Is op.AddressOf)
     ValueStands (AsPointer area e) = Then (ValueStands e) (Then (PlaceStands area) (Is op.ToPointer))
     ValueStands (AsOffset area e) = Then (ValueStands e) (Then (PlaceStands area) (Is op.ToOffset))
+    ValueStands (Bounded which dimension r) = Then (PlaceStands r) (Is (op.BoundOf which dimension))
 
     -- the values of operands, from left to right
     pub OperandsStand : Operands → Span
@@ -151,6 +156,7 @@ module _ (u : UnitCode) where
     PlaceStands (Whole root) = RootStands root
     PlaceStands (Part root offset d subscripts) =
         Then (RootStands root) (Then (Is (op.Field offset d)) (SubscriptsStand subscripts))
+    PlaceStands (ElementOf root subscripts) = Then (RootStands root) (DimensionsStand 1 subscripts)
 
     -- the value of each subscript, and what it does to the place
     pub SubscriptsStand : Subscripts → Span
@@ -158,12 +164,20 @@ module _ (u : UnitCode) where
     SubscriptsStand (SubscriptThen s e more) =
         Then (ValueStands e) (Then (Is (op.Subscript s.low s.high s.multiplier)) (SubscriptsStand more))
 
+    -- a subscript of each dimension from this one on
+    pub DimensionsStand : (dimension : ℕ) → Operands → Span
+    DimensionsStand k NoOperand = Empty
+    DimensionsStand k (OperandThen e more) =
+        Then (ValueStands e) (Then (Is (op.SubscriptIn k)) (DimensionsStand (suc k) more))
+
     -- each argument: a place, or a value and its dummy argument
     pub ArgumentsStand : TypedArguments → Span
     ArgumentsStand NoArgument = Empty
     ArgumentsStand (ByPlace r more) = Then (PlaceStands r) (ArgumentsStand more)
     ArgumentsStand (ByDummy d e more) =
         Then (ValueStands e) (Then (Is (op.MakeDummy d)) (ArgumentsStand more))
+    ArgumentsStand (ByString form e more) =
+        Then (ValueStands e) (Then (Is (op.MakeStringDummy form)) (ArgumentsStand more))
 
   -- a condition, which jumps to a place unless it holds
   abbrev pub ConditionStands : TypedExpression → (target : ℕ) → Span
@@ -184,11 +198,13 @@ module _ (u : UnitCode) where
   OperationsStand [] = Empty
   OperationsStand (operation ∷ more) = Then (Is (operation_code operation)) (OperationsStand more)
 
-  -- a conversion of a value: operations, or the place of an area and what is done by it
+  -- a conversion of a value: operations; the place of an area and what is done by it; or operations, and what
+  -- is done by the place below
   abbrev pub ConversionStands : Conversion → Span
   ConversionStands (ByOperations operations) = OperationsStand operations
   ConversionStands (AsPointerIn area) = Then (PlaceStands area) (Is op.ToPointer)
   ConversionStands (AsOffsetIn area) = Then (PlaceStands area) (Is op.ToOffset)
+  ConversionStands (ToPlace operations) = Then (OperationsStand operations) (Is op.FitToPlace)
 
   -- an item of ALLOCATE; a pointer is kept in a temporary till the target's place is known. An allocation in
   -- an area names the place at which its item begins: there a unit's return goes on
@@ -251,6 +267,11 @@ module _ (u : UnitCode) where
     pub does_between : between finish behind
     pub back : Is (op.Jump p) behind q
 
+  -- a string is put where the place of one is, fitted to that
+  abbrev pub StringStands : TypedReference → TypedExpression → Span
+  StringStands target e =
+      Then (PlaceStands target) (Then (ValueStands e) (Then (Is op.FitToPlace) (Is op.Store)))
+
   -- iterations
 
   -- values, each kept in the next temporary
@@ -297,6 +318,7 @@ module _ (u : UnitCode) where
   AdvancesStand (ToBy to by) i = SetsStand i (AdvancedStands i 2)
   AdvancesStand (ByTo by to) i = SetsStand i (AdvancedStands i 1)
   AdvancesStand (Repeated next) i = Then (PlaceStands i.control) (Then (ValueStands next) (Is op.Store))
+  AdvancesStand (RepeatedString next) i = StringStands i.control next
 
   -- the turns of a group, or its one turn where there is no more
   abbrev pub TurnsStand : (iterated : Bool) → (test : (target : ℕ) → Span) → (list : Context → Span)
@@ -354,6 +376,7 @@ module _ (u : UnitCode) where
       FormStands block number Null c = Empty
       FormStands block number (Assign target e) c =
           Then (PlaceStands target) (Then (ValueStands e) (Is op.Store))
+      FormStands block number (AssignString target e) c = StringStands target e
       FormStands block number (AssignAggregate target source) c =
           Then (PlaceStands target) (Then (PlaceStands source) (Is op.Copy))
       FormStands block number (AssignArea target source) c =

@@ -1,3 +1,4 @@
 pub mod ExamplesHold
 pub mod AreasHold
 pub mod ConditionsHold
+pub mod ExtentsHold

@@ -22,6 +22,7 @@ use Rattle.pli_world.specs.Areas.{emptied, assigned}
 use Rattle.pli_world.specs.Locating.{place_by, freed_by, pointer_made, block_made, address_of, offset_made}
 use Rattle.pli_world.specs.Locating.{pointer_within}
 use Rattle.pli_world.specs.Stacks.{generation_stacked, generation_unstacked, generations_counted}
+use Rattle.pli_world.specs.Strings.{string_dummy_of, subscripted_by, bound_of_place, string_as}
 use Rattle.pli_base.specs.Words.{same_name}
 use Rattle.pli_type_tree.specs.Globals.{global_variable}
 use Rattle.pli_type_tree.specs.Iterations.{kept_by, limit_number, step_number, is_iterated}
@@ -29,17 +30,19 @@ use Rattle.pli_type_tree.specs.Templates.{variable_of}
 use Rattle.pli_type_tree.specs.TypedOperations.{comes_to}
 use Rattle.pli_type_tree.specs.TypedTree.{TypedOperation, Root, InSlot, OfProgram, NewestOf, Located}
 use Rattle.pli_type_tree.specs.TypedTree.{TypedExpression, Literal, Held, Calculated, Called, Generations}
-use Rattle.pli_type_tree.specs.TypedTree.{Address, AsPointer, AsOffset, TypedReference, Whole, Part}
-use Rattle.pli_type_tree.specs.TypedTree.{Operands}
+use Rattle.pli_type_tree.specs.TypedTree.{Address, AsPointer, AsOffset, Bounded, TypedReference, Whole, Part}
+use Rattle.pli_type_tree.specs.TypedTree.{ElementOf, Operands}
 use Rattle.pli_type_tree.specs.TypedTree.{NoOperand, OperandThen, Subscripts, NoSubscript, SubscriptThen}
-use Rattle.pli_type_tree.specs.TypedTree.{TypedArguments, NoArgument, ByPlace, ByDummy, BlockHead}
-use Rattle.pli_type_tree.specs.TypedTree.{Conversion, ByOperations, AsPointerIn, AsOffsetIn, AllocatedItem}
+use Rattle.pli_type_tree.specs.TypedTree.{TypedArguments, NoArgument, ByPlace, ByDummy, ByString, BlockHead}
+use Rattle.pli_type_tree.specs.TypedTree.{Conversion, ByOperations, AsPointerIn, AsOffsetIn, ToPlace}
+use Rattle.pli_type_tree.specs.TypedTree.{AllocatedItem}
 use Rattle.pli_type_tree.specs.TypedTree.{AllocatesControlled, AllocatesBased, AllocatesInArea, FreedItem}
 use Rattle.pli_type_tree.specs.TypedTree.{FreesControlled, FreesBased}
 use Rattle.pli_type_tree.specs.TypedTree.{TypedStatement, Statement, Form, Null, Assign, AssignAggregate}
-use Rattle.pli_type_tree.specs.TypedTree.{AssignArea, EmptyArea, Put}
+use Rattle.pli_type_tree.specs.TypedTree.{AssignString, AssignArea, EmptyArea, Put}
 use Rattle.pli_type_tree.specs.TypedTree.{Allocate, Free, If, Begin, Group, While, Iterate, TypedRange}
 use Rattle.pli_type_tree.specs.TypedTree.{Once, ToBy, ByTo}
+use Rattle.pli_type_tree.specs.TypedTree.{RepeatedString}
 use Rattle.pli_type_tree.specs.TypedTree.{Repeated, Iteration, Call, Goto, Return, ReturnValue, Stop, On}
 use Rattle.pli_type_tree.specs.TypedTree.{Revert, Signal}
 use Rattle.pli_type_tree.specs.TypedTree.{OtherWise, NoElse, Else, TypedStatements, NoStatement}
@@ -88,6 +91,11 @@ element_of low high multiplier p (Number x) w left =
     answered (subscripted low high multiplier x p w) left
 element_of low high multiplier p v w left = Lost
 
+-- so is one of a dimension of the array that a place is, tested against the bounds that are there
+abbrev pub dimension_of : (dimension : ℕ) → Place → Value → Doing Place
+dimension_of k p (Number x) w left = answered (subscripted_by k x p w) left
+dimension_of k p v w left = Lost
+
 -- an item is printed: characters, or bits as a constant
 abbrev pub printed_item : Value → Doing Flow
 printed_item (Characters text) w left = Gives Next (printed text w) left
@@ -113,6 +121,8 @@ module _ (greatest : ℕ) (call : Calls) where
     value_of (AsOffset area e) w left =
         and_then (value_of e w left)
         (λ v w left. and_then (place_of area w left) (λ p w left. answered (offset_made p v w) left))
+    value_of (Bounded which dimension r) w left =
+        and_then (place_of r w left) (λ p w left. answered (bound_of_place which dimension p w) left)
 
     -- an operation on its operands, which are evaluated from left to right; those before, the last first; it
     -- gives 0 behind a condition
@@ -131,13 +141,16 @@ module _ (greatest : ℕ) (call : Calls) where
     root_place (Located e description) w left =
         and_then (value_of e w left) (λ v w left. answered (place_by description v w) left)
 
-    -- the place of a reference: that of its variable, then the part, then a subscript after the other
+    -- the place of a reference: that of its variable, then the part, then a subscript after the other; or a
+    -- subscript for each dimension
     pub place_of : TypedReference → Doing Place
     place_of (Whole root) w left = root_place root w left
     place_of (Part root offset description subscripts) w left =
         and_then (root_place root w left)
         (λ p w left. and_then (answered (led_on offset description p w) left)
         (λ q w left. element_at subscripts q w left))
+    place_of (ElementOf root subscripts) w left =
+        and_then (root_place root w left) (λ p w left. element_by 1 subscripts p w left)
 
     -- each subscript is evaluated, and tested before the next one is evaluated
     pub element_at : Subscripts → Place → Doing Place
@@ -146,6 +159,13 @@ module _ (greatest : ℕ) (call : Calls) where
         and_then (value_of e w left)
         (λ v w left. and_then (element_of stride.low stride.high stride.multiplier p v w left)
         (λ q w left. element_at more q w left))
+
+    -- the same by the dimensions from this one on
+    pub element_by : (dimension : ℕ) → Operands → Place → Doing Place
+    element_by k NoOperand p w left = Gives p w left
+    element_by k (OperandThen e more) p w left =
+        and_then (value_of e w left)
+        (λ v w left. and_then (dimension_of k p v w left) (λ q w left. element_by (suc k) more q w left))
 
     -- a procedure called with arguments, one after the other: a place is handed over as it is, and a value
     -- becomes a dummy argument before the next is looked at; the places before, the last first
@@ -156,6 +176,10 @@ module _ (greatest : ℕ) (call : Calls) where
     called_with callee (ByDummy description e more) before w left =
         and_then (value_of e w left)
         (λ v w left. and_then (answered (dummy_of description v w) left)
+        (λ p w left. called_with callee more (p ∷ before) w left))
+    called_with callee (ByString form e more) before w left =
+        and_then (value_of e w left)
+        (λ v w left. and_then (answered (string_dummy_of form v w) left)
         (λ p w left. called_with callee more (p ∷ before) w left))
 
   -- a condition of IF or WHILE
@@ -168,6 +192,18 @@ module _ (greatest : ℕ) (call : Calls) where
       and_then (place_of target w left)
       (λ p w left. and_then (value_of e w left)
       (λ v w left. and_then (answered (stored p v w) left) (λ _ w left. Gives Next w left)))
+
+  -- a string as the one at a place takes it
+  abbrev pub fitted_at : Place → Value → Doing Value
+  fitted_at p v w left = resolved call.condition (Number (pos 0)) (string_as p v w) left
+
+  -- an assignment to a string whose length is known at its place: the value is fitted to that before the store
+  abbrev pub assigns_string : TypedReference → TypedExpression → Doing Flow
+  assigns_string target e w left =
+      and_then (place_of target w left)
+      (λ p w left. and_then (value_of e w left)
+      (λ v w left. and_then (fitted_at p v w left)
+      (λ x w left. and_then (answered (stored p x w) left) (λ _ w left. Gives Next w left))))
 
   -- of an aggregate: the target's place, the source's, then what the source holds is copied
   abbrev pub assigns_aggregate : (target source : TypedReference) → Doing Flow
@@ -224,20 +260,23 @@ module _ (greatest : ℕ) (call : Calls) where
       (resolved call.condition (Number (pos 0)) (calculation (comes_to greatest operation (v ∷ [])) w) left)
       (operated_by more)
 
-  -- a value converted: by operations; or by an area, which is evaluated for that
-  abbrev pub converted : Conversion → Value → Doing Value
-  converted (ByOperations operations) v w left = operated_by operations v w left
-  converted (AsPointerIn area) v w left =
-      and_then (place_of area w left) (λ p w left. answered (pointer_within p v w) left)
-  converted (AsOffsetIn area) v w left =
-      and_then (place_of area w left) (λ p w left. answered (offset_made p v w) left)
+  -- a value converted to the variable at a place: by operations; by an area, which is evaluated for that; or
+  -- by operations that give a string, which is then fitted to the one at the place
+  abbrev pub converted : Conversion → (at : Place) → Value → Doing Value
+  converted (ByOperations operations) p v w left = operated_by operations v w left
+  converted (AsPointerIn area) p v w left =
+      and_then (place_of area w left) (λ q w left. answered (pointer_within q v w) left)
+  converted (AsOffsetIn area) p v w left =
+      and_then (place_of area w left) (λ q w left. answered (offset_made q v w) left)
+  converted (ToPlace operations) p v w left =
+      and_then (operated_by operations v w left) (λ x w left. fitted_at p x w left)
 
   -- the control variable's place, a value, its conversion, the store
   abbrev pub sets : Iteration → Doing Value → Doing Flow
   sets i value w left =
       and_then (place_of i.control w left)
       (λ p w left. and_then (value w left)
-      (λ v w left. and_then (converted i.conversion v w left)
+      (λ v w left. and_then (converted i.conversion p v w left)
       (λ x w left. and_then (answered (stored p x w) left) (λ _ w left. Gives Next w left))))
 
   -- the control variable and a step more
@@ -278,6 +317,7 @@ module _ (greatest : ℕ) (call : Calls) where
   advances (ToBy to by) i vs w left = sets i (advanced i 2 vs) w left
   advances (ByTo by to) i vs w left = sets i (advanced i 1 vs) w left
   advances (Repeated next) i vs w left = assigns i.control next w left
+  advances (RepeatedString next) i vs w left = assigns_string i.control next w left
 
   -- without TO, BY and REPEAT there is one turn
   abbrev pub turned : (iterated : Bool) (level : ℕ) → (test : Doing Bool) → (list between : Doing Flow)
@@ -316,7 +356,7 @@ module _ (greatest : ℕ) (call : Calls) where
   allocates_item level (AllocatesInArea area template temporary target conversion) w left =
       and_then (block_allocated level area (variable_of template) w left)
       (λ v w left. and_then (place_of target w left)
-      (λ p w left. and_then (converted conversion v w left)
+      (λ p w left. and_then (converted conversion p v w left)
       (λ x w left. and_then (answered (stored p x w) left) (λ _ w left. Gives Next w left))))
 
   -- its items, one after the other
@@ -416,6 +456,7 @@ module _ (greatest : ℕ) (call : Calls) (unit level : ℕ) where
     pub does_form : (block number : ℕ) → Form → Doing Flow
     does_form block number Null w left = Gives Next w left
     does_form block number (Assign target e) w left = assigns greatest call target e w left
+    does_form block number (AssignString target e) w left = assigns_string greatest call target e w left
     does_form block number (AssignAggregate target source) w left =
         assigns_aggregate greatest call target source w left
     does_form block number (AssignArea target source) w left = assigns_area greatest call target source w left

@@ -1,3 +1,4 @@
 pub mod AreaExamples
 pub mod ConditionExamples
+pub mod ExtentExamples
 pub mod TreeExamples

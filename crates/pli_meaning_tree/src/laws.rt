@@ -9,6 +9,8 @@ ghost use Rattle.pli_meaning_tree.specs.examples.ConditionExamples.{ZeroDivideUn
 ghost use Rattle.pli_meaning_tree.specs.examples.ConditionExamples.{AllocateIsRepeated, ExtentExceeds, SignalGoesOn};
 ghost use Rattle.pli_meaning_tree.specs.examples.ConditionExamples.{AreaIsEvaluatedAnew, GroupAroundIsReached};
 ghost use Rattle.pli_meaning_tree.specs.examples.ConditionExamples.{GotoLeavesUnits};
+ghost use Rattle.pli_meaning_tree.specs.examples.ExtentExamples.{StringIsHanded, NothingIsHanded, StringIsFitted};
+ghost use Rattle.pli_meaning_tree.specs.examples.ExtentExamples.{BoundsAreArguments, ControlIsFitted};
 ghost use Rattle.pli_meaning_tree.specs.examples.TreeExamples.{LoopEnds, LoopStops, IfChooses, SubscriptIsTested};
 ghost use Rattle.pli_meaning_tree.specs.examples.TreeExamples.{AggregateIsCopied, BitsArePrinted, ItemBeforeIsWritten};
 ghost use Rattle.pli_meaning_tree.specs.examples.TreeExamples.{FunctionCallsItself, FunctionStops, ByReferenceChanges};
@@ -26,7 +28,8 @@ ghost use Rattle.pli_meaning_tree.specs.examples.TreeExamples.{ListIsLinked, Add
 /// of units, RETURN, STOP, a call of another unit's procedure and a variable that both units have, the generations of a
 /// CONTROLLED variable, a list linked by pointers, and pointers that lead nowhere, offsets that are copied with their
 /// area, areas that are full or that are not there, locators outside their area, and conditions: which ON-unit takes
-/// them, its steps, what stands behind its return or its GOTO, and the repeated ALLOCATE.
+/// them, its steps, what stands behind its return or its GOTO, and the repeated ALLOCATE; and parameters whose extents
+/// are those of the argument.
 pub fn worked_examples()
     ensures loop_ends { LoopEnds }
     ensures loop_stops { LoopStops }
@@ -82,4 +85,9 @@ pub fn worked_examples()
     ensures area_is_evaluated_anew { AreaIsEvaluatedAnew }
     ensures group_around_is_reached { GroupAroundIsReached }
     ensures goto_leaves_units { GotoLeavesUnits }
+    ensures string_is_handed { StringIsHanded }
+    ensures nothing_is_handed { NothingIsHanded }
+    ensures string_is_fitted { StringIsFitted }
+    ensures bounds_are_arguments { BoundsAreArguments }
+    ensures control_is_fitted { ControlIsFitted }
 {}

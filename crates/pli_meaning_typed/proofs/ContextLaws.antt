@@ -6,6 +6,7 @@ use Rattle.std.proofs.Common.{arith, sym, ap, ◌∙◌, subst, inl, inr}
 use Rattle.std.proofs.lemmas.Bool.{eqb-true, eq-eqb}
 use Rattle.pli_run.specs.declared.ending.RunError.TheVariants.{NoGeneration}
 use Rattle.pli_map.specs.Description.{Description}
+use Rattle.pli_map.specs.ParameterTypes.{ParameterType}
 use Rattle.pli_world.specs.Activations.{Activation, activation_at, outward_from, nearest_of, is_of}
 use Rattle.pli_world.specs.Storage.{Place}
 use Rattle.pli_world.specs.World.{Standing, Lies, Stacked, World, Yields, known as there_is, further, height, height_of, slot_in, slot_place}
@@ -16,7 +17,7 @@ use Rattle.pli_type_tree.specs.Globals.{described_as}
 use Rattle.pli_type_tree.specs.TypedTree.{Global, TypedUnit}
 use Rattle.pli_type_tree.specs.WellTyped.{BlockAround, AreAround, AreAroundUnit, blocks_from, with_labels}
 use Rattle.pli_meaning_tree.specs.Effects.{Label}
-use Rattle.pli_meaning_typed.specs.SoundWorlds.{IsWhole, IsVariable, IsPassed, AreSlots, Known, AreKnown, Shape, AreShaped, Stand, EachGood, StandsGood, IsSound, IsLater, Answers}
+use Rattle.pli_meaning_typed.specs.SoundWorlds.{IsWhole, IsVariable, IsPassed, IsOwnSlot, AreSlots, Known, AreKnown, Shape, AreShaped, Stand, EachGood, StandsGood, IsSound, IsLater, Answers}
 use Rattle.pli_meaning_typed.proofs.WorldLaws.{later_same, error_named}
 
 none_some : {A : Type 0} {x : A} → None ≡ Some x → ⊥
@@ -255,19 +256,23 @@ stand_labels unit known more labels (s ∷ ss) h (b ∷ bs) wide new (inr stand)
     by n (inr k) = wide h (record { unit = unit; number = n }) (stand.3 n k)
 
 -- the operations that walk
-abbrev AtSlot : World → List Place → (parameters slot : ℕ) → Description → Type 0
-AtSlot w ps k n d = (p : Place) × (slice_get ps n ≡ Some p) × IsPassed w d p × (k ≤ n → IsWhole w p)
+abbrev AtSlot : World → List Place → (parameters slot : ℕ) → ParameterType → Type 0
+AtSlot w ps k n t = (p : Place) × (slice_get ps n ≡ Some p) × IsPassed w t p × (k ≤ n → IsWhole w p)
 
-good_at : (w : World) (ds : List Description) (ps : List Place) (k n : ℕ) (d : Description) → AreSlots w ds ps k → slice_get ds n ≡ Some d
-    → AtSlot w ps k n d
-good_at w [] ps k n d good e = absurd (none_some e)
-good_at w (c ∷ ds) [] k n d good e = absurd good
-good_at w (c ∷ ds) (p ∷ ps) zero zero d good e = (p, refl, subst (λ c. IsPassed w c p) (some_same e) (good.0.0.0, λ is. good.0), λ le. good.0.0.1)
-good_at w (c ∷ ds) (p ∷ ps) (suc k) zero d good e = (p, refl, subst (λ c. IsPassed w c p) (some_same e) good.0, λ le. absurd (omega (arith, le)))
-good_at w (c ∷ ds) (p ∷ ps) zero (suc n) d good e =
-    let r = good_at w ds ps zero n d good.1 e in (r.0, r.1, r.2, λ le. r.3 (omega arith))
-good_at w (c ∷ ds) (p ∷ ps) (suc k) (suc n) d good e =
-    let r = good_at w ds ps k n d good.1 e in (r.0, r.1, r.2, λ le. r.3 (omega (arith, le)))
+-- a variable's own place may be handed over
+own_passed : (w : World) (t : ParameterType) (p : Place) → IsOwnSlot w t p → IsPassed w t p
+own_passed w t p own = subst (λ t. IsPassed w t p) (sym own.1) (own.0, refl, own.2.0.0, λ is. own.2)
+
+good_at : (w : World) (ts : List ParameterType) (ps : List Place) (k n : ℕ) (t : ParameterType) → AreSlots w ts ps k → slice_get ts n ≡ Some t
+    → AtSlot w ps k n t
+good_at w [] ps k n t good e = absurd (none_some e)
+good_at w (c ∷ ts) [] k n t good e = absurd good
+good_at w (c ∷ ts) (p ∷ ps) zero zero t good e = (p, refl, subst (λ c. IsPassed w c p) (some_same e) (own_passed w c p good.0), λ le. good.0.2.0.1)
+good_at w (c ∷ ts) (p ∷ ps) (suc k) zero t good e = (p, refl, subst (λ c. IsPassed w c p) (some_same e) good.0, λ le. absurd (omega (arith, le)))
+good_at w (c ∷ ts) (p ∷ ps) zero (suc n) t good e =
+    let r = good_at w ts ps zero n t good.1 e in (r.0, r.1, r.2, λ le. r.3 (omega arith))
+good_at w (c ∷ ts) (p ∷ ps) (suc k) (suc n) t good e =
+    let r = good_at w ts ps k n t good.1 e in (r.0, r.1, r.2, λ le. r.3 (omega (arith, le)))
 
 module _ (unit : ℕ) (units : List TypedUnit) (known : Known) (ss : List Shape) (blocks : List BlockAround) where
   walked_to : (w : World) (outward : ℕ) (b : BlockAround) → IsSound units ss w → Stand unit known ss (length ss) blocks
@@ -282,13 +287,13 @@ module _ (unit : ℕ) (units : List TypedUnit) (known : Known) (ss : List Shape)
   height_there w outward b sound stand e =
       let f = walked_to w outward b sound stand e in (f.height, ap (λ o. there_is o w) f.walked, f.labels)
 
-  pub slot_there : (w : World) (outward slot : ℕ) (b : BlockAround) (d : Description) → IsSound units ss w
-      → Stand unit known ss (length ss) blocks → slice_get blocks outward ≡ Some b → slice_get b.slots slot ≡ Some d
-      → (p : Place) × (slot_place outward slot w ≡ Yields p w) × IsPassed w d p × (b.parameters ≤ slot → IsWhole w p)
+  pub slot_there : (w : World) (outward slot : ℕ) (b : BlockAround) (t : ParameterType) → IsSound units ss w
+      → Stand unit known ss (length ss) blocks → slice_get blocks outward ≡ Some b → slice_get b.slots slot ≡ Some t
+      → (p : Place) × (slot_place outward slot w ≡ Yields p w) × IsPassed w t p × (b.parameters ≤ slot → IsWhole w p)
   unfolding slot_place height_of
-  slot_there w outward slot b d sound stand e g =
+  slot_there w outward slot b t sound stand e g =
       let f = walked_to w outward b sound stand e in
-      let p = good_at w b.slots f.activation.slots b.parameters slot d f.good g in (
+      let p = good_at w b.slots f.activation.slots b.parameters slot t f.good g in (
         p.0,
         ap (λ o. further (there_is o w) (λ h w. slot_in (activation_at w.activations h) slot w)) f.walked
             ∙ ap (λ o. slot_in o slot w) f.there ∙ ap (λ o. there_is o w) p.1,

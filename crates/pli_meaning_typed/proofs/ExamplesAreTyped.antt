@@ -3,7 +3,9 @@ use Rattle.std.specs.Prelude.{◌≡◌, ℕ, zero, suc, nat_eq, Bool, true, fal
 use Rattle.std.proofs.Common.{arith, sym, ap, ◌∙◌, subst, inl, true≢false}
 use Rattle.std.proofs.lemmas.Bool.{eqb-true, leb-true}
 use Rattle.pli_base.specs.Name.{Name}
-use Rattle.pli_map.specs.Description.{Pointer, Offset, Area}
+use Rattle.pli_map.specs.Description.{Pointer, Offset, Area, Array}
+use Rattle.pli_map.specs.declared.parameter.StringForm.TheVariants.{Character}
+use Rattle.pli_map.specs.ParameterTypes.{Stated, AnyString, AnyArray}
 use Rattle.pli_type_tree.specs.Templates.{Template}
 use Rattle.pli_program.specs.declared.kind.VariableKind.{VariableKind}
 use Rattle.pli_program.specs.declared.kind.VariableKind.TheVariants.{Static}
@@ -12,7 +14,7 @@ use Rattle.pli_type_tree.specs.ValueTypes.{OfCharacters, OfBits, Numbers, Pointe
 use Rattle.pli_type_tree.specs.WellTyped.{KnownProcedure, TypingContext, IsTyped, IsAreaReference, IsPlaced, IsString, IsValueFor, Convert, in_group, IsUnitHere, AreTypedStatements}
 use Rattle.pli_meaning_tree.specs.TreeMeaning.{procedure_in, unit_named}
 use Rattle.pli_meaning_typed.specs.TypedPrograms.{context_in, IsTypedProcedure, IsTypedUnit}
-use Rattle.pli_meaning_typed.specs.examples.TypedExamples.{number, counter, one_more, few, counting, returning, caller, successor, of_caller, of_successor, signatures, ExampleIsWellTyped, GroupsAreWellTyped, plain, StackIsWellTyped, pointing, pointer, pointed, PointersAreWellTyped, declared_area, declared_offset, area_used, offset_used, block_used, AreasAreWellTyped, of_jumping, with_unit, handling, ConditionsAreWellTyped, shared, numeric, asker, answerer, asking_unit, answering_unit, UnitsAreWellTyped}
+use Rattle.pli_meaning_typed.specs.examples.TypedExamples.{number, counter, one_more, few, counting, returning, caller, successor, of_caller, of_successor, signatures, ExampleIsWellTyped, GroupsAreWellTyped, plain, StackIsWellTyped, pointing, pointer, pointed, PointersAreWellTyped, declared_area, declared_offset, area_used, offset_used, block_used, AreasAreWellTyped, of_jumping, with_unit, handling, ConditionsAreWellTyped, shared, numeric, asker, answerer, asking_unit, answering_unit, UnitsAreWellTyped, short, three, of_stars, StarsAreWellTyped}
 
 abbrev in_caller : TypingContext
 in_caller = context_in [] signatures of_caller caller
@@ -21,10 +23,10 @@ abbrev in_successor : TypingContext
 in_successor = context_in [] signatures of_successor successor
 
 counter_in_caller : IsTyped 31 in_caller (Held counter) (Numbers 31)
-counter_in_caller = (number, refl, refl)
+counter_in_caller = (Stated number, refl, refl)
 
 counter_in_successor : IsTyped 31 in_successor (Held counter) (Numbers 31)
-counter_in_successor = (number, refl, refl)
+counter_in_successor = (Stated number, refl, refl)
 
 successor_typed : AreTypedStatements 31 in_successor returning
 successor_typed = (
@@ -76,10 +78,10 @@ caller_typed = (
     (
       Numbers 31,
       (
-        number ∷ [],
+        Stated number ∷ [],
         number,
         (of_successor, refl, refl, (of_successor.around, refl, (refl, (refl, refl), λ l h. h, λ l h. h, tt)), refl, refl),
-        (number, [], refl, refl, λ is. absurd (true≢false (sym is)), refl),
+        (Stated number, Stated number, [], refl, refl, refl, tt, λ is. absurd (true≢false (sym is)), refl),
         refl,
       ),
       (Numbers 31, refl, omega arith),
@@ -167,7 +169,7 @@ pub groups_are : GroupsAreWellTyped
 groups_are = (
   (
     (
-      number,
+      Stated number,
       refl,
       (Numbers 1, (pos 1, refl, omega arith), counts 1),
       (((31, refl), counts), (2, (pos 2, refl, omega arith)), (4, (pos 9, refl, omega arith))),
@@ -175,27 +177,27 @@ groups_are = (
     ),
     tt,
   ),
-  ((number, refl, (Numbers 1, (pos 1, refl, omega arith), counts 1), one_more_in_caller, few_in_caller), tt),
+  ((Stated number, refl, (Numbers 1, (pos 1, refl, omega arith), counts 1), one_more_in_caller, few_in_caller), tt),
 )
 
 -- a CONTROLLED variable
 pub stack_is : StackIsWellTyped
-stack_is = ((refl, tt), ((number, refl, (Numbers 15, (refl, refl), (Numbers 31, refl, omega arith))), ((refl, tt), tt)))
+stack_is = ((refl, tt), ((number, (number, refl, refl), (Numbers 15, (refl, refl), (Numbers 31, refl, omega arith))), ((refl, tt), tt)))
 
 -- a BASED variable, where a POINTER leads
 pointer_held : IsTyped 31 (context_in (pointing ∷ []) signatures of_caller caller) (Held pointer) Pointers
-pointer_held = (Pointer, refl, refl)
+pointer_held = (Stated Pointer, (Pointer, refl, refl), refl)
 
-pointed_placed : IsPlaced 31 (context_in (pointing ∷ []) signatures of_caller caller) pointed number
+pointed_placed : IsPlaced 31 (context_in (pointing ∷ []) signatures of_caller caller) pointed (Stated number)
 pointed_placed = (refl, pointer_held)
 
 pub pointers_are : PointersAreWellTyped
 pointers_are = (
-  (((leb-true 4 1000000 refl, (refl, tt)), refl), tt),
+  (((leb-true 4 1000000 refl, (refl, tt)), (Pointer, refl, refl)), tt),
   (
-    (number, pointed_placed, (Numbers 31, (number, pointed_placed, refl), (Numbers 31, refl, omega arith))),
+    (number, pointed_placed, (Numbers 31, (Stated number, pointed_placed, refl), (Numbers 31, refl, omega arith))),
     (
-      (Pointer, refl, (Pointers, ((tt, (number, pointed_placed)), refl), (Pointers, refl, tt))),
+      (Pointer, (Pointer, refl, refl), (Pointers, ((tt, (number, pointed_placed)), refl), (Pointers, refl, tt))),
       ((pointer_held, tt), tt),
     ),
   ),
@@ -206,23 +208,67 @@ abbrev with_area : TypingContext
 with_area = context_in (declared_area ∷ declared_offset ∷ []) signatures of_caller caller
 
 area_known : IsAreaReference 31 with_area area_used
-area_known = (tt, (Area 64, refl, refl))
+area_known = (tt, (Area 64, (Area 64, refl, refl), refl))
 
 block_pointed : IsTyped 31 with_area (AsPointer area_used (Held offset_used)) Pointers
-block_pointed = ((Offset, refl, refl), area_known, refl)
+block_pointed = ((Stated Offset, (Offset, refl, refl), refl), area_known, refl)
 
-block_placed : IsPlaced 31 with_area block_used number
+block_placed : IsPlaced 31 with_area block_used (Stated number)
 block_placed = (refl, block_pointed)
 
 pub areas_are : AreasAreWellTyped
 areas_are = (
   (
-    (area_known, ((leb-true 4 1000000 refl, (refl, tt)), refl), (Offset, refl, (area_known, refl, (Offsets, refl, tt)))),
+    (area_known, ((leb-true 4 1000000 refl, (refl, tt)), refl), (Offset, (Offset, refl, refl), (area_known, refl, (Offsets, refl, tt)))),
     tt,
   ),
   (
-    (number, block_placed, (Numbers 31, (number, block_placed, refl), (Numbers 31, refl, omega arith))),
+    (number, block_placed, (Numbers 31, (Stated number, block_placed, refl), (Numbers 31, refl, omega arith))),
     ((area_known, area_known), (area_known, tt)),
+  ),
+)
+
+-- a procedure whose parameters have asterisks, and a call of it
+pub stars_are : StarsAreWellTyped
+stars_are = (
+  (
+    (Character, refl, (1, 1, (49 ∷ [], refl, omega arith, omega arith))),
+    (
+      (
+        short,
+        ((AnyArray 1 (Stated short), refl, refl), omega arith, ((1, (pos 1, refl, omega arith)), tt)),
+        (
+          Numbers 15,
+          (
+            Numbers 16 ∷ [],
+            (Numbers 16, [], refl, ((1, Stated short, refl, omega arith, omega arith), refl), refl),
+            (Numbers 16, refl, tt, refl),
+          ),
+          (Numbers 15, refl, omega arith),
+        ),
+      ),
+      tt,
+    ),
+  ),
+  (
+    AnyString Character ∷ AnyArray 1 (Stated short) ∷ [],
+    (of_stars, refl, refl, (of_stars.around, refl, (refl, (refl, refl), λ l h. h, λ l h. h, tt)), refl, refl),
+    (
+      AnyArray 1 (Stated short) ∷ [],
+      refl,
+      (2, 2, (65 ∷ 66 ∷ [], refl, omega arith, omega arith), omega arith),
+      (
+        AnyArray 1 (Stated short),
+        Stated (Array three short),
+        [],
+        refl,
+        refl,
+        refl,
+        ((omega arith, omega arith, tt), tt),
+        λ is. absurd (true≢false (sym is)),
+        refl,
+      ),
+    ),
   ),
 )
 
@@ -245,7 +291,7 @@ abbrev known_asker : KnownProcedure
 known_asker = record { is_on_unit = false; parent = None; around = []; parameters = []; value = None }
 
 abbrev known_answerer : KnownProcedure
-known_answerer = record { is_on_unit = false; parent = None; around = []; parameters = number ∷ []; value = Some number }
+known_answerer = record { is_on_unit = false; parent = None; around = []; parameters = Stated number ∷ []; value = Some number }
 
 abbrev alone : KnownProcedure → ℕ → Option KnownProcedure
 alone p n = if nat_eq n 0 then Some p else None
@@ -274,10 +320,10 @@ asking_typed = record {
     statements = (
       (
         number,
-        refl,
+        (number, refl, refl),
         (
           Numbers 31,
-          (number ∷ [], number, refl, (number, [], refl, refl, λ is. absurd (true≢false (sym is)), refl), refl),
+          (Stated number ∷ [], number, refl, (Stated number, Stated number, [], refl, (number, refl, refl), refl, tt, λ is. absurd (true≢false (sym is)), refl), refl),
           (Numbers 31, refl, omega arith),
         ),
       ),
@@ -297,7 +343,7 @@ answering_typed = record {
     parameters = refl;
     end = tt;
     made = tt;
-    statements = ((refl, (number, refl, (Numbers 31, (number, refl, refl), (Numbers 31, refl, omega arith)))), tt);
+    statements = ((refl, (number, refl, (Numbers 31, (Stated number, (number, refl, refl), refl), (Numbers 31, refl, omega arith)))), tt);
   }) n q e;
 }
 

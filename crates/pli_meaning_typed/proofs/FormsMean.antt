@@ -1,9 +1,12 @@
 -- What each form of a statement means, without those that hold statements.
 use Rattle.std.specs.Prelude.{◌≡◌, ℕ, zero, suc, ◌≤◌, pos, Bool, true, false, IsTrue, Option, Some, None}
 use Rattle.std.specs.Prelude.{List, [], ◌∷◌, length, slice_get, refl}
-use Rattle.std.proofs.Common.{arith, sym, ap, ◌∙◌, subst}
+use Rattle.std.proofs.Common.{arith, sym, ap, ◌∙◌, subst, true≢false}
 use Rattle.pli_base.specs.declared.statement.Condition.{Condition}
-use Rattle.pli_map.specs.Description.{Description, Pointer}
+use Rattle.pli_map.specs.Description.{Description, Character, Varying, Bit, Pointer}
+use Rattle.pli_map.specs.ParameterTypes.{ParameterType, Stated, AnyString, is_string_of}
+use Rattle.pli_map.specs.declared.parameter.StringForm.{StringForm}
+use Rattle.pli_map.specs.declared.parameter.StringForm.TheVariants as forms
 use Rattle.pli_map.specs.Scalars.{is_area, scalars_of}
 use Rattle.pli_map.specs.Values.{holds}
 use Rattle.pli_map.specs.Variables.{Variable}
@@ -15,23 +18,23 @@ use Rattle.pli_world.specs.Storage.{Place}
 use Rattle.pli_world.specs.World.{World, Answer, stored, copied, calculation, line_ended}
 use Rattle.pli_value.specs.Conversions.{bit_constant}
 use Rattle.pli_value.specs.Value.{Value, Number}
-use Rattle.pli_type_tree.specs.TypedTree.{Callee, TypedOperation, TypedUnit, TypedExpression, TypedReference, TypedArguments, Assign}
-use Rattle.pli_type_tree.specs.TypedTree.{Conversion, ByOperations, AsPointerIn, AsOffsetIn}
+use Rattle.pli_type_tree.specs.TypedTree.{Callee, TypedOperation, TypedUnit, TypedExpression, TypedReference, TypedArguments, Assign, AssignString}
+use Rattle.pli_type_tree.specs.TypedTree.{Conversion, ByOperations, AsPointerIn, AsOffsetIn, ToPlace}
 use Rattle.pli_type_tree.specs.TypedTree.{AssignAggregate, AssignArea, AllocatedItem, AllocatesControlled, AllocatesBased, AllocatesInArea, FreedItem, FreesControlled, FreesBased, Call, ReturnValue}
 use Rattle.pli_type_tree.specs.Templates.{variable_of}
 use Rattle.pli_type_tree.specs.TypedOperations.{comes_to}
-use Rattle.pli_type_tree.specs.ValueTypes.{StringKind, OfCharacters, OfBits, ValueType, Strings, Pointers, Offsets, IsOf, IsHeldBy}
-use Rattle.pli_type_tree.specs.WellTyped.{BlockAround, TypingContext, IsTyped, IsPlaced, IsAreaReference, IsString, IsMade, AreItems, Convert, IsConversion, IsAllocated, AreAllocated, IsFreed, AreFreed}
+use Rattle.pli_type_tree.specs.ValueTypes.{StringKind, OfCharacters, OfBits, ValueType, Strings, Pointers, Offsets, kind_of_form, IsOf, IsHeldBy}
+use Rattle.pli_type_tree.specs.WellTyped.{BlockAround, TypingContext, IsTyped, IsPlaced, IsAreaReference, IsString, IsMade, AreItems, Convert, ConvertToKind, ConvertsTo, ConvertsToKind, IsConversion, IsAllocated, AreAllocated, IsFreed, AreFreed}
 use Rattle.pli_type_tree.specs.WellTyped.{knows_label, IsUnitHere, IsTypedForm}
 use Rattle.pli_meaning_tree.specs.Effects.{Effect, Gives, Jumps, Flow, Next, Returned, Doing, and_then, answered, resolved, as_step, truth}
-use Rattle.pli_meaning_tree.specs.TreeMeaning.{Calls, no_value, printed_item, value_of, place_of, called_with, condition, assigns, assigns_aggregate, assigns_area, empties, puts, skips}
+use Rattle.pli_meaning_tree.specs.TreeMeaning.{Calls, no_value, printed_item, value_of, place_of, called_with, condition, assigns, fitted_at, assigns_string, assigns_aggregate, assigns_area, empties, puts, skips}
 use Rattle.pli_meaning_tree.specs.TreeMeaning.{operated_by, converted, block_allocated, allocates_item, allocates, frees_item, frees, signals, establishes, does_call, returns_value, jumps_to}
-use Rattle.pli_meaning_typed.specs.SoundWorlds.{IsGood, Known, Shape, Stand, IsSound, IsLater, Answers}
+use Rattle.pli_meaning_typed.specs.SoundWorlds.{IsGood, Takes, Known, Shape, Stand, IsSound, IsLater, Answers}
 use Rattle.pli_meaning_typed.proofs.AreaLaws.{emptied_answers, assigned_answers, offset_answers, within_answers, block_answers}
 use Rattle.pli_meaning_typed.proofs.MeansLemmas.{Means, Anything, means_as, means_from, then_means, answer_means, answer_kept, kept_answers}
 use Rattle.pli_meaning_typed.proofs.MeansLemmas.{step_means, followed_means, lower_means, behind_step}
 use Rattle.pli_meaning_typed.proofs.OnUnits.{Holds, established_answers, reverted_sound}
-use Rattle.pli_meaning_typed.proofs.ExpressionsMean.{IsReturned, Gives as GivesBack, OfType, AtPlace, AreaPlace, CallsMean, IsInside, narrow_held, one_scalar, handled_means, resolved_means, calculated_means, value_means, area_means, good_means, called_means}
+use Rattle.pli_meaning_typed.proofs.ExpressionsMean.{IsReturned, Gives as GivesBack, OfType, AtPlace, AreaPlace, HeldBy, TakenPlace, CallsMean, IsInside, narrow_held, one_scalar, handled_means, resolved_means, calculated_means, fitted_means, value_means, area_means, good_means, taken_means, called_means}
 use Rattle.pli_meaning_typed.proofs.ContextLaws.{stand_around, at_rest, around_unit, height_there}
 use Rattle.pli_meaning_typed.proofs.PointerLaws.{free_answers, pointer_answers}
 use Rattle.pli_meaning_typed.proofs.RaisesLaws.{RaisesIn, block_raises, assigned_raises}
@@ -46,14 +49,28 @@ operated_scalar : (greatest : ℕ) (operations : List TypedOperation) (t : Value
 operated_scalar n [] t d c = (one_scalar d c.0 c.1).1
 operated_scalar n (operation ∷ more) t d c = operated_scalar n more c.0 d c.2
 
-pub converts_scalar : (greatest : ℕ) (s : TypingContext) (conversion : Conversion) (t : ValueType) (d : Description) → IsConversion greatest s conversion t d → scalars_of d ≡ d ∷ []
+pub converts_scalar : (greatest : ℕ) (s : TypingContext) (conversion : Conversion) (t : ValueType) (d : Description) → ConvertsTo greatest s conversion t d → scalars_of d ≡ d ∷ []
 converts_scalar n s (ByOperations operations) t d c = operated_scalar n operations t d c
 converts_scalar n s (AsPointerIn area) t d c = (one_scalar d c.2.0 c.2.1).1
 converts_scalar n s (AsOffsetIn area) t d c = (one_scalar d c.2.0 c.2.1).1
+converts_scalar n s (ToPlace operations) t d c = absurd c
 
--- a value that a variable of the description holds
-abbrev pub HeldBy : Description → Value → World → Type 0
-HeldBy d v w = IsTrue (holds d v)
+-- a string of a kind
+abbrev OfKind : StringKind → Value → World → Type 0
+OfKind kind v w = (a : ℕ) × (b : ℕ) × IsOf (Strings kind a b) v
+
+-- so is what a type of a string takes
+any_scalar : (form : StringForm) (e : Description) → is_string_of form e ≡ true → scalars_of e ≡ e ∷ []
+any_scalar forms.Character (Character n) h = refl
+any_scalar forms.Varying (Varying n) h = refl
+any_scalar forms.Bit (Bit n) h = refl
+any_scalar form e h = absurd (true≢false (sym h))
+
+pub conversion_scalar : (greatest : ℕ) (s : TypingContext) (conversion : Conversion) (t : ValueType) (type : ParameterType) (e : Description) → IsConversion greatest s conversion t type → Takes type e
+    → scalars_of e ≡ e ∷ []
+conversion_scalar n s conversion t (Stated d) e c taken = subst (λ e. scalars_of e ≡ e ∷ []) (sym taken) (converts_scalar n s conversion t d c)
+conversion_scalar n s conversion t (AnyString form) e c taken = any_scalar form e taken.0
+conversion_scalar n s conversion t type e c taken = absurd c
 
 -- how a statement goes on
 abbrev pub FlowIs : (begins : ℕ) → Option Description → Flow → World → Type 0
@@ -96,9 +113,17 @@ module _ (units : List TypedUnit) (greatest level : ℕ) (call : Calls) (unit : 
         → Here s known x ss left w (OfType t) (value_of greatest call e w left)
     value = value_means units greatest level call unit s known x ss fits.inside fits.stand fits.outlasts calls
 
-    pub place : (r : TypedReference) (d : Description) → IsPlaced greatest s r d → (w : World) (left : ℕ) → Sound w
+    pub place : (r : TypedReference) (d : Description) → IsPlaced greatest s r (Stated d) → (w : World) (left : ℕ) → Sound w
         → Here s known x ss left w (AtPlace d) (place_of greatest call r w left)
     place = good_means units greatest level call unit s known x ss fits.inside fits.stand fits.outlasts calls
+
+    pub taken_place : (r : TypedReference) (t : ParameterType) → IsPlaced greatest s r t → (w : World) (left : ℕ) → Sound w
+        → Here s known x ss left w (TakenPlace t) (place_of greatest call r w left)
+    taken_place = taken_means units greatest level call unit s known x ss fits.inside fits.stand fits.outlasts calls
+
+    pub fitted : (form : StringForm) (a b : ℕ) (e : Description) (p : Place) (v : Value) (w : World) (left : ℕ) → Sound w → Takes (AnyString form) e → p.description ≡ e
+        → IsOf (Strings (kind_of_form form) a b) v → Here s known x ss left w (HeldBy e) (fitted_at greatest call p v w left)
+    fitted = fitted_means units greatest level call unit s known x ss fits.inside fits.stand fits.outlasts calls
 
     area_place : (r : TypedReference) → IsAreaReference greatest s r → (w : World) (left : ℕ) → Sound w
         → Here s known x ss left w AreaPlace (place_of greatest call r w left)
@@ -142,19 +167,45 @@ module _ (units : List TypedUnit) (greatest level : ℕ) (call : Calls) (unit : 
         (calculated_means units greatest level call unit s known x ss fits.inside fits.stand fits.outlasts calls operation (t ∷ []) c.0 (v ∷ []) c.1 (is, tt) w left sound)
         (λ y w l is sound later. operated_means more c.0 d c.2 y is w l sound)
 
-    pub converted_means : (conversion : Conversion) (t : ValueType) (d : Description) → IsConversion greatest s conversion t d → (v : Value) → IsOf t v → (w : World) (left : ℕ) → Sound w
-        → Here s known x ss left w (HeldBy d) (converted greatest call conversion v w left)
-    converted_means (ByOperations operations) t d c v is w left sound = operated_means operations t d c v is w left sound
-    converted_means (AsPointerIn area) t d c v is w left sound =
+    -- or a string
+    string_means : (operations : List TypedOperation) (t : ValueType) (kind : StringKind) → ConvertToKind greatest operations t kind → (v : Value) → IsOf t v → (w : World) (left : ℕ) → Sound w
+        → Here s known x ss left w (OfKind kind) (operated_by greatest call operations v w left)
+    string_means [] t kind c v is w left sound = (omega arith, (c.0, c.1, subst (λ t. IsOf t v) c.2 is), sound, later_same w)
+    string_means (operation ∷ more) t kind c v is w left sound =
+        then_here (OfType c.0) (OfKind kind) left w (resolved call.condition (Number (pos 0)) (calculation (comes_to greatest operation (v ∷ [])) w) left) _
+        (calculated_means units greatest level call unit s known x ss fits.inside fits.stand fits.outlasts calls operation (t ∷ []) c.0 (v ∷ []) c.1 (is, tt) w left sound)
+        (λ y w l is sound later. string_means more c.0 kind c.2 y is w l sound)
+
+    pub converted_means : (conversion : Conversion) (t : ValueType) (d : Description) → ConvertsTo greatest s conversion t d → (p : Place) (v : Value) → IsOf t v → (w : World) (left : ℕ) → Sound w
+        → Here s known x ss left w (HeldBy d) (converted greatest call conversion p v w left)
+    converted_means (ByOperations operations) t d c place v is w left sound = operated_means operations t d c v is w left sound
+    converted_means (AsPointerIn area) t d c place v is w left sound =
         then_here AreaPlace (HeldBy d) left w (place_of greatest call area w left) _ (area_place area c.0 w left sound)
         (λ p u l own sound later. means_as units (OfType Pointers) (HeldBy d) level l known (x ∷ ss) u (answered (pointer_within p v u) l) (λ y z is. narrow_held d Pointers y c.2 is)
         (answer_means units (OfType Pointers) level l known (x ∷ ss) u (pointer_within p v u)
         (within_answers units x ss own.0 p v u (subst (λ t. IsOf t v) c.1 is) sound own.1 own.2)))
-    converted_means (AsOffsetIn area) t d c v is w left sound =
+    converted_means (AsOffsetIn area) t d c place v is w left sound =
         then_here AreaPlace (HeldBy d) left w (place_of greatest call area w left) _ (area_place area c.0 w left sound)
         (λ p u l own sound later. means_as units (OfType Offsets) (HeldBy d) level l known (x ∷ ss) u (answered (offset_made p v u) l) (λ y z is. narrow_held d Offsets y c.2 is)
         (answer_means units (OfType Offsets) level l known (x ∷ ss) u (offset_made p v u)
         (offset_answers units x ss own.0 p v u (subst (λ t. IsOf t v) c.1 is) sound own.1 own.2)))
+    converted_means (ToPlace operations) t d c place v is w left sound = absurd c
+
+    -- a conversion to a string of any length, which the place has
+    kind_means : (conversion : Conversion) (t : ValueType) (form : StringForm) (e : Description) → ConvertsToKind greatest conversion t (kind_of_form form) → (p : Place) (v : Value) → IsOf t v
+        → (w : World) (left : ℕ) → Sound w → Takes (AnyString form) e → p.description ≡ e → Here s known x ss left w (HeldBy e) (converted greatest call conversion p v w left)
+    kind_means (ToPlace operations) t form e c p v is w left sound taken described =
+        then_here (OfKind (kind_of_form form)) (HeldBy e) left w (operated_by greatest call operations v w left) _ (string_means operations t (kind_of_form form) c v is w left sound)
+        (λ y u l of sound later. fitted form of.0 of.1 e p y u l sound taken described of.2)
+    kind_means conversion t form e c p v is w left sound taken described = absurd c
+
+    -- to what a variable of a type gets
+    pub conversion_means : (conversion : Conversion) (t : ValueType) (type : ParameterType) (e : Description) → IsConversion greatest s conversion t type → Takes type e → (p : Place) → p.description ≡ e
+        → (v : Value) → IsOf t v → (w : World) (left : ℕ) → Sound w → Here s known x ss left w (HeldBy e) (converted greatest call conversion p v w left)
+    conversion_means conversion t (Stated d) e c taken p described v is w left sound =
+        subst (λ e. Here s known x ss left w (HeldBy e) (converted greatest call conversion p v w left)) (sym taken) (converted_means conversion t d c p v is w left sound)
+    conversion_means conversion t (AnyString form) e c taken p described v is w left sound = kind_means conversion t form e c p v is w left sound taken described
+    conversion_means conversion t type e c taken p described v is w left sound = absurd c
 
     pub assigns_means : (target : TypedReference) (e : TypedExpression) → IsTypedForm greatest s (Assign target e) → (w : World) (left : ℕ) → Sound w
         → Here s known x ss left w (Flows s) (assigns greatest call target e w left)
@@ -165,6 +216,19 @@ module _ (units : List TypedUnit) (greatest level : ℕ) (call : Calls) (unit : 
         then_here (AtPlace d) (Flows s) left w (place_of greatest call target w left) _ (place target d typed.1 w left sound)
         (λ p v l good sound later. then_here (OfType t) (Flows s) l v (value_of greatest call e v l) _ (value e t typed.2.1 v l sound)
         (λ y u l is sound later. stores_means d t p y held is u l sound (good_later v u d p later good)))
+
+    -- a string is fitted to the one at its place
+    pub string_assigned : (target : TypedReference) (e : TypedExpression) → IsTypedForm greatest s (AssignString target e) → (w : World) (left : ℕ) → Sound w
+        → Here s known x ss left w (Flows s) (assigns_string greatest call target e w left)
+    string_assigned target e typed w left sound =
+        let form = typed.0 in
+        let a = typed.2.0 in
+        let b = typed.2.1 in
+        let t = Strings (kind_of_form form) a b in
+        then_here (TakenPlace (AnyString form)) (Flows s) left w (place_of greatest call target w left) _ (taken_place target (AnyString form) typed.1 w left sound)
+        (λ p v l at sound later. then_here (OfType t) (Flows s) l v (value_of greatest call e v l) _ (value e t typed.2.2 v l sound)
+        (λ y u l is sound later. then_here (HeldBy at.0) (Flows s) l u (fitted_at greatest call p y u l) _ (fitted form a b at.0 p y u l sound at.1 at.2.described is)
+        (λ z r l held sound later2. keeps_means at.0 p z held (any_scalar form at.0 at.1.0) r l sound (good_later u r at.0 p later2 (good_later v u at.0 p later at.2)))))
 
     pub aggregate_means : (target source : TypedReference) → IsTypedForm greatest s (AssignAggregate target source) → (w : World) (left : ℕ) → Sound w
         → Here s known x ss left w (Flows s) (assigns_aggregate greatest call target source w left)
@@ -255,7 +319,7 @@ module _ (units : List TypedUnit) (greatest level : ℕ) (call : Calls) (unit : 
         then_here (OfType Pointers) (Flows s) left w (block_allocated greatest call level area v w left) _
         (block_means area v typed.0 typed.1.0 typed.1.1 level (omega arith) w left sound)
         (λ y z l is sound later. then_here (AtPlace d) (Flows s) l z (place_of greatest call target z l) _ (place target d typed.2.1 z l sound)
-        (λ p a l good sound later. then_here (HeldBy d) (Flows s) l a (converted greatest call conversion y a l) _ (converted_means conversion Pointers d typed.2.2 y is a l sound)
+        (λ p a l good sound later. then_here (HeldBy d) (Flows s) l a (converted greatest call conversion p y a l) _ (converted_means conversion Pointers d typed.2.2 p y is a l sound)
         (λ q b l held sound later. keeps_means d p q held (converts_scalar greatest s conversion Pointers d typed.2.2) b l sound (good_later a b d p later good))))
 
     pub allocates_mean : (items : List AllocatedItem) → AreAllocated greatest s items → (w : World) (left : ℕ) → Sound w

@@ -1,6 +1,7 @@
 pub mod AreaLaws
 pub mod BlockLemmas
 pub mod ContextLaws
+pub mod ElementsReached
 pub mod ExamplesAreTyped
 pub mod ExpressionsMean
 pub mod FormsMean
@@ -17,5 +18,6 @@ pub mod StackLaws
 pub mod StatementsMean
 pub mod StaticsMade
 pub mod StorageLemmas
+pub mod TypesTaken
 pub mod UnitLemmas
 pub mod WorldLaws

@@ -310,7 +310,7 @@ columns_is width p x room h = by (nat_le (length (signed_decimal x)) width) (le-
     by false e = absurd (true≢false (sym e))
 
 -- a value fitted to a description
-fitted_length : {A : Type 0} (extension : A) (n : ℕ) (s : List A) → length (fitted extension n s) ≡ n
+pub fitted_length : {A : Type 0} (extension : A) (n : ℕ) (s : List A) → length (fitted extension n s) ≡ n
 fitted_length extension n s =
     omega (
       arith,

@@ -190,7 +190,7 @@ module _ (part : Description) (more : ℕ) (d : Description) (j : ℕ) (has : fi
       (j, subst (λ n. first_scalar whole n d ≡ Some j) e (subst (λ w. first_scalar w more d ≡ Some j) (sym h.1) has))
 
   -- found in an element, or in a member
-  in_element : (bounds : List Bounds) (element : Description) (n i : ℕ) → n / stride_of element < count_of bounds
+  pub in_element : (bounds : List Bounds) (element : Description) (n i : ℕ) → n / stride_of element < count_of bounds
       → first_scalar element (n % stride_of element) d ≡ Some i → (k : ℕ) × (first_scalar (Array bounds element) n d ≡ Some k)
   in_element bounds element n i lt h = by (stands_here (Array bounds element) n d) (lt-ltb (n / stride_of element) (count_of bounds) lt)
     where

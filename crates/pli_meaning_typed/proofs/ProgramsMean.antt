@@ -10,6 +10,7 @@ use Rattle.pli_run.specs.declared.ending.Ending.TheVariants as message
 use Rattle.pli_world.specs.Ends.{Ended, OutOfSteps, told}
 use Rattle.pli_run.specs.declared.ending.RunError.TheVariants.{NoReturnedValue}
 use Rattle.pli_map.specs.Description.{Description}
+use Rattle.pli_map.specs.ParameterTypes.{ParameterType}
 use Rattle.pli_program.specs.Program.{is_external}
 use Rattle.pli_machine_step.specs.Runs.{Outcome, outcome_of}
 use Rattle.pli_world.specs.Activations.{nearest_of}
@@ -40,7 +41,7 @@ none_some e = absurd (cc)
 some_same : {A : Type 0} {x y : A} → Some x ≡ Some y → x ≡ y
 some_same e = cc
 
-good_length : (w : World) (ds : List Description) (ps : List Place) → AreGood w ds ps → length ds ≡ length ps
+good_length : (w : World) (ds : List ParameterType) (ps : List Place) → AreGood w ds ps → length ds ≡ length ps
 good_length w [] [] h = refl
 good_length w [] (p ∷ ps) h = absurd h
 good_length w (d ∷ ds) [] h = absurd h
@@ -199,7 +200,7 @@ module _ (units : List TypedUnit) (greatest : ℕ) (all_typed : AreTypedUnits gr
         of_typed = record { unit = u; there = there; typed = typed; has = refl }
 
     -- of an entry
-    entry_means : (i : ℕ) (u : TypedUnit) → slice_get units i ≡ Some u → (number : ℕ) (parameters : List Description) (value : Option Description)
+    entry_means : (i : ℕ) (u : TypedUnit) → slice_get units i ≡ Some u → (number : ℕ) (parameters : List ParameterType) (value : Option Description)
         → signature_of (slice_get u.globals number) ≡ Some (record { parameters = parameters; result = value }) → AreGood w parameters places
         → Mean value (activates_entry greatest units (calls greatest units level) level (entry_unit units (slice_get u.globals number)) places w left)
     entry_means i u there number parameters value e good = by (slice_get u.globals number) refl e
@@ -261,7 +262,7 @@ module _ (units : List TypedUnit) (greatest : ℕ) (all_typed : AreTypedUnits gr
         condition = λ c known x ss outlasts w left sound. raised_mean level (calls_mean level) known x ss outlasts w left sound c;
       }
     where
-      by : AllMean level → (callee : Callee) (parameters : List Description) (value : Option Description) (known : Known) (x : Shape) (ss : List Shape) (blocks : List BlockAround)
+      by : AllMean level → (callee : Callee) (parameters : List ParameterType) (value : Option Description) (known : Known) (x : Shape) (ss : List Shape) (blocks : List BlockAround)
           → IsCallee u.globals typed.procedures blocks callee parameters value → Stand i known (x ∷ ss) (suc (length ss)) blocks → Holds greatest units known (x ∷ ss)
           → (places : List Place) (w : World) (left : ℕ) → IsSound units (x ∷ ss) w → AreGood w parameters places
           → Means units (suc level) left known (x ∷ ss) w (GivesBack value) (called_in greatest units (calls greatest units level) level i u callee places w left)

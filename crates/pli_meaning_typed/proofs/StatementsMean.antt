@@ -5,14 +5,14 @@ use Rattle.std.specs.List.{list_any}
 use Rattle.std.proofs.Common.{arith, sym, ap, ◌∙◌, subst, inr, true≢false}
 use Rattle.std.proofs.lemmas.Bool.{eqb-true, eq-eqb}
 use Rattle.pli_run.specs.declared.ending.Ending.TheVariants as message
-use Rattle.pli_map.specs.Description.{Description}
+use Rattle.pli_map.specs.ParameterTypes.{ParameterType, Stated}
 use Rattle.pli_world.specs.Activations.{nearest_of}
 use Rattle.pli_world.specs.Conditions.{reverted}
 use Rattle.pli_world.specs.Storage.{Place}
 use Rattle.pli_world.specs.World.{World, Answer, Yields, Raises, Wrong, entered, height, at_statement}
 use Rattle.pli_world.specs.Activations.{Head}
 use Rattle.pli_type_tree.specs.Templates.{Template, variable_of}
-use Rattle.pli_type_tree.specs.TypedTree.{TypedExpression, BlockHead, TypedStatement, Statement, Form, Null, Assign}
+use Rattle.pli_type_tree.specs.TypedTree.{TypedExpression, BlockHead, TypedStatement, Statement, Form, Null, Assign, AssignString}
 use Rattle.pli_type_tree.specs.TypedTree.{AssignAggregate, AssignArea, EmptyArea, Put, Allocate, Free, If, Begin, Group, While, Iterate, Call, Goto, Return, ReturnValue, Stop, On, Revert, Signal, OtherWise, NoElse, Else}
 use Rattle.pli_type_tree.specs.TypedTree.{TypedStatements, NoStatement, StatementThen, TypedUnit}
 use Rattle.pli_type_tree.specs.ValueTypes.{OfBits}
@@ -20,7 +20,7 @@ use Rattle.pli_type_tree.specs.WellTyped.{AreMade, BlockAround, KnownProcedure, 
 use Rattle.pli_type_tree.specs.WellTyped.{in_group, block_of, in_begin, IsTypedStatement, IsTypedForm, IsTypedElse, AreTypedStatements}
 use Rattle.pli_meaning_tree.specs.Effects.{Label, Effect, Gives, Flow, Next, Returned, Doing, and_then, nothing_done, followed, answered, back_at}
 use Rattle.pli_meaning_tree.specs.Effects.{leaving, block_end}
-use Rattle.pli_meaning_tree.specs.TreeMeaning.{Calls, condition, assigns, assigns_aggregate, assigns_area, empties, puts, skips, allocates, frees, signals, establishes}
+use Rattle.pli_meaning_tree.specs.TreeMeaning.{Calls, condition, assigns, assigns_string, assigns_aggregate, assigns_area, empties, puts, skips, allocates, frees, signals, establishes}
 use Rattle.pli_meaning_tree.specs.TreeMeaning.{does_call, returns_value, bears, labels_in, head_in, static_link, activation_of, in_block, does, does_form, does_else}
 use Rattle.pli_meaning_tree.specs.TreeMeaning.{does_list, does_from}
 use Rattle.pli_meaning_typed.specs.SoundWorlds.{AreGood, Known, AreKnown, Shape, Stand, IsSound, IsLater, Answers}
@@ -28,7 +28,7 @@ use Rattle.pli_meaning_typed.proofs.OnUnits.{also_wide, IsOfTyped, Holds, holds_
 use Rattle.pli_meaning_typed.proofs.MeansLemmas.{IsBelow, also, Means, Anything, means_from, then_means, statement_means, chosen_means}
 use Rattle.pli_meaning_typed.proofs.MeansLemmas.{caught_means, leaving_means, full_means, followed_means, turns_means}
 use Rattle.pli_meaning_typed.proofs.ExpressionsMean.{CallsMean}
-use Rattle.pli_meaning_typed.proofs.FormsMean.{FlowIs, Fits, condition_means, assigns_means, aggregate_means, area_assigned, area_emptied, skips_means, allocates_mean, frees_mean, call_means}
+use Rattle.pli_meaning_typed.proofs.FormsMean.{FlowIs, Fits, condition_means, assigns_means, string_assigned, aggregate_means, area_assigned, area_emptied, skips_means, allocates_mean, frees_mean, call_means}
 use Rattle.pli_meaning_typed.proofs.FormsMean.{jump_means, on_means, revert_means, signal_means, return_means, value_returned}
 use Rattle.pli_meaning_typed.proofs.IterationsMean.{iterates_means}
 use Rattle.pli_meaning_typed.proofs.ContextLaws.{IsUnit, near, stand_wider, stand_labels, at_rest, rest_in_group, shaped_length}
@@ -82,12 +82,12 @@ in_own_group greatest units unit known x ss s block statements f =
     }
 
 -- the slots of a block
-variables_described : (ts : List Template) → map (λ v. v.description) (map variable_of ts) ≡ map (λ t. t.description) ts
+variables_described : (ts : List Template) → map (λ v. Stated v.description) (map variable_of ts) ≡ map (λ t. Stated t.description) ts
 variables_described [] = refl
-variables_described (t ∷ ts) = ap (λ ds. t.description ∷ ds) (variables_described ts)
+variables_described (t ∷ ts) = ap (λ ds. Stated t.description ∷ ds) (variables_described ts)
 
 -- a block's own statements
-pub in_own_block : (greatest : ℕ) (units : List TypedUnit) (unit : ℕ) (known : Known) (head : BlockHead) (parameters : List Description) (statements : TypedStatements) (link : ℕ) (ss : List Shape)
+pub in_own_block : (greatest : ℕ) (units : List TypedUnit) (unit : ℕ) (known : Known) (head : BlockHead) (parameters : List ParameterType) (statements : TypedStatements) (link : ℕ) (ss : List Shape)
     (s : TypingContext) (around : List BlockAround) → s.blocks ≡ block_of head parameters statements ∷ around → IsUnit units unit s.globals → IsOfTyped greatest units unit s.procedures
     → Stand unit known ss link around → Holds greatest units known ss
     → Fits greatest units unit (also (labels_in unit statements) (suc (length ss)) known)
@@ -117,7 +117,7 @@ in_own_block greatest units unit known head parameters statements link ss s arou
 
 -- an activation: it is entered, runs and is left
 pub activation_means : {A : Type 0} (units : List TypedUnit) (P : Flow → World → Type 0) (Q : A → World → Type 0) (n : ℕ) (known : Known)
-    (ss : List Shape) (head : Head) (link : ℕ) (places : List Place) (parameters : List Description) (procedures : ℕ → Option KnownProcedure) (lasting : Known) (run : Doing Flow) (end : Flow → Doing A)
+    (ss : List Shape) (head : Head) (link : ℕ) (places : List Place) (parameters : List ParameterType) (procedures : ℕ → Option KnownProcedure) (lasting : Known) (run : Doing Flow) (end : Flow → Doing A)
     (w : World) (left : ℕ) → IsBelow known (length ss) → IsSound units ss w → ((u : TypedUnit) × (slice_get units head.unit ≡ Some u)) → AreGood w parameters places
     → AreMade head.variables
     → ((v : World) (l : ℕ) → IsSound units (shape_of head link parameters procedures lasting ∷ ss) v
@@ -243,6 +243,8 @@ module _ (units : List TypedUnit) (greatest level : ℕ) (call : Calls) (unit : 
     form_means Null s known x ss block number typed fits calls w left sound = (omega arith, tt, sound, later_same w)
     form_means (Assign target e) s known x ss block number typed fits calls w left sound =
         grown s known x ss w left (assigns greatest call target e w left) (assigns_means units greatest level call unit s known x ss block fits calls target e typed w left sound)
+    form_means (AssignString target e) s known x ss block number typed fits calls w left sound =
+        grown s known x ss w left (assigns_string greatest call target e w left) (string_assigned units greatest level call unit s known x ss block fits calls target e typed w left sound)
     form_means (AssignAggregate target source) s known x ss block number typed fits calls w left sound =
         grown s known x ss w left (assigns_aggregate greatest call target source w left)
         (aggregate_means units greatest level call unit s known x ss block fits calls target source typed w left sound)

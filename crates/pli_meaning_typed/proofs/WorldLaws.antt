@@ -10,6 +10,7 @@ use Rattle.pli_run.specs.declared.ending.RunError.{RunError}
 use Rattle.pli_run.specs.declared.ending.RunError.TheVariants.{DeadLocator, DescriptionMismatch, StorageLimit}
 use Rattle.std.proofs.lemmas.Option.{slice_get-map}
 use Rattle.pli_map.specs.Description.{Description}
+use Rattle.pli_map.specs.ParameterTypes.{ParameterType, Stated}
 use Rattle.pli_map.specs.Same.{same}
 use Rattle.pli_map.specs.laws.SameLaws.{same_decides}
 use Rattle.pli_map.specs.Scalars.{first_scalar, is_area, is_scalar, scalars_in, scalars_of}
@@ -32,7 +33,7 @@ use Rattle.pli_world.specs.World.{static_in, printed, line_ended, error_in, erro
 use Rattle.pli_value.specs.Value.{Value}
 use Rattle.pli_type_tree.specs.TypedTree.{TypedUnit}
 use Rattle.pli_type_tree.specs.WellTyped.{AreHeld, AreMade, KnownProcedure}
-use Rattle.pli_meaning_typed.specs.SoundWorlds.{IsPartAt, IsNear, HasPart, IsGood, IsWhole, IsOwn, IsVariable, IsPassed, AreGood, AreSlots, AreSoundBlocks, IsHolding, HoldsValues, Known, Shape, AreShaped, HaveUnits, AreOfUnits, EachGood, AreStacksGood, StandsGood, AreStatics}
+use Rattle.pli_meaning_typed.specs.SoundWorlds.{IsPartAt, IsNear, HasPart, IsGood, IsWhole, IsOwn, IsVariable, IsPassed, AreGood, IsOwnSlot, AreSlots, AreSoundBlocks, IsHolding, HoldsValues, Known, Shape, AreShaped, HaveUnits, AreOfUnits, EachGood, AreStacksGood, StandsGood, AreStatics}
 use Rattle.pli_meaning_typed.specs.SoundWorlds.{IsSound, IsLater, IsTold, Answers}
 use Rattle.pli_meaning_tree.specs.TreeMeaning.{unit_names}
 use Rattle.pli_meaning_typed.proofs.BlockLemmas.{block_found, values_put}
@@ -89,21 +90,24 @@ own_later v w d p later h = (
 pub variable_later : (v w : World) (d : Description) (p : Place) → IsLater v w → IsVariable v d p → IsVariable w d p
 variable_later v w d p later h = (own_later v w d p later h.0, h.1)
 
-pub passed_later : (v w : World) (d : Description) (p : Place) → IsLater v w → IsPassed v d p → IsPassed w d p
-passed_later v w d p later h = (good_later v w d p later h.0, λ is. variable_later v w d p later (h.1 is))
+pub passed_later : (v w : World) (t : ParameterType) (p : Place) → IsLater v w → IsPassed v t p → IsPassed w t p
+passed_later v w t p later h = (h.0, h.1, good_later v w h.0 p later h.2, λ is. variable_later v w h.0 p later (h.3 is))
 
-pub goods_later : (v w : World) (ds : List Description) (ps : List Place) → IsLater v w → AreGood v ds ps → AreGood w ds ps
+pub goods_later : (v w : World) (ts : List ParameterType) (ps : List Place) → IsLater v w → AreGood v ts ps → AreGood w ts ps
 goods_later v w [] [] later g = tt
 goods_later v w [] (p ∷ ps) later g = absurd g
-goods_later v w (d ∷ ds) [] later g = absurd g
-goods_later v w (d ∷ ds) (p ∷ ps) later g = (passed_later v w d p later g.0, goods_later v w ds ps later g.1)
+goods_later v w (t ∷ ts) [] later g = absurd g
+goods_later v w (t ∷ ts) (p ∷ ps) later g = (passed_later v w t p later g.0, goods_later v w ts ps later g.1)
 
-slots_later : (v w : World) (ds : List Description) (ps : List Place) (n : ℕ) → IsLater v w → AreSlots v ds ps n → AreSlots w ds ps n
+own_slot_later : (v w : World) (t : ParameterType) (p : Place) → IsLater v w → IsOwnSlot v t p → IsOwnSlot w t p
+own_slot_later v w t p later h = (h.0, h.1, variable_later v w h.0 p later h.2)
+
+slots_later : (v w : World) (ts : List ParameterType) (ps : List Place) (n : ℕ) → IsLater v w → AreSlots v ts ps n → AreSlots w ts ps n
 slots_later v w [] [] n later h = tt
 slots_later v w [] (p ∷ ps) n later h = absurd h
-slots_later v w (d ∷ ds) [] n later h = absurd h
-slots_later v w (d ∷ ds) (p ∷ ps) zero later h = (variable_later v w d p later h.0, slots_later v w ds ps zero later h.1)
-slots_later v w (d ∷ ds) (p ∷ ps) (suc n) later h = (passed_later v w d p later h.0, slots_later v w ds ps n later h.1)
+slots_later v w (t ∷ ts) [] n later h = absurd h
+slots_later v w (t ∷ ts) (p ∷ ps) zero later h = (own_slot_later v w t p later h.0, slots_later v w ts ps zero later h.1)
+slots_later v w (t ∷ ts) (p ∷ ps) (suc n) later h = (passed_later v w t p later h.0, slots_later v w ts ps n later h.1)
 
 pub eaches_later : (v w : World) (d : Description) (ps : List Place) → IsLater v w → EachGood v d ps → EachGood w d ps
 eaches_later v w d [] later h = tt
@@ -336,7 +340,7 @@ module _ (units : List TypedUnit) (s : Shape) (ss : List Shape) where
 
   -- a place that may be handed over, and one of a whole generation, which the limit of generations leaves a number to; the activations stay
   abbrev pub MadeAt : World → Description → Place → World → Type 0
-  MadeAt w d p v = IsPassed v d p × Sound v × IsLater w v
+  MadeAt w d p v = IsPassed v (Stated d) p × Sound v × IsLater w v
 
   abbrev pub MadeWhole : World → Description → Place → World → Type 0
   MadeWhole w d p v = IsVariable v d p × Sound v × IsLater w v × (p.generation < generation_limit) × (v.activations ≡ w.activations)
@@ -549,7 +553,7 @@ module _ (units : List TypedUnit) (s : Shape) (ss : List Shape) where
           → MadeAt w d p (in_newest (λ a. record a { pending = a.pending ++ p.generation ∷ [] }) v)
       pending p v own sound later =
           let after : IsLater v (in_newest (change p) v) = newest_later units (change p) v in (
-            passed_later v (in_newest (change p) v) d p after (own.0.0, λ is. own),
+            passed_later v (in_newest (change p) v) (Stated d) p after (d, refl, own.0.0, λ is. own),
             newest_sound units (change p) (s ∷ ss) (s ∷ ss) v sound sound.of_units (shaped p v v.activations sound.stack)
                 (units_kept (change p) (λ a. refl) (s ∷ ss) v.activations sound.on_units),
             later_then w v (in_newest (change p) v) later after,
@@ -557,42 +561,42 @@ module _ (units : List TypedUnit) (s : Shape) (ss : List Shape) where
 
 -- activations
 
-abbrev with_slots : Shape → List Description → Shape
+abbrev with_slots : Shape → List ParameterType → Shape
 with_slots y slots = record y { slots = slots }
 
 -- the shape of an activation that begins so
-abbrev pub shape_of : Head → (link : ℕ) → (parameters : List Description) → (procedures : ℕ → Option KnownProcedure) → (lasting : Known) → Shape
+abbrev pub shape_of : Head → (link : ℕ) → (parameters : List ParameterType) → (procedures : ℕ → Option KnownProcedure) → (lasting : Known) → Shape
 shape_of head link parameters procedures lasting = record {
   unit = head.unit;
   block = head.block;
   link = link;
   parameters = length parameters;
-  slots = parameters ++ map (λ v. v.description) head.variables;
+  slots = parameters ++ map (λ v. Stated v.description) head.variables;
   procedures = procedures;
   lasting = lasting;
 }
 
 module _ (units : List TypedUnit) where
   -- a slot more, behind the parameters
-  slots_more : (w : World) (ds : List Description) (ps : List Place) (n : ℕ) (d : Description) (p : Place) → AreSlots w ds ps n → IsVariable w d p
-      → AreSlots w (ds ++ d ∷ []) (ps ++ p ∷ []) n
-  slots_more w [] [] zero d p h g = (g, tt)
-  slots_more w [] [] (suc n) d p h g = ((g.0.0, λ is. g), tt)
+  slots_more : (w : World) (ts : List ParameterType) (ps : List Place) (n : ℕ) (d : Description) (p : Place) → AreSlots w ts ps n → IsVariable w d p
+      → AreSlots w (ts ++ Stated d ∷ []) (ps ++ p ∷ []) n
+  slots_more w [] [] zero d p h g = ((d, refl, g), tt)
+  slots_more w [] [] (suc n) d p h g = ((d, refl, g.0.0, λ is. g), tt)
   slots_more w [] (q ∷ qs) n d p h g = absurd h
   slots_more w (e ∷ es) [] n d p h g = absurd h
   slots_more w (e ∷ es) (q ∷ qs) zero d p h g = (h.0, slots_more w es qs zero d p h.1 g)
   slots_more w (e ∷ es) (q ∷ qs) (suc n) d p h g = (h.0, slots_more w es qs n d p h.1 g)
 
   -- at first there are parameters alone
-  slots_passed : (w : World) (ds : List Description) (ps : List Place) → AreGood w ds ps → AreSlots w ds ps (length ds)
+  slots_passed : (w : World) (ds : List ParameterType) (ps : List Place) → AreGood w ds ps → AreSlots w ds ps (length ds)
   slots_passed w [] [] h = tt
   slots_passed w [] (p ∷ ps) h = absurd h
   slots_passed w (d ∷ ds) [] h = absurd h
   slots_passed w (d ∷ ds) (p ∷ ps) h = (h.0, slots_passed w ds ps h.1)
 
-  slotted : (y : Shape) (slots : List Description) (ss : List Shape) (w : World) (d : Description) (p : Place) (stack : List Activation)
+  slotted : (y : Shape) (slots : List ParameterType) (ss : List Shape) (w : World) (d : Description) (p : Place) (stack : List Activation)
       → AreShaped w (with_slots y slots ∷ ss) stack → IsVariable w d p
-      → AreShaped w (with_slots y (slots ++ d ∷ []) ∷ ss) (with_newest (with_slot p) stack)
+      → AreShaped w (with_slots y (slots ++ Stated d ∷ []) ∷ ss) (with_newest (with_slot p) stack)
   slotted y slots ss w d p [] h g = absurd h
   slotted y slots ss w d p (a ∷ older) h g = (h.0, h.1, h.2, slots_more w slots a.slots y.parameters d p h.3 g, h.4)
 
@@ -604,25 +608,25 @@ module _ (units : List TypedUnit) where
   weaken ss w v (Raises e u) later h = h
   weaken ss w v Wrong later h = h
 
-  made_all_answers : (vs : List Variable) (y : Shape) (slots : List Description) (ss : List Shape) (w : World)
+  made_all_answers : (vs : List Variable) (y : Shape) (slots : List ParameterType) (ss : List Shape) (w : World)
       → IsSound units (with_slots y slots ∷ ss) w → HasNone w.activations → AreMade vs
-      → Answers units (Entered w (with_slots y (slots ++ map (λ v. v.description) vs) ∷ ss)) (made_all vs w)
+      → Answers units (Entered w (with_slots y (slots ++ map (λ v. Stated v.description) vs) ∷ ss)) (made_all vs w)
   made_all_answers [] y slots ss w sound none h =
       (subst (λ ds. IsSound units (with_slots y ds ∷ ss) w) (sym (append-nil slots)) sound, later_same w)
   made_all_answers (x ∷ vs) y slots ss w sound none h =
       let top = with_slots y slots in
-      let more = with_slots y (slots ++ x.description ∷ []) in
-      let rest = map (λ v. v.description) vs in
+      let more = with_slots y (slots ++ Stated x.description ∷ []) in
+      let rest = map (λ v. Stated v.description) vs in
       further_answers units (MadeWhole units top ss w x.description)
-      (Entered w (with_slots y (slots ++ map (λ v. v.description) (x ∷ vs)) ∷ ss))
+      (Entered w (with_slots y (slots ++ map (λ v. Stated v.description) (x ∷ vs)) ∷ ss))
       (made_of x.description Automatic x.initial w) (λ p w. made_all vs (in_newest (with_slot p) w))
       (made_answers units top ss x.description Automatic x.initial w sound (small_near x.description h.0.0) h.0.1)
       (λ p v m. let u = in_newest (with_slot p) v in
       let bare : HasNone v.activations = subst (λ stack. HasNone stack) (sym m.4) none in
-      subst (λ ds. Answers units (Entered w (with_slots y ds ∷ ss)) (made_all vs u)) (append_assoc slots (x.description ∷ []) rest)
-      (weaken (with_slots y ((slots ++ x.description ∷ []) ++ rest) ∷ ss) w u (made_all vs u)
+      subst (λ ds. Answers units (Entered w (with_slots y ds ∷ ss)) (made_all vs u)) (append_assoc slots (Stated x.description ∷ []) rest)
+      (weaken (with_slots y ((slots ++ Stated x.description ∷ []) ++ rest) ∷ ss) w u (made_all vs u)
       (later_then w v u m.2 (newest_later units (with_slot p) v))
-      (made_all_answers vs y (slots ++ x.description ∷ []) ss u
+      (made_all_answers vs y (slots ++ Stated x.description ∷ []) ss u
       (newest_sound units (with_slot p) (top ∷ ss) (more ∷ ss) v m.1 m.1.of_units (slotted y slots ss v x.description p v.activations m.1.stack m.0)
       (units_kept (with_slot p) (λ a. refl) (more ∷ ss) v.activations (reshaped top more ss v.activations bare m.1.on_units)))
       (none_kept (with_slot p) (λ a. refl) v.activations bare) h.1)))
@@ -634,7 +638,7 @@ module _ (units : List TypedUnit) where
   handed_shaped (s ∷ ss) w given [] h = absurd h
   handed_shaped (s ∷ ss) w given (a ∷ older) h = h
 
-  pub entered_answers : (head : Head) (link : ℕ) (given : List Place) (parameters : List Description) (procedures : ℕ → Option KnownProcedure) (lasting : Known) (ss : List Shape) (w : World)
+  pub entered_answers : (head : Head) (link : ℕ) (given : List Place) (parameters : List ParameterType) (procedures : ℕ → Option KnownProcedure) (lasting : Known) (ss : List Shape) (w : World)
       → IsSound units ss w → ((u : TypedUnit) × (slice_get units head.unit ≡ Some u)) → AreGood w parameters given → AreMade head.variables
       → Answers units (Entered w (shape_of head link parameters procedures lasting ∷ ss)) (entered head link given w)
   unfolding entered

@@ -5,6 +5,7 @@ use Rattle.std.specs.List.{list_any}
 use Rattle.pli_base.specs.declared.statement.Condition.{Condition}
 use Rattle.pli_run.specs.declared.ending.Ending.TheVariants as message
 use Rattle.pli_map.specs.Description.{Description}
+use Rattle.pli_map.specs.ParameterTypes.{ParameterType, Stated, agrees}
 use Rattle.pli_map.specs.Scalars.{first_scalar, is_area, scalars_of}
 use Rattle.pli_map.specs.Sizes.{size_of}
 use Rattle.pli_map.specs.Variables.{byte_limit}
@@ -17,7 +18,7 @@ use Rattle.pli_world.specs.World.{Standing, Lies, Stacked, Stack, World, Answer,
 use Rattle.pli_world.specs.World.{static_in, error_at}
 use Rattle.pli_type_tree.specs.Globals.{described_as}
 use Rattle.pli_type_tree.specs.TypedTree.{Global, TypedUnit}
-use Rattle.pli_type_tree.specs.WellTyped.{AreHeld, BlockAround, IsMade, KnownProcedure}
+use Rattle.pli_type_tree.specs.WellTyped.{AreHeld, BlockAround, IsMade, IsNarrow, KnownProcedure}
 use Rattle.pli_meaning_tree.specs.Effects.{Label}
 use Rattle.pli_meaning_tree.specs.TreeMeaning.{unit_names}
 
@@ -65,22 +66,32 @@ IsOwn w d p = IsGood w d p × IsWhole w p
 abbrev pub IsVariable : World → Description → Place → Type 0
 IsVariable w d p = IsOwn w d p × (p.position ≡ 0)
 
--- a place that is handed over for a parameter of a description; for an area it is that of a whole generation
-abbrev pub IsPassed : World → Description → Place → Type 0
-IsPassed w d p = IsGood w d p × (is_area d ≡ true → IsVariable w d p)
+-- a type takes what is of this description: what is stated takes the same, and what is open what agrees with
+-- it, whose lengths and bounds are no greater than those of any string or array
+abbrev pub Takes : ParameterType → Description → Type 0
+Takes (Stated d) e = e ≡ d
+Takes type e = IsTrue (agrees type (Stated e)) × IsNarrow (Stated e)
 
--- places that are handed over for parameters of these descriptions, one for one
-abbrev pub AreGood : World → List Description → List Place → Type 0
+-- a place that is handed over for a parameter of a type; for an area it is that of a whole generation
+abbrev pub IsPassed : World → ParameterType → Place → Type 0
+IsPassed w type p = (e : Description) × Takes type e × IsGood w e p × (is_area e ≡ true → IsVariable w e p)
+
+-- places that are handed over for parameters of these types, one for one
+abbrev pub AreGood : World → List ParameterType → List Place → Type 0
 AreGood w [] [] = Unit {0}
-AreGood w (d ∷ ds) (p ∷ ps) = IsPassed w d p × AreGood w ds ps
-AreGood w ds ps = ⊥
+AreGood w (t ∷ ts) (p ∷ ps) = IsPassed w t p × AreGood w ts ps
+AreGood w ts ps = ⊥
 
--- places of these descriptions, one for one; those behind so many parameters are those of whole generations
-abbrev pub AreSlots : World → List Description → List Place → (parameters : ℕ) → Type 0
+-- the place of a variable, which is stated, is that of a whole generation
+abbrev pub IsOwnSlot : World → ParameterType → Place → Type 0
+IsOwnSlot w type p = (d : Description) × (type ≡ Stated d) × IsVariable w d p
+
+-- places of these types, one for one; those behind so many parameters are those of variables
+abbrev pub AreSlots : World → List ParameterType → List Place → (parameters : ℕ) → Type 0
 AreSlots w [] [] n = Unit {0}
-AreSlots w (d ∷ ds) (p ∷ ps) zero = IsVariable w d p × AreSlots w ds ps zero
-AreSlots w (d ∷ ds) (p ∷ ps) (suc n) = IsPassed w d p × AreSlots w ds ps n
-AreSlots w ds ps n = ⊥
+AreSlots w (t ∷ ts) (p ∷ ps) zero = IsOwnSlot w t p × AreSlots w ts ps zero
+AreSlots w (t ∷ ts) (p ∷ ps) (suc n) = IsPassed w t p × AreSlots w ts ps n
+AreSlots w ts ps n = ⊥
 
 -- a block holds a value for each of its scalars; each of its parts begins within the limit of offsets; and
 -- its position has 32 bits
@@ -118,14 +129,14 @@ AreKnown unit known h labels =
     → IsTrue (known h (record { unit = unit; number = number }))
 
 -- what stays of an activation while it runs: its unit and block, its static link, how many parameters it has,
--- and the descriptions of its slots; what is known of the procedures of its unit; and which labels last as
+-- and the types of its slots; what is known of the procedures of its unit; and which labels last as
 -- long as it runs: those that were known when it began, and those of its block's own list
 pub record Shape : Type 0 where
   pub unit : ℕ
   pub block : ℕ
   pub link : ℕ
   pub parameters : ℕ
-  pub slots : List Description
+  pub slots : List ParameterType
   pub procedures : (number : ℕ) → Option KnownProcedure
   pub lasting : Known
 

@@ -136,6 +136,13 @@ fitted_to (Bit n) (Bits bits) =
     if nat_le n 32767 then Calculates (Bits (fitted false n bits)) else OutOfString
 fitted_to description v = Misfits
 
+-- a string fitted to the description of a string; what is no string's description takes none
+abbrev pub string_fitted_to : Description → Value → Calculation
+string_fitted_to (Character n) v = fitted_to (Character n) v
+string_fitted_to (Varying n) v = fitted_to (Varying n) v
+string_fitted_to (Bit n) v = fitted_to (Bit n) v
+string_fitted_to description v = Misfits
+
 -- operations on one value
 abbrev pub calculated_from : Operation → Value → Calculation
 calculated_from Negate (Number x) = as_number (within widest (neg_ℤ x))

@@ -11,7 +11,7 @@ use Rattle.pli_base.specs.Declarations as tree
 use Rattle.pli_base.specs.declared.declaration.WrittenBounds.{WrittenBounds}
 use Rattle.pli_parse_declaration.specs.DeclarationWords.{attribute_word, with_rest, attribute_first, if_first, with_attribute}
 use Rattle.pli_base.specs.Words.{behind}
-use Rattle.pli_parse_declaration.specs.DeclarationReading.{listed_after, listed_at, list_at, bounds_at, dimensions_at, number_at, length_at, scaled_at, precision_at, name_at, area_at, locator_at, values_at, simple_of, parameters_at, entry_from, entry_at, returned_at, attribute_from, attribute_at, attributes_from, attributes_at, level_at, names_at, item_at, items_at}
+use Rattle.pli_parse_declaration.specs.DeclarationReading.{listed_after, listed_at, list_at, bounds_at, dimensions_at, extent_at, length_at, scaled_at, precision_at, name_at, area_at, locator_at, values_at, simple_of, parameters_at, entry_from, entry_at, returned_at, attribute_from, attribute_at, attributes_from, attributes_at, level_at, names_at, item_at, items_at}
 use Rattle.pli_base.specs.Reading.{read_as, mapped, enclosed, if_open, or_none}
 use Rattle.pli_parse_declaration.specs.declared.list.Separator.{Separator}
 use Rattle.pli_parse_declaration.specs.declared.list.Separator.TheVariants.{Commas, Periods, Nothing}
@@ -83,7 +83,7 @@ dimensions_end p ts y h =
 
 length_ends : EndsRead length_at OptionEnds
 unfolding length_at
-length_ends = optional_ends number_at
+length_ends = optional_ends extent_at
 
 precision_ends : EndsRead precision_at OptionEnds
 unfolding precision_at

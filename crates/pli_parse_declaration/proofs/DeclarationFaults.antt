@@ -10,17 +10,19 @@ use Rattle.pli_base.specs.Reading.{Front}
 use Rattle.pli_base.specs.declared.code.Code.{Code}
 use Rattle.pli_base.specs.declared.code.Code.TheVariants.{ParenthesisExpected, SemicolonExpected, NameExpected, BadAttribute, ConstantExpected}
 use Rattle.pli_base.specs.declared.token.Fault.{Fault}
-use Rattle.pli_base.specs.declared.token.Sign.TheVariants.{OpenParenthesis, Plus, Minus}
+use Rattle.pli_base.specs.declared.token.Sign.TheVariants.{OpenParenthesis, Plus, Minus, Times}
 use Rattle.pli_base.specs.declared.token.TokenText.{TokenText}
 use Rattle.pli_base.specs.declared.token.TokenText.TheVariants.{Word, Decimal, Binary, Characters, Bits, Sign}
 use Rattle.pli_base.specs.Declarations as tree
 use Rattle.pli_base.specs.declared.syntax.Identifier.{Identifier}
 use Rattle.pli_base.specs.declared.declaration.Integer.{Integer}
+use Rattle.pli_base.specs.declared.declaration.WrittenBounds.TheVariants as limits
+use Rattle.pli_base.specs.declared.declaration.WrittenLength.TheVariants as extent
 use Rattle.pli_base.specs.declared.declaration.InitialValue.{InitialValue}
 use Rattle.pli_base.specs.declared.declaration.InitialValue.TheVariants as initial
 use Rattle.pli_parse_declaration.specs.DeclarationWords.{attribute_first, with_attribute, begins_description, is_zero}
 use Rattle.pli_base.specs.Words.{behind, name_first, is_colon}
-use Rattle.pli_parse_declaration.specs.DeclarationReading.{listed_after, listed_at, list_at, number_at, signed, integer_at, bounds_from, bounds_at, dimensions_at, length_at, with_scale, scaled_at, precision_at, name_at, identifier_at, area_at, locator_at, repeated_at, null_from, value_at, values_at, simple_of, Walk, description_walk, parameters_walk, entry_walk, word_walk, closed_walk, comma_walk, behind_walk, no_word_walk, walk_by, step_at, walked_after, walked, nest_at, described_from, described_at, parameter_at, parameters_from, parameters_at, entry_from, entry_at, returned_at, attribute_from, attribute_at, attributes_from, attributes_at, level_at, names_from, names_at, item_at, items_at, declaration_at}
+use Rattle.pli_parse_declaration.specs.DeclarationReading.{listed_after, listed_at, list_at, number_at, signed, integer_at, bounds_from, stated_at, bounds_at, dimensions_at, extent_at, length_at, with_scale, scaled_at, precision_at, name_at, identifier_at, area_at, locator_at, repeated_at, null_from, value_at, values_at, simple_of, Walk, description_walk, parameters_walk, entry_walk, word_walk, closed_walk, comma_walk, behind_walk, no_word_walk, walk_by, step_at, walked_after, walked, nest_at, described_from, described_at, parameter_at, parameters_from, parameters_at, entry_from, entry_at, returned_at, attribute_from, attribute_at, attributes_from, attributes_at, level_at, names_from, names_at, item_at, items_at, declaration_at}
 use Rattle.pli_base.specs.Reading.{expected, read_as, mapped, taken, taken_or, enclosed, if_open, or_none}
 use Rattle.pli_parse_declaration.specs.declared.list.Separator.{Separator}
 use Rattle.pli_parse_declaration.specs.declared.list.Separator.TheVariants.{Commas, Periods, Nothing}
@@ -136,20 +138,34 @@ more_sound one fits after sound alone more p ts =
         at_least 2 0 x.next x.rest (after x (Some us)) (omega arith)
         (stands_behind 1 1 x.next (x.next + 1) x.rest us (after x (Some us)) (passes_one x.next x.rest us (one_less fits x.rest us e)) (more x us))
 
+stated_sound : IsSound stated_at
+stated_sound =
+    more_sound integer_at is_colon bounds_from integer_sound (λ x. passes_none x.next x.rest)
+    (λ x us. mapped_stands 1 (x.next + 1) us (limits.Stated (Some x.value)) (integer_at (x.next + 1) us) (integer_sound (x.next + 1) us))
+
 bounds_sound : IsSound bounds_at
 unfolding bounds_at
-bounds_sound =
-    more_sound integer_at is_colon bounds_from integer_sound (λ x. passes_none x.next x.rest)
-    (λ x us. mapped_stands 1 (x.next + 1) us (λ high. record { low = Some x.value; high = high }) (integer_at (x.next + 1) us) (integer_sound (x.next + 1) us))
+bounds_sound p [] = stated_sound p []
+bounds_sound p (Sign Times ∷ ts) = passes_one p (Sign Times ∷ ts) ts (omega arith)
+bounds_sound p (t ∷ ts) = stated_sound p (t ∷ ts)
 
 pub dimensions_stand : (p : ℕ) (ts : Tokens) → Stands 0 p ts (dimensions_at p ts)
 unfolding dimensions_at
 dimensions_stand p ts =
     mapped_stands 0 p ts or_none (if_open (list_at Commas bounds_at) p ts (behind is_open ts)) (optional_stands (list_at Commas bounds_at) (list_sound Commas bounds_at bounds_sound) p ts)
 
+number_extents : IsSound (λ p ts. mapped extent.Stated (number_at p ts))
+number_extents = mapped_sound extent.Stated number_at number_sound
+
+extent_sound : IsSound extent_at
+unfolding extent_at
+extent_sound p [] = number_extents p []
+extent_sound p (Sign Times ∷ ts) = passes_one p (Sign Times ∷ ts) ts (omega arith)
+extent_sound p (t ∷ ts) = number_extents p (t ∷ ts)
+
 length_stands : (p : ℕ) (ts : Tokens) → Stands 0 p ts (length_at p ts)
 unfolding length_at
-length_stands p ts = optional_stands number_at number_sound p ts
+length_stands p ts = optional_stands extent_at extent_sound p ts
 
 scaled_sound : IsSound scaled_at
 unfolding scaled_at

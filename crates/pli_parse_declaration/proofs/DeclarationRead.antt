@@ -7,15 +7,17 @@ use Rattle.pli_base.specs.Results.{◌>>=◌}
 use Rattle.pli_base.specs.Reading.{Front, read_as, mapped, expected, taken, enclosed, if_open, or_none}
 use Rattle.pli_base.specs.declared.code.Code.TheVariants.{ParenthesisExpected, ConstantExpected}
 use Rattle.pli_base.specs.declared.token.Fault.{Fault}
-use Rattle.pli_base.specs.declared.token.Sign.TheVariants.{Colon, Comma, OpenParenthesis, CloseParenthesis, Plus, Minus}
+use Rattle.pli_base.specs.declared.token.Sign.TheVariants.{Colon, Comma, OpenParenthesis, CloseParenthesis, Plus, Minus, Times}
 use Rattle.pli_base.specs.declared.token.TokenText.{TokenText}
 use Rattle.pli_base.specs.declared.token.TokenText.TheVariants.{Word, Decimal, Binary, Characters, Bits, Sign}
 use Rattle.pli_parse_declaration.specs.DeclarationWords.{data_word, storage_word, nesting_word, word_or, attribute_word, with_rest, attribute_first, is_zero}
 use Rattle.pli_base.specs.Declarations as tree
-use Rattle.pli_parse_declaration.specs.DeclarationReading.{listed_after, listed_at, list_at, number_at, signed, integer_at, bounds_from, bounds_at, dimensions_at, length_at, with_scale, scaled_at, precision_at, name_at, identifier_at, area_at, locator_at, repeated_at, null_from, value_at, values_at, simple_of}
-use Rattle.pli_parse_declaration.specs.DeclarationGrammar.{SpellsFront, between, SpellsListed, Anywhere, SpellsList, SpellsEnclosed, SpellsOptional, SpellsNumber, SpellsInteger, SpellsBounds, SpellsDimensions, SpellsScaled, SpellsName, SpellsValue, word_of, SpellsBehind, SpellsSimple}
+use Rattle.pli_parse_declaration.specs.DeclarationReading.{listed_after, listed_at, list_at, number_at, signed, integer_at, bounds_from, stated_at, bounds_at, dimensions_at, extent_at, length_at, with_scale, scaled_at, precision_at, name_at, identifier_at, area_at, locator_at, repeated_at, null_from, value_at, values_at, simple_of}
+use Rattle.pli_parse_declaration.specs.DeclarationGrammar.{SpellsFront, between, SpellsListed, Anywhere, SpellsList, SpellsEnclosed, SpellsOptional, SpellsNumber, SpellsInteger, SpellsBounds, SpellsDimensions, SpellsLength, SpellsScaled, SpellsName, SpellsValue, word_of, SpellsBehind, SpellsSimple}
 use Rattle.pli_base.specs.declared.declaration.Integer.{Integer}
 use Rattle.pli_base.specs.declared.declaration.WrittenBounds.{WrittenBounds}
+use Rattle.pli_base.specs.declared.declaration.WrittenBounds.TheVariants as limits
+use Rattle.pli_base.specs.declared.declaration.WrittenLength.TheVariants as extent
 use Rattle.pli_base.specs.declared.declaration.InitialValue.{InitialValue}
 use Rattle.pli_base.specs.declared.declaration.InitialValue.TheVariants as initial
 use Rattle.pli_parse_declaration.specs.declared.word.SimpleWord.{SimpleWord}
@@ -157,14 +159,23 @@ bounds_spelled : (p : ℕ) (ts : Tokens) (x : Front Integer) → SpellsFront (An
     → behind is_colon x.rest ≡ o → (y : Front WrittenBounds) → bounds_from x o ≡ Ok y → SpellsFront (Anywhere SpellsBounds) p ts y
 bounds_spelled p ts x f None e y g = subst (SpellsFront (Anywhere SpellsBounds) p ts) (same_ok g) (f.0, f.1, f.2, f.3)
 bounds_spelled p ts x f (Some us) e y g =
-    let m = mapped_ok (λ high. record { low = Some x.value; high = high }) (integer_at (x.next + 1) us) y g in
+    let m = mapped_ok (limits.Stated (Some x.value)) (integer_at (x.next + 1) us) y g in
     let r = integer_reads (x.next + 1) us m.0 m.1 in
     let b = two p x.next m.0.next ts x.rest m.0.rest f.0 (Sign Colon ∷ r.0) f.1 f.2 (colon_first x.rest us e ∙ ap (λ vs. Sign Colon ∷ vs) r.1) (omega (arith, r.2)) in
     subst (SpellsFront (Anywhere SpellsBounds) p ts) m.2 (f.0 ++ Sign Colon ∷ r.0, b.0, b.1, (f.0, r.0, refl, f.3, r.3))
 
+stated_reads : Reads stated_at (Anywhere SpellsBounds)
+stated_reads = more_reads integer_at is_colon bounds_from (Anywhere SpellsInteger) (Anywhere SpellsBounds) integer_reads bounds_spelled
+
+-- what a `*` says
+star_spelled : {A : Type 0} (Spells : Tokens → A → Type 0) (x : A) → Spells (Sign Times ∷ []) x → (p : ℕ) (ts : Tokens) (y : Front A) → read_as x (p + 1) ts ≡ Ok y → SpellsFront (Anywhere Spells) p (Sign Times ∷ ts) y
+star_spelled Spells x s p ts y h = subst (SpellsFront (Anywhere Spells) p (Sign Times ∷ ts)) (same_ok h) (Sign Times ∷ [], refl, refl, s)
+
 pub bounds_reads : Reads bounds_at (Anywhere SpellsBounds)
 unfolding bounds_at
-bounds_reads = more_reads integer_at is_colon bounds_from (Anywhere SpellsInteger) (Anywhere SpellsBounds) integer_reads bounds_spelled
+bounds_reads p [] x h = stated_reads p [] x h
+bounds_reads p (Sign Times ∷ ts) x h = star_spelled SpellsBounds limits.Any refl p ts x h
+bounds_reads p (t ∷ ts) x h = stated_reads p (t ∷ ts) x h
 
 dimensions_so : (p : ℕ) (ts : Tokens) (o : Option (List WrittenBounds)) → SpellsOptional (SpellsList Commas SpellsBounds) ts o → SpellsDimensions ts (or_none o)
 dimensions_so p ts None s = s
@@ -177,9 +188,18 @@ dimensions_reads =
     mapped_reads or_none (λ p ts. if_open (list_at Commas bounds_at) p ts (behind is_open ts)) (Anywhere (SpellsOptional (SpellsList Commas SpellsBounds))) (Anywhere SpellsDimensions)
     (optional_reads (list_at Commas bounds_at) (SpellsList Commas SpellsBounds) (list_reads Commas bounds_at SpellsBounds bounds_reads)) dimensions_so
 
-pub length_reads : Reads length_at (Anywhere (SpellsOptional SpellsNumber))
+number_extents : Reads (λ p ts. mapped extent.Stated (number_at p ts)) (Anywhere SpellsLength)
+number_extents = mapped_reads extent.Stated number_at (Anywhere SpellsNumber) (Anywhere SpellsLength) number_reads (λ p ts n s. s)
+
+extent_reads : Reads extent_at (Anywhere SpellsLength)
+unfolding extent_at
+extent_reads p [] x h = number_extents p [] x h
+extent_reads p (Sign Times ∷ ts) x h = star_spelled SpellsLength extent.Any refl p ts x h
+extent_reads p (t ∷ ts) x h = number_extents p (t ∷ ts) x h
+
+pub length_reads : Reads length_at (Anywhere (SpellsOptional SpellsLength))
 unfolding length_at
-length_reads = optional_reads number_at SpellsNumber number_reads
+length_reads = optional_reads extent_at SpellsLength extent_reads
 
 scaled_spelled : (p : ℕ) (ts : Tokens) (x : Front ℕ) → SpellsFront (Anywhere SpellsNumber) p ts x → (o : Option Tokens)
     → behind is_comma x.rest ≡ o → (y : Front ℕ) → with_scale x o ≡ Ok y → SpellsFront (Anywhere SpellsScaled) p ts y
@@ -281,9 +301,9 @@ pub simple_reads : (w : SimpleWord) → Reads (simple_of w) (SpellsOf w)
 unfolding simple_of
 simple_reads words.Fixed = mapped_reads tree.Fixed precision_at (Anywhere (SpellsOptional SpellsScaled)) (SpellsOf words.Fixed) precision_reads (λ p ts n s. (refl, s))
 simple_reads words.Binary = mapped_reads tree.Binary precision_at (Anywhere (SpellsOptional SpellsScaled)) (SpellsOf words.Binary) precision_reads (λ p ts n s. (refl, s))
-simple_reads words.Character = mapped_reads tree.Character length_at (Anywhere (SpellsOptional SpellsNumber)) (SpellsOf words.Character) length_reads (λ p ts n s. (refl, s))
-simple_reads words.Bit = mapped_reads tree.Bit length_at (Anywhere (SpellsOptional SpellsNumber)) (SpellsOf words.Bit) length_reads (λ p ts n s. (refl, s))
-simple_reads words.Area = mapped_reads tree.Area length_at (Anywhere (SpellsOptional SpellsNumber)) (SpellsOf words.Area) length_reads (λ p ts n s. (refl, s))
+simple_reads words.Character = mapped_reads tree.Character length_at (Anywhere (SpellsOptional SpellsLength)) (SpellsOf words.Character) length_reads (λ p ts n s. (refl, s))
+simple_reads words.Bit = mapped_reads tree.Bit length_at (Anywhere (SpellsOptional SpellsLength)) (SpellsOf words.Bit) length_reads (λ p ts n s. (refl, s))
+simple_reads words.Area = mapped_reads tree.Area length_at (Anywhere (SpellsOptional SpellsLength)) (SpellsOf words.Area) length_reads (λ p ts n s. (refl, s))
 simple_reads words.Offset = mapped_reads tree.Offset area_at (Anywhere (SpellsOptional SpellsName)) (SpellsOf words.Offset) area_reads (λ p ts n s. (refl, s))
 simple_reads words.Based = mapped_reads tree.Based locator_at (Anywhere (SpellsOptional (SpellsList Periods SpellsName))) (SpellsOf words.Based) locator_reads (λ p ts n s. (refl, s))
 simple_reads words.Initial = mapped_reads tree.Initial values_at (Anywhere (SpellsEnclosed (SpellsList Commas SpellsValue))) (SpellsOf words.Initial) values_spelled (λ p ts n s. (refl, s))

@@ -11,10 +11,12 @@ use Rattle.pli_base.specs.declared.token.Sign.TheVariants.{Colon, Comma, OpenPar
 use Rattle.pli_base.specs.declared.token.TokenText.TheVariants.{Word, Decimal, Sign}
 use Rattle.pli_parse_declaration.specs.DeclarationWords.{attribute_word, with_rest, attribute_first}
 use Rattle.pli_base.specs.Declarations as tree
-use Rattle.pli_parse_declaration.specs.DeclarationReading.{listed_after, listed_at, list_at, number_at, signed, integer_at, bounds_from, bounds_at, dimensions_at, length_at, with_scale, scaled_at, precision_at, name_at, identifier_at, area_at, locator_at, repeated_at, null_from, value_at, values_at, simple_of}
-use Rattle.pli_parse_declaration.specs.DeclarationGrammar.{between, SpellsListed, Anywhere, SpellsList, SpellsEnclosed, SpellsOptional, SpellsNumber, SpellsSigned, SpellsInteger, SpellsRange, SpellsBounds, SpellsDimensions, SpellsScaled, SpellsName, SpellsValue, word_of, SpellsBehind}
+use Rattle.pli_parse_declaration.specs.DeclarationReading.{listed_after, listed_at, list_at, number_at, signed, integer_at, bounds_from, stated_at, bounds_at, dimensions_at, extent_at, length_at, with_scale, scaled_at, precision_at, name_at, identifier_at, area_at, locator_at, repeated_at, null_from, value_at, values_at, simple_of}
+use Rattle.pli_parse_declaration.specs.DeclarationGrammar.{between, SpellsListed, Anywhere, SpellsList, SpellsEnclosed, SpellsOptional, SpellsNumber, SpellsSigned, SpellsInteger, SpellsRange, SpellsBounds, SpellsDimensions, SpellsLength, SpellsScaled, SpellsName, SpellsValue, word_of, SpellsBehind}
 use Rattle.pli_base.specs.declared.declaration.Integer.{Integer}
 use Rattle.pli_base.specs.declared.declaration.WrittenBounds.{WrittenBounds}
+use Rattle.pli_base.specs.declared.declaration.WrittenBounds.TheVariants as limits
+use Rattle.pli_base.specs.declared.declaration.WrittenLength.TheVariants as extent
 use Rattle.pli_base.specs.declared.declaration.InitialValue.{InitialValue}
 use Rattle.pli_base.specs.declared.declaration.InitialValue.TheVariants as initial
 use Rattle.pli_parse_declaration.specs.declared.word.AttributeWord.{AttributeWord}
@@ -217,20 +219,37 @@ colon_behind : (zs : Tokens) → behind is_colon (Sign Colon ∷ zs) ≡ Some zs
 unfolding behind
 colon_behind zs = refl
 
-range_again : (low : Option Integer) (high : Integer) (p : ℕ) (ts more : Tokens) → SpellsRange ts low high → NoColon more → bounds_at p (ts ++ more) ≡ read_as (record { low = low; high = high }) (p + length ts) more
-unfolding bounds_at
+range_again : (low : Option Integer) (high : Integer) (p : ℕ) (ts more : Tokens) → SpellsRange ts low high → NoColon more → stated_at p (ts ++ more) ≡ read_as (limits.Stated low high) (p + length ts) more
 range_again None high p ts more spelled stops =
     ap (λ r. r >>= λ x. bounds_from x (behind is_colon x.rest)) (integer_again p ts more high spelled tt)
     ∙ ap (bounds_from (record { value = high; next = p + length ts; rest = more })) stops
 range_again (Some low) high p ts more (ls, hs, shape, lows, highs) stops =
-    ap (bounds_at p) (ap (λ us. us ++ more) shape ∙ append_assoc ls (Sign Colon ∷ hs) more)
+    ap (stated_at p) (ap (λ us. us ++ more) shape ∙ append_assoc ls (Sign Colon ∷ hs) more)
     ∙ ap (λ r. r >>= λ x. bounds_from x (behind is_colon x.rest)) (integer_again p ls (Sign Colon ∷ hs ++ more) low lows tt)
     ∙ ap (bounds_from (record { value = low; next = p + length ls; rest = Sign Colon ∷ hs ++ more })) (colon_behind (hs ++ more))
-    ∙ ap (mapped (λ h. record { low = Some low; high = h })) (integer_again (p + length ls + 1) hs more high highs tt)
-    ∙ placed (record { low = Some low; high = high }) (p + length ls + 1 + length hs) (p + length ts) more (omega (arith, ap length shape, length-append ls (Sign Colon ∷ hs)))
+    ∙ ap (mapped (limits.Stated (Some low))) (integer_again (p + length ls + 1) hs more high highs tt)
+    ∙ placed (limits.Stated (Some low) high) (p + length ls + 1 + length hs) (p + length ts) more (omega (arith, ap length shape, length-append ls (Sign Colon ∷ hs)))
+
+-- what begins an integer is no `*`
+signed_stated : (negative : Bool) (p : ℕ) (ts more : Tokens) (n : ℕ) → SpellsSigned ts negative n → bounds_at p (ts ++ more) ≡ stated_at p (ts ++ more)
+unfolding bounds_at
+signed_stated true p ts more n (us, e, s) = subst (λ vs. bounds_at p (vs ++ more) ≡ stated_at p (vs ++ more)) (sym e) refl
+signed_stated false p ts more n s =
+    ⊎_elim
+    (λ number. ⊎_elim (λ e. subst (λ vs. bounds_at p (vs ++ more) ≡ stated_at p (vs ++ more)) (sym e) refl)
+    (λ e. subst (λ vs. bounds_at p (vs ++ more) ≡ stated_at p (vs ++ more)) (sym e) refl) number.1)
+    (λ plus. subst (λ vs. bounds_at p (vs ++ more) ≡ stated_at p (vs ++ more)) (sym plus.1) refl) s
+
+range_stated : (low : Option Integer) (high : Integer) (p : ℕ) (ts more : Tokens) → SpellsRange ts low high → bounds_at p (ts ++ more) ≡ stated_at p (ts ++ more)
+range_stated None high p ts more spelled = signed_stated high.negative p ts more high.value spelled
+range_stated (Some low) high p ts more (ls, hs, shape, lows, highs) =
+    let whole : ts ++ more ≡ ls ++ (Sign Colon ∷ hs ++ more) = ap (λ us. us ++ more) shape ∙ append_assoc ls (Sign Colon ∷ hs) more in
+    ap (bounds_at p) whole ∙ signed_stated low.negative p ls (Sign Colon ∷ hs ++ more) low.value lows ∙ ap (stated_at p) (sym whole)
 
 bounds_again : ReadAgain bounds_at (Anywhere SpellsBounds) NoColon
-bounds_again p ts more b spelled stops = range_again b.low b.high p ts more spelled stops
+unfolding bounds_at
+bounds_again p ts more (limits.Stated low high) spelled stops = range_stated low high p ts more spelled ∙ range_again low high p ts more spelled stops
+bounds_again p ts more limits.Any spelled stops = subst (λ us. bounds_at p (us ++ more) ≡ read_as limits.Any (p + length us) more) (sym spelled) refl
 
 -- what spells a number, an integer or bounds has a token
 number_some : (ts : Tokens) (n : ℕ) → SpellsNumber ts n → 0 < length ts
@@ -243,6 +262,10 @@ signed_some false ts n s = ⊎_elim (λ number. number_some ts n number) (λ plu
 range_some : (low : Option Integer) (high : Integer) (ts : Tokens) → SpellsRange ts low high → 0 < length ts
 range_some None high ts s = signed_some high.negative ts high.value s
 range_some (Some low) high ts (ls, hs, shape, lows, highs) = omega (arith, ap length shape, length-append ls (Sign Colon ∷ hs))
+
+bounds_some : (b : WrittenBounds) (ts : Tokens) → SpellsBounds ts b → 0 < length ts
+bounds_some (limits.Stated low high) ts s = range_some low high ts s
+bounds_some limits.Any ts s = omega (arith, ap length s)
 
 no_colon_comma : (zs : Tokens) → NoColon (Sign Comma ∷ zs)
 unfolding behind
@@ -258,7 +281,7 @@ unfolding dimensions_at
 dimensions_so p ts more bounds o e spelled stops =
     ap (mapped or_none)
     (optional_again (list_at Commas bounds_at) (SpellsList Commas SpellsBounds) (ListEnds Commas NoColon)
-    (list_again Commas bounds_at SpellsBounds NoColon bounds_again (λ q us zs b s. (comma_goes (us ++ zs), no_colon_comma (us ++ zs))) (λ q us b s. range_some b.low b.high us s))
+    (list_again Commas bounds_at SpellsBounds NoColon bounds_again (λ q us zs b s. (comma_goes (us ++ zs), no_colon_comma (us ++ zs))) (λ q us b s. bounds_some b us s))
     (λ zs. (commas_close zs, no_colon_close zs)) p ts more o spelled stops)
     ∙ ap (λ (bs : List WrittenBounds). read_as bs (p + length ts) more) e
 
@@ -269,9 +292,16 @@ dimensions_before p ts more (b ∷ bs) spelled stops = dimensions_so p ts more (
 pub dimensions_again : ReadAgain dimensions_at (Anywhere SpellsDimensions) NoOpen
 dimensions_again p ts more bounds spelled stops = dimensions_before p ts more bounds spelled (any_dimensions bounds more stops)
 
-length_again : ReadBefore length_at (Anywhere (SpellsOptional SpellsNumber)) OptionEnds
+extent_again : ReadAgain extent_at (Anywhere SpellsLength) Anyhow
+unfolding extent_at number_at
+extent_again p ts more (extent.Stated n) (d, s) stops =
+    ⊎_elim (λ e. subst (λ us. extent_at p (us ++ more) ≡ read_as (extent.Stated n) (p + length us) more) (sym e) refl)
+    (λ e. subst (λ us. extent_at p (us ++ more) ≡ read_as (extent.Stated n) (p + length us) more) (sym e) refl) s
+extent_again p ts more extent.Any spelled stops = subst (λ us. extent_at p (us ++ more) ≡ read_as extent.Any (p + length us) more) (sym spelled) refl
+
+length_again : ReadBefore length_at (Anywhere (SpellsOptional SpellsLength)) OptionEnds
 unfolding length_at
-length_again = optional_again number_at SpellsNumber Anyhow number_again (λ zs. tt)
+length_again = optional_again extent_at SpellsLength Anyhow extent_again (λ zs. tt)
 
 no_comma_close : (zs : Tokens) → NoComma (Sign CloseParenthesis ∷ zs)
 unfolding behind

@@ -6,13 +6,16 @@ use Rattle.pli_base.specs.Name.{Name}
 use Rattle.pli_base.specs.Words.{Tokens, is_open, is_comma, behind, SpellsIdentifier}
 use Rattle.pli_base.specs.Reading.{Front}
 use Rattle.pli_base.specs.declared.token.Sign.TheVariants.{Colon, Semicolon, Comma, Period, OpenParenthesis}
-use Rattle.pli_base.specs.declared.token.Sign.TheVariants.{CloseParenthesis, Plus, Minus}
+use Rattle.pli_base.specs.declared.token.Sign.TheVariants.{CloseParenthesis, Plus, Minus, Times}
 use Rattle.pli_base.specs.declared.token.TokenText.TheVariants.{Word, Decimal, Binary, Characters, Bits, Sign}
 use Rattle.pli_parse_declaration.specs.DeclarationWords.{attribute_word, with_attribute}
 use Rattle.pli_base.specs.Declarations as tree
 use Rattle.pli_base.specs.declared.syntax.Identifier.{Identifier}
 use Rattle.pli_base.specs.declared.declaration.Integer.{Integer}
 use Rattle.pli_base.specs.declared.declaration.WrittenBounds.{WrittenBounds}
+use Rattle.pli_base.specs.declared.declaration.WrittenBounds.TheVariants as limits
+use Rattle.pli_base.specs.declared.declaration.WrittenLength.{WrittenLength}
+use Rattle.pli_base.specs.declared.declaration.WrittenLength.TheVariants as extent
 use Rattle.pli_base.specs.declared.declaration.InitialValue.{InitialValue}
 use Rattle.pli_base.specs.declared.declaration.InitialValue.TheVariants as initial
 use Rattle.pli_parse_declaration.specs.declared.word.SimpleWord.{SimpleWord}
@@ -68,21 +71,27 @@ SpellsSigned ts false n = SpellsNumber ts n ⊎ ((us : Tokens) × (ts ≡ Sign P
 abbrev pub SpellsInteger : Tokens → Integer → Type 0
 SpellsInteger ts i = SpellsSigned ts i.negative i.value
 
--- bound = [int ":"] int
+-- [int ":"] int
 abbrev pub SpellsRange : Tokens → Option Integer → Integer → Type 0
 SpellsRange ts None high = SpellsInteger ts high
 SpellsRange ts (Some low) high =
     (ls : Tokens) × (hs : Tokens) × (ts ≡ ls ++ Sign Colon ∷ hs) × SpellsInteger ls low
     × SpellsInteger hs high
 
--- the bounds of a dimension
+-- bound = "*" | [int ":"] int
 abbrev pub SpellsBounds : Tokens → WrittenBounds → Type 0
-SpellsBounds ts b = SpellsRange ts b.low b.high
+SpellsBounds ts (limits.Stated low high) = SpellsRange ts low high
+SpellsBounds ts limits.Any = ts ≡ Sign Times ∷ []
 
 -- [dims], dims = "(" bound {"," bound} ")"
 abbrev pub SpellsDimensions : Tokens → List WrittenBounds → Type 0
 SpellsDimensions ts [] = ts ≡ []
 SpellsDimensions ts (b ∷ bs) = SpellsEnclosed (SpellsList Commas SpellsBounds) ts (b ∷ bs)
+
+-- number | "*", in the parentheses of a length or a size
+abbrev pub SpellsLength : Tokens → WrittenLength → Type 0
+SpellsLength ts (extent.Stated n) = SpellsNumber ts n
+SpellsLength ts extent.Any = ts ≡ Sign Times ∷ []
 
 -- number ["," "0"], in the parentheses of a precision
 abbrev pub SpellsScaled : Tokens → ℕ → Type 0
@@ -128,9 +137,9 @@ word_of (tree.Initial values) = words.Initial
 abbrev pub SpellsBehind : Tokens → tree.SimpleAttribute → Type 0
 SpellsBehind ts (tree.Fixed n) = SpellsOptional SpellsScaled ts n
 SpellsBehind ts (tree.Binary n) = SpellsOptional SpellsScaled ts n
-SpellsBehind ts (tree.Character n) = SpellsOptional SpellsNumber ts n
-SpellsBehind ts (tree.Bit n) = SpellsOptional SpellsNumber ts n
-SpellsBehind ts (tree.Area n) = SpellsOptional SpellsNumber ts n
+SpellsBehind ts (tree.Character n) = SpellsOptional SpellsLength ts n
+SpellsBehind ts (tree.Bit n) = SpellsOptional SpellsLength ts n
+SpellsBehind ts (tree.Area n) = SpellsOptional SpellsLength ts n
 SpellsBehind ts (tree.Offset n) = SpellsOptional SpellsName ts n
 SpellsBehind ts (tree.Based names) = SpellsOptional (SpellsList Periods SpellsName) ts names
 SpellsBehind ts (tree.Initial values) = SpellsEnclosed (SpellsList Commas SpellsValue) ts values

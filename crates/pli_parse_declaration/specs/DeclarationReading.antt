@@ -13,7 +13,7 @@ use Rattle.pli_base.specs.declared.code.Code.TheVariants.{ParenthesisExpected, S
 use Rattle.pli_base.specs.declared.code.Code.TheVariants.{NameExpected, EndMissing, BadAttribute}
 use Rattle.pli_base.specs.declared.code.Code.TheVariants.{ConstantExpected}
 use Rattle.pli_base.specs.declared.token.Fault.{Fault}
-use Rattle.pli_base.specs.declared.token.Sign.TheVariants.{OpenParenthesis, Plus, Minus}
+use Rattle.pli_base.specs.declared.token.Sign.TheVariants.{OpenParenthesis, Plus, Minus, Times}
 use Rattle.pli_base.specs.declared.token.TokenText.TheVariants.{Word, Decimal, Binary, Characters, Bits, Sign}
 use Rattle.pli_parse_declaration.specs.DeclarationWords.{attribute_first, with_attribute, begins_description}
 use Rattle.pli_parse_declaration.specs.DeclarationWords.{is_zero}
@@ -21,6 +21,9 @@ use Rattle.pli_base.specs.Declarations as tree
 use Rattle.pli_base.specs.declared.syntax.Identifier.{Identifier}
 use Rattle.pli_base.specs.declared.declaration.Integer.{Integer}
 use Rattle.pli_base.specs.declared.declaration.WrittenBounds.{WrittenBounds}
+use Rattle.pli_base.specs.declared.declaration.WrittenBounds.TheVariants as limits
+use Rattle.pli_base.specs.declared.declaration.WrittenLength.{WrittenLength}
+use Rattle.pli_base.specs.declared.declaration.WrittenLength.TheVariants as extent
 use Rattle.pli_base.specs.declared.declaration.InitialValue.{InitialValue}
 use Rattle.pli_base.specs.declared.declaration.InitialValue.TheVariants as initial
 use Rattle.pli_parse_declaration.specs.declared.word.SimpleWord.{SimpleWord}
@@ -72,21 +75,30 @@ integer_at p ts = signed false (number_at p ts)
 
 -- a lower bound is one behind which a colon stands
 abbrev pub bounds_from : Front Integer → Option Tokens → Result (Front WrittenBounds) Fault
-bounds_from x None = read_as (record { low = None; high = x.value }) x.next x.rest
-bounds_from x (Some us) =
-    mapped (λ high. record { low = Some x.value; high = high }) (integer_at (x.next + 1) us)
+bounds_from x None = read_as (limits.Stated None x.value) x.next x.rest
+bounds_from x (Some us) = mapped (limits.Stated (Some x.value)) (integer_at (x.next + 1) us)
 
--- the bounds of a dimension: one number, or two with a colon between them
+-- bounds that are written: one number, or two with a colon between them
+abbrev pub stated_at : ℕ → Tokens → Result (Front WrittenBounds) Fault
+stated_at p ts = integer_at p ts >>= λ x. bounds_from x (behind is_colon x.rest)
+
+-- the bounds of a dimension: `*`, or those that are written
 unfoldable pub bounds_at : ℕ → Tokens → Result (Front WrittenBounds) Fault
-bounds_at p ts = integer_at p ts >>= λ x. bounds_from x (behind is_colon x.rest)
+bounds_at p (Sign Times ∷ ts) = read_as limits.Any (p + 1) ts
+bounds_at p ts = stated_at p ts
 
 -- dimensions in parentheses, or none
 unfoldable pub dimensions_at : ℕ → Tokens → Result (Front (List WrittenBounds)) Fault
 dimensions_at p ts = mapped or_none (if_open (list_at Commas bounds_at) p ts (behind is_open ts))
 
--- a length or a size in parentheses
-unfoldable pub length_at : ℕ → Tokens → Result (Front (Option ℕ)) Fault
-length_at p ts = if_open number_at p ts (behind is_open ts)
+-- a length or a size: `*`, or a number
+unfoldable pub extent_at : ℕ → Tokens → Result (Front WrittenLength) Fault
+extent_at p (Sign Times ∷ ts) = read_as extent.Any (p + 1) ts
+extent_at p ts = mapped extent.Stated (number_at p ts)
+
+-- the same in parentheses
+unfoldable pub length_at : ℕ → Tokens → Result (Front (Option WrittenLength)) Fault
+length_at p ts = if_open extent_at p ts (behind is_open ts)
 
 -- a scale is 0
 abbrev pub with_scale : Front ℕ → Option Tokens → Result (Front ℕ) Fault

@@ -1,10 +1,8 @@
 //! Dimensions, lengths and precisions.
 ghost use Rattle.std.specs.Prelude.{◌≡◌, ◌≤◌, ◌+◌, length, IfOk};
-ghost use Rattle.pli_parse_declaration.specs.DeclarationReading.{list_at, number_at, signed, integer_at, bounds_at};
-ghost use Rattle.pli_parse_declaration.specs.DeclarationReading.{dimensions_at, scaled_at};
-ghost use Rattle.pli_parse_declaration.specs.answers.DeclarationAnswers.{measured_at};
-ghost use Rattle.pli_base.specs.Words.{is_open, behind};
-ghost use Rattle.pli_base.specs.Reading.{if_open};
+ghost use Rattle.pli_parse_declaration.specs.DeclarationReading.{list_at, number_at, signed, integer_at, stated_at};
+ghost use Rattle.pli_parse_declaration.specs.DeclarationReading.{bounds_at, dimensions_at, extent_at, length_at};
+ghost use Rattle.pli_parse_declaration.specs.DeclarationReading.{scaled_at, precision_at};
 ghost use Rattle.pli_base.specs.answers.FailureAnswers.{Gives};
 ghost use Rattle.pli_base.specs.answers.ReadingAnswers.{Advances, Continues, front_view};
 ghost use Rattle.pli_parse_declaration.specs.declared.list.Separator.TheVariants.{Commas};
@@ -14,7 +12,7 @@ ghost use Rattle.std.proofs.lemmas.List.{map-id};
 
 use crate::front::{number_at, zero_taken};
 use crate::list::{ListReader, Separator, list_at};
-use pli_base::declaration::{Integer, WrittenBounds};
+use pli_base::declaration::{Integer, WrittenBounds, WrittenLength};
 use pli_base::{
     Front, ParseError, Sign, TokenText, behind_colon, behind_comma, behind_open, close_taken,
 };
@@ -49,6 +47,37 @@ pub fn integer_at(at: u32, texts: &[TokenText]) -> Result<Front<'_, Integer>, Pa
     }
 }
 
+/// Bounds that are written: one number, or two with a colon between them.
+#[tactic(auto)]
+fn stated_at(at: u32, texts: &[TokenText]) -> Result<Front<'_, WrittenBounds>, ParseError>
+    requires { at + length texts.now ≤ 200000 }
+    ensures value { Gives (front_view (λ n. n)) result (stated_at at texts.now) }
+    ensures place { IfOk result (Advances at texts.now) }
+{
+    let first = integer_at(at, texts)?;
+    match behind_colon(first.rest) {
+        Some(rest) => {
+            let high = integer_at(first.next + 1, rest)?;
+            Ok(Front::new(
+                WrittenBounds::Stated {
+                    low: Some(first.value),
+                    high: high.value,
+                },
+                high.next,
+                high.rest,
+            ))
+        }
+        None => Ok(Front::new(
+            WrittenBounds::Stated {
+                low: None,
+                high: first.value,
+            },
+            first.next,
+            first.rest,
+        )),
+    }
+}
+
 /// The bounds of a dimension.
 #[derive(Clone, Copy)]
 struct EachBounds;
@@ -72,27 +101,11 @@ impl ListReader for EachBounds {
         at: u32,
         texts: &'a [TokenText],
     ) -> Result<Front<'a, WrittenBounds>, ParseError> {
-        let first = integer_at(at, texts)?;
-        match behind_colon(first.rest) {
-            Some(rest) => {
-                let high = integer_at(first.next + 1, rest)?;
-                Ok(Front::new(
-                    WrittenBounds {
-                        low: Some(first.value),
-                        high: high.value,
-                    },
-                    high.next,
-                    high.rest,
-                ))
+        match texts {
+            [TokenText::Sign(Sign::Times), rest @ ..] => {
+                Ok(Front::new(WrittenBounds::Any, at + 1, rest))
             }
-            None => Ok(Front::new(
-                WrittenBounds {
-                    low: None,
-                    high: first.value,
-                },
-                first.next,
-                first.rest,
-            )),
+            _ => stated_at(at, texts),
         }
     }
 }
@@ -135,41 +148,58 @@ fn scaled_at(at: u32, texts: &[TokenText]) -> Result<Front<'_, u64>, ParseError>
     }
 }
 
-/// What a number in parentheses says.
-#[derive(Clone, Copy)]
-pub enum Measure {
-    /// A length or a size.
-    Length,
-    /// A number of digits, perhaps with a scale.
-    Precision,
-}
-
-/// A number that says this.
-fn measured_at(measure: Measure, at: u32, texts: &[TokenText]) -> Result<Front<'_, u64>, ParseError>
+/// A length or a size: `*`, or a number.
+#[tactic(auto, unfolding(crate::specs::DeclarationReading::extent_at))]
+fn extent_at(at: u32, texts: &[TokenText]) -> Result<Front<'_, WrittenLength>, ParseError>
     requires { at + length texts.now ≤ 200000 }
-    ensures value { Gives (front_view (λ n. n)) result (measured_at measure at texts.now) }
+    ensures value { Gives (front_view (λ n. n)) result (extent_at at texts.now) }
     ensures place { IfOk result (Advances at texts.now) }
 {
-    match measure {
-        Measure::Length => number_at(at, texts),
-        Measure::Precision => scaled_at(at, texts),
+    match texts {
+        [TokenText::Sign(Sign::Times), rest @ ..] => {
+            Ok(Front::new(WrittenLength::Any, at + 1, rest))
+        }
+        _ => {
+            let number = number_at(at, texts)?;
+            Ok(Front::new(
+                WrittenLength::Stated(number.value),
+                number.next,
+                number.rest,
+            ))
+        }
     }
 }
 
-/// A number in parentheses, or none.
-pub fn measure_at(
-    measure: Measure,
+/// A length or a size in parentheses, or none.
+#[tactic(auto, unfolding(crate::specs::DeclarationReading::length_at))]
+pub fn length_at(
     at: u32,
     texts: &[TokenText],
-) -> Result<Front<'_, Option<u64>>, ParseError>
+) -> Result<Front<'_, Option<WrittenLength>>, ParseError>
     requires { at + length texts.now ≤ 200000 }
-    ensures value { Gives (front_view (λ n. n)) result (if_open (measured_at measure) at texts.now
-        (behind is_open texts.now)) }
+    ensures value { Gives (front_view (λ n. n)) result (length_at at texts.now) }
     ensures place { IfOk result (Continues at texts.now) }
 {
     match behind_open(texts) {
         Some(inside) => {
-            let number = measured_at(measure, at + 1, inside)?;
+            let extent = extent_at(at + 1, inside)?;
+            let rest = close_taken(extent.next, extent.rest)?;
+            Ok(Front::new(Some(extent.value), extent.next + 1, rest))
+        }
+        None => Ok(Front::new(None, at, texts)),
+    }
+}
+
+/// A number of digits in parentheses, or none.
+#[tactic(auto, unfolding(crate::specs::DeclarationReading::precision_at))]
+pub fn precision_at(at: u32, texts: &[TokenText]) -> Result<Front<'_, Option<u64>>, ParseError>
+    requires { at + length texts.now ≤ 200000 }
+    ensures value { Gives (front_view (λ n. n)) result (precision_at at texts.now) }
+    ensures place { IfOk result (Continues at texts.now) }
+{
+    match behind_open(texts) {
+        Some(inside) => {
+            let number = scaled_at(at + 1, inside)?;
             let rest = close_taken(number.next, number.rest)?;
             Ok(Front::new(Some(number.value), number.next + 1, rest))
         }

@@ -10,17 +10,22 @@ ghost use Rattle.pli_parse_declaration.specs.DeclarationReading.{items_at, decla
 ghost use Rattle.pli_parse_declaration.specs.DeclarationGrammar.{SpellsFront, SpellsItems, SpellsDeclaration};
 ghost use Rattle.pli_parse_declaration.specs.DeclarationGrammar.{SpellsReturned, Anywhere, EndsItems};
 ghost use Rattle.pli_parse_declaration.specs.ItemEnds.{ItemsEnd};
-ghost use Rattle.pli_parse_declaration.specs.examples.DeclarationExamples.{NameThatIsKeyword, Levels, Nest, Values};
-ghost use Rattle.pli_parse_declaration.specs.examples.DeclarationExamples.{WrongWord, NoLevelInParentheses};
-ghost use Rattle.pli_parse_declaration.specs.examples.DeclarationExamples.{NoScaleButZero, NoFactorOfString};
-ghost use Rattle.pli_parse_declaration.specs.examples.DeclarationExamples.{NoDescription, NoDescriptionBehindComma};
-ghost use Rattle.pli_parse_declaration.specs.examples.DeclarationExamples.{NoAttributeInNest, TextEnds};
+ghost use Rattle.pli_parse_declaration.specs.examples.DeclarationExamples.{NameThatIsKeyword, Levels, Nest, Asterisks};
+ghost use Rattle.pli_parse_declaration.specs.examples.DeclarationExamples.{NoAsteriskBehindColon};
+ghost use Rattle.pli_parse_declaration.specs.examples.DeclarationExamples.{NoAsteriskAsPrecision, Values, WrongWord};
+ghost use Rattle.pli_parse_declaration.specs.examples.DeclarationExamples.{NoLevelInParentheses, NoScaleButZero};
+ghost use Rattle.pli_parse_declaration.specs.examples.DeclarationExamples.{NoFactorOfString, NoDescription};
+ghost use Rattle.pli_parse_declaration.specs.examples.DeclarationExamples.{NoDescriptionBehindComma, NoAttributeInNest};
+ghost use Rattle.pli_parse_declaration.specs.examples.DeclarationExamples.{TextEnds};
 
 /// Worked examples of what is read behind DECLARE, and of faults.
 pub fn worked_examples()
     ensures name_that_is_keyword { NameThatIsKeyword }
     ensures levels { Levels }
     ensures nest { Nest }
+    ensures asterisks { Asterisks }
+    ensures no_asterisk_behind_colon { NoAsteriskBehindColon }
+    ensures no_asterisk_as_precision { NoAsteriskAsPrecision }
     ensures values { Values }
     ensures wrong_word { WrongWord }
     ensures no_level_in_parentheses { NoLevelInParentheses }

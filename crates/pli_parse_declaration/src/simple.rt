@@ -14,7 +14,7 @@ ghost use Rattle.pli_base.specs.declared.declaration.InitialValue as initial;
 ghost use Rattle.std.proofs.Common.{sym};
 ghost use Rattle.std.proofs.lemmas.List.{map-id};
 
-use crate::extent::{Measure, integer_at, measure_at};
+use crate::extent::{integer_at, length_at, precision_at};
 use crate::front::number_at;
 use crate::list::{ListReader, Separator, list_at};
 use crate::word::SimpleWord;
@@ -217,29 +217,15 @@ fn initial_at<'a>(
     ))
 }
 
-/// An attribute that is a keyword alone.
+/// An attribute in front of these tokens.
 fn bare(attribute: SimpleAttribute, at: u32, texts: &[TokenText]) -> Front<'_, SimpleAttribute>
     ensures { front_view (λ a. a) result ≡ record { value = attribute; next = at; rest = texts.now } }
 {
     Front::new(attribute, at, texts)
 }
 
-/// An attribute with what was read behind its keyword.
-fn numbered<'a>(
-    attribute: SimpleAttribute,
-    read: &Front<'a, Option<u64>>,
-) -> Front<'a, SimpleAttribute>
-    ensures { front_view (λ a. a) result ≡ record {
-      value = attribute;
-      next = read.now.next;
-      rest = read.now.rest.now;
-    } }
-{
-    Front::new(attribute, read.next, read.rest)
-}
-
 /// What stands behind the keyword of a simple attribute.
-#[tactic(auto, unfolding(crate::specs::DeclarationReading::simple_of, crate::specs::DeclarationReading::length_at, crate::specs::DeclarationReading::precision_at))]
+#[tactic(auto, unfolding(crate::specs::DeclarationReading::simple_of))]
 pub fn simple_of<'a>(
     alloc: Global,
     word: SimpleWord,
@@ -252,24 +238,29 @@ pub fn simple_of<'a>(
 {
     match word {
         SimpleWord::Fixed => {
-            let precision = measure_at(Measure::Precision, at, texts)?;
-            Ok(numbered(SimpleAttribute::Fixed(precision.value), &precision))
+            let precision = precision_at(at, texts)?;
+            let attribute = SimpleAttribute::Fixed(precision.value);
+            Ok(bare(attribute, precision.next, precision.rest))
         }
         SimpleWord::Binary => {
-            let precision = measure_at(Measure::Precision, at, texts)?;
-            Ok(numbered(SimpleAttribute::Binary(precision.value), &precision))
+            let precision = precision_at(at, texts)?;
+            let attribute = SimpleAttribute::Binary(precision.value);
+            Ok(bare(attribute, precision.next, precision.rest))
         }
         SimpleWord::Character => {
-            let length = measure_at(Measure::Length, at, texts)?;
-            Ok(numbered(SimpleAttribute::Character(length.value), &length))
+            let length = length_at(at, texts)?;
+            let attribute = SimpleAttribute::Character(length.value);
+            Ok(bare(attribute, length.next, length.rest))
         }
         SimpleWord::Bit => {
-            let length = measure_at(Measure::Length, at, texts)?;
-            Ok(numbered(SimpleAttribute::Bit(length.value), &length))
+            let length = length_at(at, texts)?;
+            let attribute = SimpleAttribute::Bit(length.value);
+            Ok(bare(attribute, length.next, length.rest))
         }
         SimpleWord::Area => {
-            let size = measure_at(Measure::Length, at, texts)?;
-            Ok(numbered(SimpleAttribute::Area(size.value), &size))
+            let size = length_at(at, texts)?;
+            let attribute = SimpleAttribute::Area(size.value);
+            Ok(bare(attribute, size.next, size.rest))
         }
         SimpleWord::Offset => offset_at(at, texts),
         SimpleWord::Based => based_at(alloc, at, texts),

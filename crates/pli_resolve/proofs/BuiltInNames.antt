@@ -7,14 +7,17 @@ use Rattle.pli_base.specs.Name.{Name}
 use Rattle.pli_base.specs.Words.{same_name}
 use Rattle.pli_base.specs.Declarations.{Item}
 use Rattle.pli_base.specs.declared.code.Code.{Code}
+use Rattle.pli_base.specs.declared.declaration.WrittenBounds.{WrittenBounds}
 use Rattle.pli_base.specs.declared.code.Code.TheVariants.{AttributesConflict, AttributesMissing, BadPrecision, BadLength, BadBounds}
 use Rattle.pli_map.specs.Description.{Description}
+use Rattle.pli_map.specs.ParameterTypes.{ParameterType}
 use Rattle.pli_declare_attributes.specs.Sets.{has, none_of, entry, built_in, outermost, set_of, each_once}
-use Rattle.pli_declare_attributes.specs.Agreement.{set_agrees, agrees_as_entry, agrees_as_built_in, agrees_as_variable, is_missing, is_plain, is_at_level_one}
-use Rattle.pli_declare_attributes.specs.Types.{number_of, is_bad_precision, is_bad_length}
-use Rattle.pli_declare_attributes.specs.Extents.{is_array, are_bad_bounds}
+use Rattle.pli_declare_attributes.specs.Agreement.{is_parameter, may_be_open, set_agrees, agrees_as_entry, agrees_as_built_in, agrees_as_variable, is_missing, is_plain, is_at_level_one}
+use Rattle.pli_declare_attributes.specs.Types.{number_of, is_bad_precision, is_bad_length, is_bad_star}
+use Rattle.pli_declare_attributes.specs.Types as types
+use Rattle.pli_declare_attributes.specs.Extents.{is_array, are_bad_bounds, are_bad_stars}
 use Rattle.pli_declare_attributes.specs.Faults.{first_of, shape_fault, own_fault, attributes_fault, item_fault, entry_fault, parameters_in}
-use Rattle.pli_declare_attributes.specs.Completed.{Variable, OfVariable, OfEntry, OfBuiltIn, variable_of, completed_of}
+use Rattle.pli_declare_attributes.specs.Completed.{Variable, OfVariable, OfEntry, OfBuiltIn, open_type, variable_of, completed_of}
 use Rattle.pli_declare_attributes.specs.declared.place.ItemPlace.{ItemPlace}
 use Rattle.pli_declare_attributes.proofs.ShapeLemmas.{or_none, parts_none}
 use Rattle.pli_declare_variables.specs.Places.{is_built_in}
@@ -52,7 +55,7 @@ not_true : (b : Bool) → (b ≡ true → ⊥) → b ≡ false
 not_true true h = absurd (h refl)
 not_true false h = refl
 
-built_in_left : (e b : Bool) (ps : List Description) (r : Option Description) (w : Variable)
+built_in_left : (e b : Bool) (ps : List ParameterType) (r : Option Description) (w : Variable)
     → (if e then OfEntry ps r else if b then OfBuiltIn else OfVariable w) ≡ OfBuiltIn → (e ≡ false) × (b ≡ true)
 built_in_left true b ps r w h = cc
 built_in_left false true ps r w h = (refl, refl)
@@ -84,7 +87,8 @@ agreed p i h =
     let n = number_of attributes in
     let own = (parts_none p i (or_none (attributes_fault p i) (entry_fault (parameters_in i.attributes)) h).0).0 in
     right_true (each_once 0 attributes) (set_agrees p (is_array i.dimensions) s)
-    (agrees (each_once 0 attributes && set_agrees p (is_array i.dimensions) s) (is_missing p s) (is_bad_precision s n) (is_bad_length s n) (are_bad_bounds i.dimensions)
+    (agrees (each_once 0 attributes && set_agrees p (is_array i.dimensions) s) (is_missing p s) (is_bad_precision s n) (is_bad_length s n || is_bad_star (may_be_open p) (types.has_star attributes) s)
+    (are_bad_bounds i.dimensions || are_bad_stars (may_be_open p) i.dimensions)
     AttributesConflict AttributesMissing BadPrecision BadLength BadBounds (or_none _ _ own).0)
 
 -- the name is one
@@ -118,14 +122,25 @@ third_of false false c h k l = h
 no_entry_beside : (s : ℕ) → none_of s 98304 ≡ true → has s 65536 ≡ true → ⊥
 no_entry_beside s n h = not_among s 65536 refl refl n h
 
-variable_left : (e b : Bool) (ps : List Description) (r : Option Description) (w : Variable) → e ≡ false → b ≡ false
+variable_left : (e b : Bool) (ps : List ParameterType) (r : Option Description) (w : Variable) → e ≡ false → b ≡ false
     → (if e then OfEntry ps r else if b then OfBuiltIn else OfVariable w) ≡ OfVariable w
 variable_left true b ps r w h k = cc
 variable_left false true ps r w h k = cc
 variable_left false false ps r w h k = refl
 
+not_open_with : (parameter members : Bool) (dimensions : List WrittenBounds) (n : ℕ) (o : Option ℕ) (star : Bool) → members ≡ true → open_type (parameter && not members) dimensions n o star ≡ None
+not_open_with true true dimensions n o star h = refl
+not_open_with false true dimensions n o star h = refl
+not_open_with parameter false dimensions n o star h = cc
+
+not_open_whole : (p : ItemPlace) (i : Item) → p.has_members ≡ true → (variable_of p i).taken ≡ None
+unfolding variable_of
+not_open_whole p i many =
+    let attributes = map outermost i.attributes in
+    not_open_with (is_parameter p.position) p.has_members i.dimensions (set_of attributes) (number_of attributes) (types.has_star attributes) many
+
 pub with_members : (p : ItemPlace) (i : Item) → item_fault p i ≡ None → p.has_members ≡ true
-    → (v : Variable) × (completed_of p i ≡ OfVariable v) × (none_of (set_of (map outermost i.attributes)) (entry + built_in) ≡ true)
+    → (v : Variable) × (completed_of p i ≡ OfVariable v) × (none_of (set_of (map outermost i.attributes)) (entry + built_in) ≡ true) × (v.taken ≡ None)
 unfolding completed_of set_agrees
 with_members p i h many =
     let s = set_of (map outermost i.attributes) in
@@ -139,6 +154,7 @@ with_members p i h many =
       variable_of p i,
       variable_left (has s entry) (has s built_in) _ _ (variable_of p i) (not_true (has s entry) (no_entry_beside s none)) (not_true (has s built_in) (λ b. not_beside s b none)),
       none,
+      not_open_whole p i many,
     )
 
 -- an item that is a variable agrees as one

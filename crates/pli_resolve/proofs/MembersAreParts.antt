@@ -10,8 +10,10 @@ use Rattle.pli_base.specs.declared.declaration.WrittenBounds.{WrittenBounds}
 use Rattle.pli_base.specs.declared.declaration.InitialValue.{InitialValue}
 use Rattle.pli_base.specs.declared.syntax.Identifier.{Identifier}
 use Rattle.pli_map.specs.Description.{Description}
+use Rattle.pli_map.specs.ParameterTypes.{ParameterType}
 use Rattle.pli_declare_attributes.specs.Completed.{Variable as AVariable, OfVariable, OfEntry, OfBuiltIn}
 use Rattle.pli_declare_attributes.specs.Extents.{is_array}
+use Rattle.pli_declare_attributes.specs.declared.completed.ScopeAttribute.{ScopeAttribute}
 use Rattle.pli_declare_attributes.specs.Faults.{item_fault}
 use Rattle.pli_declare_outline.specs.Outlines.{Mark, Declared, Labelled, Entered, Used, Jumped, PlacedMark, outline_of}
 use Rattle.pli_declare_tables.specs.Tables.{Entity, Entry, no_entry, entries_in, heading_entries, unit_entries}
@@ -27,11 +29,12 @@ use Rattle.pli_declare.specs.Resolution.{parameters_of, resolution_faults}
 use Rattle.pli_declare.specs.Resolved.{resolved_of, block_at}
 use Rattle.pli_declare.specs.Resolved as declare
 use Rattle.pli_declare.proofs.ListsByNumber.{made_at, made_length}
-use Rattle.pli_resolve.specs.Symbols.{Symbol, SymbolFacts, Variable, Member, Way, no_way, ways_of, class_of, place_among, locator_of, area_of, symbol_kind, symbol_of, symbols_with}
+use Rattle.pli_resolve.specs.Symbols.{Symbol, SymbolFacts, Variable, Member, Way, no_way, ways_of, class_of, place_among, locator_of, area_of, kind_with, symbol_kind, symbol_of, symbols_with}
 use Rattle.pli_resolve.specs.ResolvedUnits.{resolved_unit_of, symbol_at, facts_of, region_block, block_regions_of, no_block}
 use Rattle.pli_resolve.specs.laws.LocatorLaws.{plain_member, plain_part}
 use Rattle.pli_resolve.specs.laws.MemberLaws.{member_of, part_on, IsPart, MembersAreParts}
 use Rattle.pli_resolve.specs.declared.block_numbers.BlockRegion.{BlockRegion}
+use Rattle.pli_resolve.specs.declared.symbol.StorageClass.{StorageClass}
 use Rattle.pli_resolve.specs.declared.symbol.SymbolKey.{SymbolKey}
 use Rattle.pli_resolve.proofs.SymbolsAt.{symbols_at, symbol_inside, symbol_outside, symbol_beyond}
 use Rattle.pli_resolve.proofs.WaysToMembers.{hits, at_hit, is_owner, owner_here, way_by, ways_are}
@@ -220,7 +223,7 @@ module _ (es : List Entry) (ps : List Name) (owners : AreBehindOwners es) (items
 
   -- what the root is declared as
   pub root_kind : (n o : ℕ) → n < size → owner n ≡ Some o → (v : AVariable) × (d : Description) × (description_of es ps (way n).root ≡ Some d)
-      × ((declaration_at es ps (way n).root).kind ≡ OfItem (OfVariable v) (Some d))
+      × ((declaration_at es ps (way n).root).kind ≡ OfItem (OfVariable v) (Some d)) × (v.taken ≡ None)
   root_kind n o lt e =
       let r = rooted n lt in
       let root = (way n).root in
@@ -235,6 +238,7 @@ module _ (es : List Entry) (ps : List Name) (owners : AreBehindOwners es) (items
             ∙ ap (λ w. OfItem (OfVariable v.0) w)
             (ap (λ (b : Bool). if b && is_variable (get_or es root no_entry).entity then description_of es ps root else None) (ap is_none r.alone)
             ∙ ap (λ (b : Bool). if b then description_of es ps root else None) (ap is_variable x.2 ∙ v.2) ∙ d.1),
+        v.3,
       )
 
 -- a symbol and what it is of
@@ -263,10 +267,17 @@ found_of f ps ws ds n s e = by (slice_get ws n) refl (slice_get ds n) refl
 abbrev IsMember : Way → (owner : Option ℕ) → (root : ℕ) → (path : List ℕ) → Type 0
 IsMember w owner root path = (o : ℕ) × (owner ≡ Some o) × (w.root ≡ root) × (w.path ≡ path)
 
+-- a variable of its own is none
+pub own_not_member : (t : Option ParameterType) (slot : ℕ) (named : Option SymbolKey) (d : Description) (class : StorageClass) (scope : ScopeAttribute) (first : List InitialValue) (root : ℕ) (path : List ℕ) (initial : List InitialValue) (area : Option SymbolKey)
+    → kind_with t slot named (Variable d class scope first named) ≡ Member root path initial area → ⊥
+own_not_member None slot named d class scope first root path initial area e = cc
+own_not_member (Some t) slot named d class scope first root path initial area e = cc
+
 -- only what has an owner is a member
 only_member : (f : SymbolFacts) (ps : List Name) (w : Way) (i : Identifier) (owner : Option ℕ) (kind : DeclaredKind) (root : ℕ) (path : List ℕ) (initial : List InitialValue) (area : Option SymbolKey)
     → symbol_kind f ps w i owner kind ≡ Member root path initial area → IsMember w owner root path
-only_member f ps w i None (OfItem (OfVariable v) d) root path initial area e = cc
+only_member f ps w i None (OfItem (OfVariable v) d) root path initial area e =
+    absurd (own_not_member v.taken (place_among ps i.name) (area_of f i.at) _ _ v.scope v.initial root path initial area e)
 only_member f ps w i None (OfItem (OfEntry qs r) d) root path initial area e = cc
 only_member f ps w i None (OfItem OfBuiltIn d) root path initial area e = cc
 only_member f ps w i None (OfLabel region) root path initial area e = cc
@@ -278,10 +289,13 @@ only_member f ps w i (Some o) (OfLabel region) root path initial area e = cc
 only_member f ps w i (Some o) (OfProcedure returned region) root path initial area e = cc
 
 -- a variable of its own
-pub own_kind : (f : SymbolFacts) (ps : List Name) (w : Way) (i : Identifier) (owner : Option ℕ) (kind : DeclaredKind) (v : AVariable) (d : Description) → owner ≡ None → kind ≡ OfItem (OfVariable v) (Some d)
+pub own_kind : (f : SymbolFacts) (ps : List Name) (w : Way) (i : Identifier) (owner : Option ℕ) (kind : DeclaredKind) (v : AVariable) (d : Description) → owner ≡ None → kind ≡ OfItem (OfVariable v) (Some d) → v.taken ≡ None
     → symbol_kind f ps w i owner kind ≡ Variable d (class_of v.storage (place_among ps i.name) (locator_of f i.at)) v.scope v.initial (area_of f i.at)
-own_kind f ps w i owner kind v d e k =
+own_kind f ps w i owner kind v d e k none =
     ap (λ o. symbol_kind f ps w i o kind) e ∙ ap (symbol_kind f ps w i None) k
+    ∙ ap
+    (λ t. kind_with t (place_among ps i.name) (area_of f i.at)
+    (Variable d (class_of v.storage (place_among ps i.name) (locator_of f i.at)) v.scope v.initial (area_of f i.at))) none
 
 module _ (u : ExternalProcedure) (h : resolution_faults u ≡ []) (key : SymbolKey) (b : BlockRegion) (found : slice_get (block_regions_of u) key.block ≡ Some b) where
   abbrev pub entries : List Entry
@@ -335,7 +349,7 @@ module _ (u : ExternalProcedure) (h : resolution_faults u ≡ []) (key : SymbolK
           initial = kind.0.initial;
           area = area_of (facts_of u) i.at;
           there = ap (λ k. symbol_at (resolved_unit_of u) (record { block = key.block; number = k })) (sym r) ∙ symbol_there w.root ∙ s.2;
-          is_variable = own_kind (facts_of u) s.0 s.1 i d.owner d.kind kind.0 kind.1 known.alone kind.3;
+          is_variable = own_kind (facts_of u) s.0 s.1 i d.owner d.kind kind.0 kind.1 known.alone kind.3 kind.4;
           block = b;
           stands = found;
           part = leads.0;

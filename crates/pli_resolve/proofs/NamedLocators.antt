@@ -12,6 +12,7 @@ use Rattle.pli_base.specs.declared.syntax.Identifier.{Identifier}
 use Rattle.pli_base.specs.declared.token.Fault.{Fault}
 use Rattle.pli_map.specs.Description as described
 use Rattle.pli_map.specs.Description.{Description}
+use Rattle.pli_map.specs.ParameterTypes.{ParameterType}
 use Rattle.pli_declare_attributes.specs.Agreement.{is_member}
 use Rattle.pli_declare_attributes.specs.Sets.{pointer, offset, area, based, built_in, entry, data_attributes, has, none_of, outermost, set_of}
 use Rattle.pli_declare_attributes.specs.Types.{number_of}
@@ -33,7 +34,7 @@ use Rattle.pli_declare.specs.laws.FaultLaws.{AtUnit, HasHeading}
 use Rattle.pli_declare.specs.declared.block.Target.{Target}
 use Rattle.pli_declare.proofs.FaultsAreExact.{faults_are_least_codes}
 use Rattle.pli_declare.proofs.ListsByNumber.{made_at, made_length}
-use Rattle.pli_resolve.specs.Symbols.{Symbol, SymbolFacts, Way, no_way, ways_of, class_of, place_among, locator_of, area_of, key_of, symbol_kind, symbol_of, symbols_with}
+use Rattle.pli_resolve.specs.Symbols.{Symbol, SymbolFacts, Way, no_way, ways_of, class_of, place_among, locator_of, area_of, key_of, SymbolKind, kind_with, symbol_kind, symbol_of, symbols_with}
 use Rattle.pli_resolve.specs.ResolvedUnits.{ResolvedUnit, resolved_unit_of, symbol_at, facts_of, numbers_of, outermost_number, block_regions_of}
 use Rattle.pli_resolve.specs.laws.LocatorLaws.{IsVariable, IsLocating, IsNotBased, IsLocator, IsArea, locator_names, area_names, Means, ClassNames, KindNames, declared_under, entry_under, LocatorsAndAreasAreNamed}
 use Rattle.pli_resolve.specs.declared.block_numbers.BlockRegion.{BlockRegion}
@@ -47,7 +48,7 @@ use Rattle.pli_resolve.proofs.NamesFit.{IsNamed, IsSome, all_flat, names_good_in
 use Rattle.pli_resolve.proofs.OwnersAreItems.{IsItem, OwnersAreItems, owners_are_items}
 use Rattle.pli_resolve.proofs.PartsOfMembers.{scalar_alone}
 use Rattle.pli_resolve.proofs.SymbolsAt.{symbol_outside, symbol_beyond}
-use Rattle.pli_resolve.proofs.TypesOfLocators.{locating, area_of as type_of_area, area_bytes, type_of, no_members, area_alone, storage_so, not_based}
+use Rattle.pli_resolve.proofs.TypesOfLocators.{locating, area_of as type_of_area, area_bytes, type_of, no_members, area_alone, storage_so, not_based, starless, not_open}
 
 -- variables
 
@@ -85,6 +86,16 @@ three_true true true true h = (refl, refl, refl)
 three_true false b c h = cc
 three_true true false c h = cc
 three_true true true false h = cc
+
+either_of_three : (a b c : Bool) → (a || b) ≡ true → (a || b || c) ≡ true
+either_of_three true b c h = refl
+either_of_three false true c h = refl
+either_of_three false false c h = cc
+
+third_of_three : (a b c : Bool) → c ≡ true → (a || b || c) ≡ true
+third_of_three true b c h = refl
+third_of_three false true c h = refl
+third_of_three false false c h = h
 
 left_true : (a b : Bool) → (a && b) ≡ true → a ≡ true
 left_true true b h = refl
@@ -182,9 +193,9 @@ module _ (u : ExternalProcedure) (h : resolution_faults u ≡ []) (b : ℕ) (is 
   abbrev class_at : (n : ℕ) → AVariable → StorageClass
   class_at n v = class_of v.storage (place_among parameters (get_or entries n no_entry).identifier.name) (locator_of facts (get_or entries n no_entry).identifier.at)
 
-  variable_at : (n : ℕ) (v : AVariable) (d : Description) → n < length entries → (get_or entries n no_entry).owner ≡ None → (declaration_at entries parameters n).kind ≡ OfItem (OfVariable v) (Some d)
+  variable_at : (n : ℕ) (v : AVariable) (d : Description) → n < length entries → (get_or entries n no_entry).owner ≡ None → (declaration_at entries parameters n).kind ≡ OfItem (OfVariable v) (Some d) → v.taken ≡ None
       → IsVariable resolved (key_in u (Some b) n) (class_at n v) d
-  variable_at n v d lt alone kind =
+  variable_at n v d lt alone kind none =
       let x = declaration_at entries parameters n in
       record {
         symbol = symbol_of facts parameters (way n) x;
@@ -192,7 +203,7 @@ module _ (u : ExternalProcedure) (h : resolution_faults u ≡ []) (b : ℕ) (is 
         initial = v.initial;
         area = area_of facts x.identifier.at;
         there = symbol_of_number n lt;
-        is_variable = own_kind facts parameters (way n) x.identifier x.owner x.kind v d alone kind;
+        is_variable = own_kind facts parameters (way n) x.identifier x.owner x.kind v d alone kind none;
       }
 
   class_good : (n : ℕ) (v : AVariable) (d : Description) → (declaration_at entries parameters n).kind ≡ OfItem (OfVariable v) (Some d) → none_of (set_in entries n) based ≡ true → IsNotBased (class_at n v)
@@ -223,6 +234,13 @@ module _ (u : ExternalProcedure) (h : resolution_faults u ≡ []) (b : ℕ) (is 
           locating (set_in entries n) (number_of (map outermost (item_of entries n).attributes))
           (type_of (place_in entries parameters n) (item_of entries n) (own_none entries parameters their_owners their_items all_sound n lt all.0) (variable_set (entity entries n) all.0)) all.1
 
+      closed : (variable_of (place_in entries parameters n) (item_of entries n)).taken ≡ None
+      closed =
+          not_open (place_in entries parameters n) (item_of entries n)
+          (starless (place_in entries parameters n) (item_of entries n) (own_none entries parameters their_owners their_items all_sound n lt all.0) (variable_set (entity entries n) all.0)
+          (either_of_three (has (set_in entries n) pointer) (has (set_in entries n) offset) (has (set_in entries n) area) all.1))
+          (no_dimensions entries n (left_true _ _ all.2))
+
       by : (owner : Option ℕ) → (get_or entries n no_entry).owner ≡ owner → IsLocator resolved (key_in u (Some b) n)
       by None e =
           let v = variable_of (place_in entries parameters n) (item_of entries n) in
@@ -230,7 +248,7 @@ module _ (u : ExternalProcedure) (h : resolution_faults u ≡ []) (b : ℕ) (is 
           record {
             class = class_at n v;
             description = scalar_at entries n;
-            unsubscripted = inl (variable_at n v (scalar_at entries n) lt e kind);
+            unsubscripted = inl (variable_at n v (scalar_at entries n) lt e kind closed);
             locates = locates;
             not_based = class_good n v (scalar_at entries n) kind (left_true (none_of (set_in entries n) based) _ all.3);
           }
@@ -252,7 +270,7 @@ module _ (u : ExternalProcedure) (h : resolution_faults u ≡ []) (b : ℕ) (is 
               whole = kind.1;
               there = symbol_of_number n lt;
               is_member = ap (λ q. symbol_kind facts parameters (way n) x.identifier q x.kind) e ∙ ap (symbol_kind facts parameters (way n) x.identifier (Some p)) (variable_kind entries parameters n (entity entries n) all.0);
-              of = variable_at root kind.0 kind.1 known.low known.alone kind.3;
+              of = variable_at root kind.0 kind.1 known.low known.alone kind.3 kind.4;
               leads = known.plain all.2 kind.1 (scalar_at entries n) kind.2 is_described;
             });
             locates = locates;
@@ -274,7 +292,11 @@ module _ (u : ExternalProcedure) (h : resolution_faults u ≡ []) (b : ℕ) (is 
       record {
         class = class_at n v;
         bytes = bytes.0;
-        variable = variable_at n v (described.Area bytes.0) lt alone (alone_kind n (described.Area bytes.0) alone all.0 (there ∙ ap Some it));
+        variable = variable_at n v (described.Area bytes.0) lt alone (alone_kind n (described.Area bytes.0) alone all.0 (there ∙ ap Some it))
+            (not_open (place_in entries parameters n) (item_of entries n)
+            (starless (place_in entries parameters n) (item_of entries n) own (variable_set (entity entries n) all.0)
+            (third_of_three (has (set_in entries n) pointer) (has (set_in entries n) offset) (has (set_in entries n) area) all.1))
+            (no_dimensions entries n (left_true _ _ all.2)));
       }
 
 -- the unit's own name is no variable, and names nothing
@@ -390,8 +412,12 @@ module _ (r : ResolvedUnit) (e : Entity) (f : SymbolFacts) (i : Identifier) (l :
   class_names (Some storage.Controlled) slot = tt
   class_names (Some storage.Based) slot = l
 
+  own_names : (t : Option ParameterType) (slot : ℕ) (kind : SymbolKind) → KindNames r e kind → KindNames r e (kind_with t slot (area_of f i.at) kind)
+  own_names None slot kind h = h
+  own_names (Some t) slot kind h = a
+
   kind_names : (ps : List Name) (w : Way) (owner : Option ℕ) (kind : DeclaredKind) → KindNames r e (symbol_kind f ps w i owner kind)
-  kind_names ps w None (OfItem (OfVariable v) d) = (class_names v.storage (place_among ps i.name), a)
+  kind_names ps w None (OfItem (OfVariable v) d) = own_names v.taken (place_among ps i.name) _ (class_names v.storage (place_among ps i.name), a)
   kind_names ps w None (OfItem (OfEntry qs x) d) = a
   kind_names ps w None (OfItem OfBuiltIn d) = tt
   kind_names ps w None (OfLabel region) = tt

@@ -1,22 +1,28 @@
 -- What the attributes of an item without faults say, where POINTER, OFFSET or AREA is one of them.
 use Rattle.std.proofs.Common.{◌≡◌, ℕ, ◌==◌, ◌+◌, ◌&&◌, ◌||◌, Bool, true, false, not, if◌then◌else◌, Option, Some, None, List, [], ◌∷◌, map, bit_and, refl, sym, ap, ◌∙◌, subst}
 use Rattle.std.specs.List.{list_any}
+use Rattle.pli_base.specs.declared.declaration.WrittenBounds.{WrittenBounds}
 use Rattle.std.proofs.lemmas.Bool.{eqb-true}
 use Rattle.std.proofs.lemmas.Nat.{and_assoc}
-use Rattle.pli_base.specs.Declarations.{Item}
-use Rattle.pli_base.specs.declared.code.Code.TheVariants.{AreaNotAllowedHere}
+use Rattle.pli_base.specs.Declarations.{Item, DescribedAttribute, Plain}
+use Rattle.pli_base.specs.Declarations as tree
+use Rattle.pli_base.specs.declared.code.Code.{Code}
+use Rattle.pli_base.specs.declared.code.Code.TheVariants.{AreaNotAllowedHere, AttributesConflict, AttributesMissing, BadPrecision, BadLength, BadBounds}
 use Rattle.pli_map.specs.Description as described
 use Rattle.pli_map.specs.Description.{Description}
-use Rattle.pli_declare_attributes.specs.Sets.{fixed, character, varying, bit, pointer, offset, area, based, automatic, controlled, static, internal, external, built_in, entry, returns, data_attributes, storage_attributes, scope_attributes, has, none_of, is_one_of, outermost, set_of}
-use Rattle.pli_declare_attributes.specs.Agreement.{data_types, excluded_at, is_member, may_have_members, agrees_as_variable}
-use Rattle.pli_declare_attributes.specs.Types.{number_or, scalar_of}
-use Rattle.pli_declare_attributes.specs.Extents.{is_array}
-use Rattle.pli_declare_attributes.specs.Faults.{first_of, is_bad_area, area_fault, own_fault, attributes_fault, item_fault, entry_fault, parameters_in}
-use Rattle.pli_declare_attributes.specs.Completed.{Variable, OfVariable, OfEntry, OfBuiltIn, storage_at, variable_of, completed_of}
+use Rattle.pli_map.specs.ParameterTypes.{ParameterType}
+use Rattle.pli_declare_attributes.specs.Sets.{fixed, character, varying, bit, pointer, offset, area, based, automatic, controlled, static, internal, external, built_in, entry, returns, data_attributes, storage_attributes, scope_attributes, has, none_of, is_one_of, outermost, kind_of, set_of, each_once}
+use Rattle.pli_declare_attributes.specs.Agreement.{data_types, excluded_at, is_member, may_be_open, may_have_members, set_agrees, is_missing, agrees_as_variable}
+use Rattle.pli_declare_attributes.specs.Types.{number_of, number_or, scalar_of, is_bad_precision, is_bad_length, is_bad_star, described_star}
+use Rattle.pli_declare_attributes.specs.Types as types
+use Rattle.pli_declare_attributes.specs.Extents.{is_array, are_bad_bounds, are_bad_stars}
+use Rattle.pli_declare_attributes.specs.Faults.{first_of, is_bad_area, area_fault, own_fault, shape_fault, attributes_fault, item_fault, entry_fault, parameters_in}
+use Rattle.pli_declare_attributes.specs.Completed.{Variable, OfVariable, OfEntry, OfBuiltIn, open_type, storage_at, variable_of, completed_of}
 use Rattle.pli_declare_attributes.specs.declared.completed.DeclaredStorage.TheVariants as storage
 use Rattle.pli_declare_attributes.specs.declared.place.ItemPlace.{ItemPlace}
 use Rattle.pli_declare_attributes.specs.declared.place.Position.{Position}
 use Rattle.pli_declare_attributes.specs.declared.place.Position.TheVariants.{AtLevelOne, Member, Parameter, Result}
+use Rattle.pli_declare_attributes.proofs.BitLemmas.{has_all}
 use Rattle.pli_declare_attributes.proofs.ShapeLemmas.{or_none, parts_none}
 use Rattle.pli_resolve.specs.Symbols.{class_of}
 use Rattle.pli_resolve.specs.laws.LocatorLaws.{IsLocating, IsNotBased}
@@ -168,6 +174,89 @@ no_members p i k h none e there z =
     let s = set_of (map outermost i.attributes) in
     no_more p.has_members (may_have_members p.position) (none_of s data_attributes) (agrees_parts p s (agrees_so p i h none)).1 (some_data s k e there z)
 
+-- where a length is `*`, characters, bits or an area are said
+both_false : (a b : Bool) → (a || b) ≡ false → (a ≡ false) × (b ≡ false)
+both_false true b h = cc
+both_false false b h = (refl, h)
+
+abbrev IsOf : ℕ → DescribedAttribute → Bool
+IsOf k a = has (kind_of a) k
+
+no_star_in : (a : DescribedAttribute) → IsOf character a ≡ false → IsOf bit a ≡ false → IsOf area a ≡ false → described_star a ≡ false
+no_star_in (Plain (tree.Character n)) c b r = cc
+no_star_in (Plain (tree.Bit n)) c b r = cc
+no_star_in (Plain (tree.Area n)) c b r = cc
+no_star_in other c b r = refl
+
+no_star_among : (xs : List DescribedAttribute) → list_any (IsOf character) xs ≡ false → list_any (IsOf bit) xs ≡ false → list_any (IsOf area) xs ≡ false → types.has_star xs ≡ false
+no_star_among [] c b r = refl
+no_star_among (a ∷ xs) c b r =
+    let cs = both_false (IsOf character a) (list_any (IsOf character) xs) c in
+    let bs = both_false (IsOf bit a) (list_any (IsOf bit) xs) b in
+    let rs = both_false (IsOf area a) (list_any (IsOf area) xs) r in
+    ap (λ x. x || types.has_star xs) (no_star_in a cs.0 bs.0 rs.0) ∙ no_star_among xs cs.1 bs.1 rs.1
+
+no_star : (xs : List DescribedAttribute) → has (set_of xs) character ≡ false → has (set_of xs) bit ≡ false → has (set_of xs) area ≡ false → types.has_star xs ≡ false
+no_star xs c b r = no_star_among xs (sym (has_all xs 2) ∙ c) (sym (has_all xs 4) ∙ b) (sym (has_all xs 7) ∙ r)
+
+-- a length that is `*` is no area's
+star_cleared : (star parameter is_area : Bool) → (star && (not parameter || is_area)) ≡ false → (is_area ≡ false → star ≡ false) → star ≡ false
+star_cleared false parameter is_area h of = refl
+star_cleared true true true h of = cc
+star_cleared true false true h of = cc
+star_cleared true parameter false h of = of refl
+
+fourth_none : (a b c d star e : Bool) (t u v w x : Code) → first_of ((a, t) ∷ (b, u) ∷ (c, v) ∷ (d || star, w) ∷ (e, x) ∷ []) ≡ None → star ≡ false
+fourth_none true b c d star e t u v w x h = cc
+fourth_none false true c d star e t u v w x h = cc
+fourth_none false false true d star e t u v w x h = cc
+fourth_none false false false true star e t u v w x h = cc
+fourth_none false false false false true e t u v w x h = cc
+fourth_none false false false false false e t u v w x h = refl
+
+-- neither POINTER and OFFSET nor AREA have a `*`
+pub starless : (p : ItemPlace) (i : Item) → item_fault p i ≡ None → none_of (set_of (map outermost i.attributes)) (entry + built_in) ≡ true
+    → (has (set_of (map outermost i.attributes)) pointer || has (set_of (map outermost i.attributes)) offset || has (set_of (map outermost i.attributes)) area) ≡ true
+    → types.has_star (map outermost i.attributes) ≡ false
+unfolding item_fault own_fault shape_fault
+starless p i h none locates =
+    let attributes = map outermost i.attributes in
+    let s = set_of attributes in
+    let own = (parts_none p i (or_none (attributes_fault p i) (entry_fault (parameters_in i.attributes)) h).0).0 in
+    star_cleared (types.has_star attributes) (may_be_open p) (has s area) (fourth_none (not (each_once 0 attributes && set_agrees p (is_array i.dimensions) s)) (is_missing p s) (is_bad_precision s (number_of attributes)) (is_bad_length s (number_of attributes)) (is_bad_star (may_be_open p) (types.has_star attributes) s)
+    (are_bad_bounds i.dimensions || are_bad_stars (may_be_open p) i.dimensions) AttributesConflict AttributesMissing BadPrecision BadLength BadBounds (or_none _ _ own).0)
+    (λ no_area. let before = beside (has s pointer) refl (has s offset) refl locates no_area in no_star attributes before.0 before.1 no_area)
+  where
+    one : is_one_of (bit_and (set_of (map outermost i.attributes)) data_attributes) data_types ≡ true
+    one = type_of p i h none
+
+    set : ℕ
+    set = set_of (map outermost i.attributes)
+
+    parts : NoneBefore (bit_and set data_attributes) → (has set character ≡ false) × (has set bit ≡ false)
+    parts x = (sym (apart set character refl) ∙ x.2, sym (apart set bit refl) ∙ x.3)
+
+    beside : (a : Bool) → has set pointer ≡ a → (b : Bool) → has set offset ≡ b → (has set pointer || has set offset || has set area) ≡ true → has set area ≡ false
+        → (has set character ≡ false) × (has set bit ≡ false)
+    beside true e b f g clear = parts (among BesidePointer (bit_and set data_attributes) data_types one pointers (apart set pointer refl ∙ e))
+    beside false e true f g clear = parts (among BesideOffset (bit_and set data_attributes) data_types one offsets (apart set offset refl ∙ f)).0
+    beside false e false f g clear =
+        let other : false ≡ true = sym (ap (λ x. x || has set offset || has set area) e ∙ ap (λ x. x || has set area) f ∙ clear) ∙ g in
+        cc
+
+-- what has no `*` is not open
+closed : (parameter : Bool) (dimensions : List WrittenBounds) (s : ℕ) (n : Option ℕ) (star : Bool) → star ≡ false → dimensions ≡ [] → open_type parameter dimensions s n star ≡ None
+closed parameter (d ∷ ds) s n star h k = cc
+closed true [] s n true h k = cc
+closed true [] s n false h k = refl
+closed false [] s n star h k = refl
+
+pub not_open : (p : ItemPlace) (i : Item) → types.has_star (map outermost i.attributes) ≡ false → i.dimensions ≡ [] → (variable_of p i).taken ≡ None
+unfolding variable_of
+not_open p i h k =
+    let attributes = map outermost i.attributes in
+    closed (may_be_open p) i.dimensions (set_of attributes) (number_of attributes) (types.has_star attributes) h k
+
 -- an area is no member
 bad_area : (a b c d e : Bool) → first_of ((a && (b || c || d || e), AreaNotAllowedHere) ∷ []) ≡ None → a ≡ true → b ≡ false
 bad_area true true c d e h k = cc
@@ -183,7 +272,7 @@ area_alone p i h there =
     bad_area (has s area) (is_member p.position) (is_array i.dimensions) p.in_array (has s based) fault there
 
 -- the storage of a variable
-variable_same : (e b : Bool) (ps : List Description) (r : Option Description) (w v : Variable) → (if e then OfEntry ps r else if b then OfBuiltIn else OfVariable w) ≡ OfVariable v → w ≡ v
+variable_same : (e b : Bool) (ps : List ParameterType) (r : Option Description) (w v : Variable) → (if e then OfEntry ps r else if b then OfBuiltIn else OfVariable w) ≡ OfVariable v → w ≡ v
 variable_same true b ps r w v h = cc
 variable_same false true ps r w v h = cc
 variable_same false false ps r w v h = cc

@@ -8,6 +8,7 @@ use Rattle.pli_base.specs.declared.declaration.InitialValue.{InitialValue}
 use Rattle.pli_base.specs.declared.syntax.Identifier.{Identifier}
 use Rattle.pli_map.specs.Description as described
 use Rattle.pli_map.specs.Description.{Description}
+use Rattle.pli_map.specs.ParameterTypes.{ParameterType}
 use Rattle.pli_declare_attributes.specs.Completed.{OfVariable, OfEntry, OfBuiltIn}
 use Rattle.pli_declare_attributes.specs.declared.completed.ScopeAttribute.{ScopeAttribute}
 use Rattle.pli_declare_attributes.specs.declared.completed.DeclaredStorage.{DeclaredStorage}
@@ -21,17 +22,19 @@ use Rattle.pli_resolve.specs.declared.symbol.SymbolKey.{SymbolKey}
 use Rattle.pli_resolve.specs.declared.symbol.StorageClass.{StorageClass}
 use Rattle.pli_resolve.specs.declared.symbol.StorageClass.TheVariants as classes
 
--- a symbol: a variable of its own; a member, by the number of its root in the same block and the members on
--- the way from it; a label, with its statement; a procedure, with its block, what it returns, and the area
--- that OFFSET in its RETURNS names; an external procedure, with that area too; a built-in function
+-- a symbol: a variable of its own; a parameter in which a `*` stands, by its place in the list of its
+-- procedure, with the area that OFFSET names; a member, by the number of its root in the same block and the
+-- members on the way from it; a label, with its statement; a procedure, with its block, what it returns, and
+-- the area that OFFSET in its RETURNS names; an external procedure, with that area too; a built-in function
 pub data SymbolKind : Type 0 where
   Variable : (description : Description) (class : StorageClass) (scope : ScopeAttribute)
       (initial : List InitialValue)
       (area : Option SymbolKey) → SymbolKind
+  OpenParameter : (type : ParameterType) (slot : ℕ) (area : Option SymbolKey) → SymbolKind
   Member : (root : ℕ) (path : List ℕ) (initial : List InitialValue) (area : Option SymbolKey) → SymbolKind
   Label : (statement : ℕ) → SymbolKind
   Procedure : (block : ℕ) (returned : Option Description) (area : Option SymbolKey) → SymbolKind
-  Entry : (parameters : List Description) (returned : Option Description) (area : Option SymbolKey)
+  Entry : (parameters : List ParameterType) (returned : Option Description) (area : Option SymbolKey)
       → SymbolKind
   BuiltIn : SymbolKind
 
@@ -138,14 +141,20 @@ class_of (Some storage.Static) slot locator = classes.Static
 class_of (Some storage.Controlled) slot locator = classes.Controlled
 class_of (Some storage.Based) slot locator = classes.Based locator
 
+-- a variable of its own, or a parameter in which a `*` stands, which has a type in the place of a description
+abbrev pub kind_with : Option ParameterType → (slot : ℕ) → (area : Option SymbolKey) → SymbolKind → SymbolKind
+kind_with None slot area kind = kind
+kind_with (Some type) slot area kind = OpenParameter type slot area
+
 -- what a name is declared as, by the item that it is a member of; a variable of its own has a description
 abbrev pub symbol_kind : SymbolFacts → (parameters : List Name) → Way → Identifier → (owner : Option ℕ)
     → DeclaredKind
     → SymbolKind
 symbol_kind f parameters w i None (OfItem (OfVariable v) description) =
-    Variable (unwrap_or description described.Pointer)
+    kind_with v.taken (place_among parameters i.name) (area_of f i.at)
+    (Variable (unwrap_or description described.Pointer)
     (class_of v.storage (place_among parameters i.name) (locator_of f i.at)) v.scope v.initial
-    (area_of f i.at)
+    (area_of f i.at))
 symbol_kind f parameters w i (Some owner) (OfItem (OfVariable v) description) =
     Member w.root w.path v.initial (area_of f i.at)
 symbol_kind f parameters w i owner (OfItem (OfEntry described returned) description) =

@@ -3,7 +3,7 @@ use crate::built_in::BuiltInFunction;
 use pli_base::declaration::InitialValue;
 use pli_base::syntax::Identifier;
 use pli_declare_attributes::ScopeAttribute;
-use pli_map::Description;
+use pli_map::{Description, ParameterType};
 
 /// Under which a symbol is found: its block, and its number there. The number behind that of the last block is the
 /// outermost block's, which declares the unit's own name.
@@ -45,6 +45,14 @@ pub enum SymbolKind<'a> {
         /// The area that OFFSET names.
         area: Option<SymbolKey>,
     },
+    /// A parameter in which a `*` stands.
+    OpenParameter {
+        taken: &'a ParameterType,
+        /// Its place in the list of its procedure, from 0.
+        slot: usize,
+        /// The area that OFFSET names.
+        area: Option<SymbolKey>,
+    },
     /// A member of the variable of this number in its block, through the members on the path, counted from 0.
     Member {
         root: usize,
@@ -66,9 +74,9 @@ pub enum SymbolKind<'a> {
         /// The area that OFFSET in its RETURNS names.
         area: Option<SymbolKey>,
     },
-    /// An external procedure, by the descriptions of its parameters and of what it returns, if it does.
+    /// An external procedure, by the types of its parameters and the description of what it returns, if it does.
     Entry {
-        parameters: &'a [Description],
+        parameters: &'a [ParameterType],
         returned: Option<&'a Description>,
         /// The area that OFFSET in its RETURNS names.
         area: Option<SymbolKey>,

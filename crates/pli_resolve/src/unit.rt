@@ -255,13 +255,19 @@ impl<'a> ResolvedUnit<'a> {
             };
         }
         let scope = variable.scope;
-        let class = self.class_of(parameters, identifier, variable.storage);
-        SymbolKind::Variable {
-            description: description.as_ref().unwrap_or(&self.undescribed),
-            class,
-            scope,
-            initial,
-            area,
+        match &variable.taken {
+            Some(taken) => SymbolKind::OpenParameter {
+                taken,
+                slot: place_among(parameters, identifier.name),
+                area,
+            },
+            None => SymbolKind::Variable {
+                description: description.as_ref().unwrap_or(&self.undescribed),
+                class: self.class_of(parameters, identifier, variable.storage),
+                scope,
+                initial,
+                area,
+            },
         }
     }
 

@@ -16,14 +16,16 @@ use Rattle.pli_base.specs.Words.{same_name}
 use Rattle.pli_base.specs.declared.code.Code.{Code}
 use Rattle.pli_base.specs.declared.code.Code.TheVariants.{AttributesConflict, AttributesMissing, BadPrecision, BadLength, BadBounds}
 use Rattle.pli_base.specs.declared.declaration.WrittenBounds as written
+use Rattle.pli_base.specs.declared.declaration.WrittenBounds.TheVariants as limits
 use Rattle.pli_map.specs.Description.{Description, FixedBinary, Character, Varying, Bit, Pointer, Offset, Area, Array, Structure, Members, NoMembers, MemberThen}
 use Rattle.pli_map.specs.declared.description.Bounds.{Bounds}
-use Rattle.pli_declare_attributes.specs.Agreement.{agrees_as_entry, agrees_as_built_in, agrees_as_variable, is_at_level_one, is_missing, is_plain, set_agrees}
+use Rattle.pli_declare_attributes.specs.Agreement.{agrees_as_entry, agrees_as_built_in, agrees_as_variable, is_at_level_one, is_missing, is_plain, may_be_open, set_agrees}
 use Rattle.pli_base.specs.Declarations.{integer_of}
-use Rattle.pli_declare_attributes.specs.Extents.{low_of, bounds_of, are_good, are_bad_bounds, all_bounds, is_array}
+use Rattle.pli_declare_attributes.specs.Extents.{low_of, bounds_of, are_good, are_bad_bounds, are_bad_stars, all_bounds, is_array}
 use Rattle.pli_declare_attributes.specs.Faults.{first_of, shape_fault, own_fault, item_fault, entry_fault, parameters_in, with_bounds, described_scalar}
 use Rattle.pli_declare_attributes.specs.Sets.{outermost, set_of, each_once, has, none_of, entry, returns, external, built_in, within}
-use Rattle.pli_declare_attributes.specs.Types.{number_of, number_or, is_bad_precision, is_bad_length, scalar_of}
+use Rattle.pli_declare_attributes.specs.Types.{number_of, number_or, is_bad_precision, is_bad_length, is_bad_star, scalar_of}
+use Rattle.pli_declare_attributes.specs.Types as types
 use Rattle.pli_declare_attributes.specs.laws.Laws.{IsScalar}
 use Rattle.pli_declare_attributes.specs.declared.place.ItemPlace.{ItemPlace}
 use Rattle.pli_declare_attributes.specs.declared.place.Position.TheVariants.{Member}
@@ -93,16 +95,17 @@ near low high h =
     let q = and_parts (int_le (negsuc 32766) low) (int_le low high) p.0 in
     (q.1, omega (arith, ints, p.1, q.0, q.1), omega (arith, ints, p.1, q.0, q.1))
 
-bounds_near : (bs : List written.WrittenBounds) → list_all are_good bs ≡ true → AllByRecursion AreBounds (all_bounds bs)
+pub bounds_near : (bs : List written.WrittenBounds) → list_all are_good bs ≡ true → AllByRecursion AreBounds (all_bounds bs)
 bounds_near [] h = tt
-bounds_near (b ∷ bs) h =
-    let p = and_parts (are_good b) (list_all are_good bs) h in
-    (near (low_of b.low) (integer_of b.high) p.0, bounds_near bs p.1)
+bounds_near (limits.Stated low high ∷ bs) h =
+    let p = and_parts (are_good (limits.Stated low high)) (list_all are_good bs) h in
+    (near (low_of low) (integer_of high) p.0, bounds_near bs p.1)
+bounds_near (limits.Any ∷ bs) h = (near (pos 1) (pos 1) refl, bounds_near bs h)
 
 few : (n : ℕ) (b : Bool) → (nat_lt 8 n || b) ≡ false → n ≤ 8
 few n b h = grind (arith, nat_tests, h)
 
-bounds_few : (bs : List written.WrittenBounds) → are_bad_bounds bs ≡ false → length (all_bounds bs) ≤ 8
+pub bounds_few : (bs : List written.WrittenBounds) → are_bad_bounds bs ≡ false → length (all_bounds bs) ≤ 8
 unfolding are_bad_bounds
 bounds_few bs h = omega (arith, few (length bs) (not (list_all are_good bs)) h, length-map bs bounds_of)
 
@@ -123,12 +126,13 @@ first_pair false b c d e t u v w x h = cc
 first_pair true true c d e t u v w x h = cc
 first_pair true false c d e t u v w x h = (refl, refl)
 
-shape_agrees : (p : ItemPlace) (dimensions : List written.WrittenBounds) (once : Bool) (s : ℕ) (n : Option ℕ) → shape_fault p dimensions once s n ≡ None
+pub shape_agrees : (p : ItemPlace) (dimensions : List written.WrittenBounds) (once : Bool) (s : ℕ) (n : Option ℕ) (star : Bool) → shape_fault p dimensions once s n star ≡ None
     → (set_agrees p (is_array dimensions) s ≡ true) × (is_missing p s ≡ false)
 unfolding shape_fault
-shape_agrees p dimensions once s n h =
+shape_agrees p dimensions once s n star h =
     let two =
-    first_pair (once && set_agrees p (is_array dimensions) s) (is_missing p s) (is_bad_precision s n) (is_bad_length s n) (are_bad_bounds dimensions)
+    first_pair (once && set_agrees p (is_array dimensions) s) (is_missing p s) (is_bad_precision s n) (is_bad_length s n || is_bad_star (may_be_open p) star s)
+    (are_bad_bounds dimensions || are_bad_stars (may_be_open p) dimensions)
     AttributesConflict AttributesMissing BadPrecision BadLength BadBounds h in
     ((and_parts once (set_agrees p (is_array dimensions) s) two.0).1, two.1)
 
@@ -136,7 +140,7 @@ shape_agrees p dimensions once s n h =
 abbrev pub IsVariableSet : ItemPlace → (is_array : Bool) → (s : ℕ) → Type 0
 IsVariableSet p is_array s = set_agrees p is_array s ≡ true → agrees_as_variable p s ≡ true
 
-scalar_here : (p : ItemPlace) (i : tree.Item) → item_fault p i ≡ None → p.has_members ≡ false
+pub scalar_here : (p : ItemPlace) (i : tree.Item) → item_fault p i ≡ None → p.has_members ≡ false
     → IsVariableSet p (is_array i.dimensions) (set_of (map outermost i.attributes)) → IsScalar (described_scalar (map outermost i.attributes))
 unfolding item_fault own_fault
 scalar_here p i h alone agrees =
@@ -144,9 +148,10 @@ scalar_here p i h alone agrees =
     let s = set_of attributes in
     let n = number_of attributes in
     let own = (parts_none p i (or_none _ (entry_fault (parameters_in i.attributes)) h).0).0 in
-    let shape = (or_none (shape_fault p i.dimensions (each_once 0 attributes) s n) _ own).0 in
-    let two = shape_agrees p i.dimensions (each_once 0 attributes) s n shape in
-    let sound = shape_sound p i.dimensions (each_once 0 attributes) s n shape in
+    let star = types.has_star attributes in
+    let shape = (or_none (shape_fault p i.dimensions (each_once 0 attributes) s n star) _ own).0 in
+    let two = shape_agrees p i.dimensions (each_once 0 attributes) s n star shape in
+    let sound = shape_sound p i.dimensions (each_once 0 attributes) s n star shape in
     scalar_whole s n (variable_whole p s (agrees two.0) two.1 alone) sound.precision sound.length_of
 
 third : (a b c : Bool) → (a || b || c) ≡ true → a ≡ false → b ≡ false → c ≡ true
@@ -176,12 +181,15 @@ plainly_variable p array s none agrees =
     (middle_false (is_plain p array) (has s entry) _ (stands_not s 65536 none refl))
     (last_false (is_plain p array && p.built_in_name) (s == 32768) (not_alone s (s == 32768) refl (stands_not s 32768 none refl)))
 
-member_variable : (p : ItemPlace) (array : Bool) (s : ℕ) → p.position ≡ Member → IsVariableSet p array s
+pub inner_variable : (p : ItemPlace) (array : Bool) (s : ℕ) → is_at_level_one p.position ≡ false → IsVariableSet p array s
 unfolding set_agrees
-member_variable p array s member agrees =
+inner_variable p array s inner agrees =
     third (agrees_as_entry p array s) (agrees_as_built_in p array s) (agrees_as_variable p s) agrees
-    (ap (λ q. is_at_level_one q && not p.has_members && not array && has s entry && within s (entry + returns + external)) member)
-    (ap (λ q. is_at_level_one q && not p.has_members && not array && p.built_in_name && s == built_in) member)
+    (ap (λ b. b && not p.has_members && not array && has s entry && within s (entry + returns + external)) inner)
+    (ap (λ b. b && not p.has_members && not array && p.built_in_name && s == built_in) inner)
+
+member_variable : (p : ItemPlace) (array : Bool) (s : ℕ) → p.position ≡ Member → IsVariableSet p array s
+member_variable p array s member = inner_variable p array s (ap is_at_level_one member)
 
 -- ---- items with their members
 

@@ -18,8 +18,8 @@ use Rattle.pli_declare_outline.specs.Outlines.{Mark, Declared, Labelled, Entered
 use Rattle.pli_declare_scopes.specs.declared.repeat.Verdict.TheVariants.{Counts}
 use Rattle.pli_declare_tables.specs.Tables.{Entity, AsItem, AsLabel, AsProcedure, Entry, no_entry, entries_of, entries_in, inner_marks, numbers_from, heading_entries, unit_entries, verdicts_in}
 use Rattle.pli_declare_variables.specs.Declarations.{returned_by, whole_description}
-use Rattle.pli_declare_variables.specs.Descriptions.{description_of, is_large, is_too_large_variable}
-use Rattle.pli_declare_variables.specs.Places.{own_code, is_variable}
+use Rattle.pli_declare_variables.specs.Descriptions.{description_of, is_large, is_starred, is_too_large_variable}
+use Rattle.pli_declare_variables.specs.Places.{own_code, item_of, is_variable}
 use Rattle.pli_declare.specs.Resolution.{attribute_is_good, described_is_good, is_main, entity_codes, headed, heading_code, item_code, least, names_nothing, parameters_of, resolution_faults, returned_are, twice_code}
 use Rattle.pli_declare.specs.Resolved as declare
 use Rattle.pli_declare.specs.Resolved.{resolved_of, block_at}
@@ -65,16 +65,22 @@ abbrev pub AreStored : List Entry → List Name → Type 0
 AreStored entries parameters =
     (n : ℕ) → n < length entries → is_variable (get_or entries n no_entry).entity ≡ true → is_too_large_variable entries parameters n ≡ false
 
-stored_when : (a b : Bool) (x : Option Description) → (b ≡ true → (a && b && is_large x) ≡ false) → IfThere IsStored (if a && b then x else None)
-stored_when false b x h = tt
-stored_when true false x h = tt
-stored_when true true None h = tt
-stored_when true true (Some d) h = at_most 1000000 (size_of d) (h refl)
+left_of : (b : Bool) → (b && true) ≡ false → b ≡ false
+left_of true h = cc
+left_of false h = refl
 
-pub whole_stored : (entries : List Entry) (parameters : List Name) → AreStored entries parameters → (n : ℕ) → n < length entries
+stored_when : (a b star : Bool) (x : Option Description) → star ≡ false → (b ≡ true → (a && b && is_large x && not star) ≡ false) → IfThere IsStored (if a && b then x else None)
+stored_when a b true x none h = cc
+stored_when false b false x none h = tt
+stored_when true false false x none h = tt
+stored_when true true false None none h = tt
+stored_when true true false (Some d) none h = at_most 1000000 (size_of d) (left_of (is_large (Some d)) (h refl))
+
+-- where a `*` stands its size is not known
+pub whole_stored : (entries : List Entry) (parameters : List Name) → AreStored entries parameters → (n : ℕ) → n < length entries → is_starred (item_of entries n) ≡ false
     → IfThere IsStored (whole_description entries parameters n)
-whole_stored entries parameters h n lt =
-    stored_when (is_none (get_or entries n no_entry).owner) (is_variable (get_or entries n no_entry).entity) (description_of entries parameters n) (h n lt)
+whole_stored entries parameters h n lt none =
+    stored_when (is_none (get_or entries n no_entry).owner) (is_variable (get_or entries n no_entry).entity) (is_starred (item_of entries n)) (description_of entries parameters n) none (h n lt)
 
 heading_stored : (mark : Mark) → AreStored (heading_entries mark) []
 heading_stored (Entered heading region) zero lt is = cc

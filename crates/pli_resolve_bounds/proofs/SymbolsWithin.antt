@@ -12,28 +12,35 @@ use Rattle.pli_base.specs.declared.code.Code.TheVariants.{TooManyParameters, Gen
 use Rattle.pli_base.specs.declared.syntax.Identifier.{Identifier}
 use Rattle.pli_map.specs.Description.{Description}
 use Rattle.pli_map.specs.Description as described
+use Rattle.pli_map.specs.ParameterTypes.{ParameterType, Stated}
 use Rattle.pli_map.specs.Sizes.{size_of}
 use Rattle.pli_declare_outline.specs.Outlines.{Outline, outline_of}
 use Rattle.pli_declare_attributes.specs.Completed.{Completed, OfVariable, OfEntry, OfBuiltIn, completed_of, variable_of}
-use Rattle.pli_declare_attributes.specs.Faults.{first_of, is_too_large, item_fault, entry_fault, parameters_fault, parameter_fault, parameters_in, parameter_of, returned_fault, returned_in, result_fault, described_scalar, parameter_place}
+use Rattle.pli_declare_attributes.specs.Faults.{first_of, is_too_large_type, own_fault, item_fault, entry_fault, parameters_fault, parameter_fault, parameters_in, parameter_of, returned_fault, returned_in, result_fault, described_scalar}
 use Rattle.pli_declare_attributes.specs.Sets.{set_of, outermost, has, entry, built_in}
+use Rattle.pli_declare_attributes.specs.Extents.{has_star}
+use Rattle.pli_declare_attributes.specs.Types as types
 use Rattle.pli_declare_attributes.proofs.LeastFaults.{no_lesser}
-use Rattle.pli_declare_attributes.proofs.LimitsOfItems.{results_are_scalars, parameters_are_of_scalars}
-use Rattle.pli_declare_attributes.proofs.ShapeLemmas.{parts_none, or_none, description_sound}
+use Rattle.pli_declare_attributes.proofs.LimitsOfItems.{results_are_scalars}
+use Rattle.pli_declare_attributes.proofs.ShapeLemmas.{parts_none, or_none}
+use Rattle.pli_declare_attributes.proofs.TakenLemmas.{stars_are_taken}
 use Rattle.pli_declare_tables.specs.Tables.{Entity, AsItem, AsLabel, AsProcedure, Entry, no_entry, numbers_from, entries_in, unit_entries}
 use Rattle.pli_declare_variables.specs.Declarations.{Declaration, DeclaredKind, OfItem, OfLabel, OfProcedure, described_result, returned_by, whole_description, kind_of, declaration_at, declared_in, AreSound, IsGood, AreGood}
+use Rattle.pli_declare_variables.specs.Descriptions.{is_starred}
 use Rattle.pli_declare_variables.specs.Places.{place_in, item_in}
 use Rattle.pli_declare.specs.Resolution.{parameters_of, resolution_faults}
 use Rattle.pli_declare.specs.Resolved as declare
 use Rattle.pli_declare.specs.Resolved.{resolved_of, block_at}
 use Rattle.pli_declare.proofs.ListsByNumber.{made_at, made_length}
 use Rattle.pli_resolve.specs.ResolvedUnits.{resolved_unit_of, block_of, block_regions_of, region_block, facts_of, no_block}
-use Rattle.pli_resolve.specs.Symbols.{Symbol, SymbolFacts, Way, symbol_kind, symbols_with, ways_of}
+use Rattle.pli_resolve.specs.Symbols.{Symbol, SymbolKind, SymbolFacts, Way, kind_with, symbol_kind, symbols_with, ways_of}
 use Rattle.pli_resolve.specs.declared.block_numbers.BlockRegion.{BlockRegion}
+use Rattle.pli_resolve.specs.declared.symbol.SymbolKey.{SymbolKey}
 use Rattle.pli_resolve.proofs.MeantNames.{all_good}
 use Rattle.pli_deck_laws.specs.Limits.{IfThere, IsDescription, IsMade}
-use Rattle.pli_resolve_bounds.specs.SymbolBounds.{IsLimited, SymbolsAreLimited, ParametersAreFew}
-use Rattle.pli_resolve_bounds.proofs.Descriptions.{scalar_described, bounded, whole_described}
+use Rattle.pli_resolve_bounds.specs.SymbolBounds.{IsLimited, IsTaken, SymbolsAreLimited, ParametersAreFew}
+use Rattle.pli_resolve_bounds.proofs.Descriptions.{scalar_described, whole_described}
+use Rattle.pli_resolve_bounds.proofs.TypesTaken.{parameter_taken, variable_taken}
 use Rattle.pli_resolve_bounds.proofs.Faultless.{AreStored, IsStored, at_most, block_stored, blocks_few, unit_stored, whole_stored}
 use Rattle.pli_resolve_bounds.proofs.LevelsOfEntries.{AreRanked, entries_ranked, unit_ranked}
 
@@ -41,13 +48,6 @@ use Rattle.pli_resolve_bounds.proofs.LevelsOfEntries.{AreRanked, entries_ranked,
 
 result_described : (attributes : List tree.DescribedAttribute) → result_fault attributes ≡ None → IsDescription (described_scalar attributes)
 result_described attributes h = scalar_described attributes 512 (omega arith) (results_are_scalars attributes h)
-
-parameter_described : (d : tree.ParameterDescription) → parameter_fault d ≡ None → IsDescription (parameter_of d)
-unfolding parameter_of
-parameter_described d h =
-    let scalar = parameters_are_of_scalars d h in
-    bounded d.dimensions (described_scalar d.attributes) 511 (description_sound parameter_place d.dimensions d.attributes h).bounds
-    (scalar_described d.attributes 511 (omega arith) scalar) (scalar_described d.attributes 512 (omega arith) scalar)
 
 -- more than so many of them are a fault, and so is one that is too large
 two_false : (a b : Bool) (c d : Code) → first_of ((a, c) ∷ (b, d) ∷ []) ≡ None → (a ≡ false) × (b ≡ false)
@@ -59,18 +59,27 @@ either_false : (a b : Bool) → (a || b) ≡ false → (a ≡ false) × (b ≡ f
 either_false true b h = cc
 either_false false b h = (refl, h)
 
-parameters_made : (ds : List tree.ParameterDescription) → parameters_fault ds ≡ None → list_any is_too_large (map parameter_of ds) ≡ false
-    → AllByRecursion IsMade (map parameter_of ds)
+-- what is stated is of no more bytes
+size_within : (t : ParameterType) → is_too_large_type t ≡ false → (e : Description) → t ≡ Stated e → size_of e ≤ 1000000
+size_within (Stated d) h e is = subst (λ t. IsSmall t) is (at_most 1000000 (size_of d) h)
+  where
+    IsSmall : ParameterType → Type 0
+    IsSmall (Stated d) = size_of d ≤ 1000000
+    IsSmall t = Unit {0}
+size_within t h e is = cc
+
+parameters_made : (ds : List tree.ParameterDescription) → parameters_fault ds ≡ None → list_any is_too_large_type (map parameter_of ds) ≡ false
+    → AllByRecursion IsTaken (map parameter_of ds)
 parameters_made [] h k = tt
 parameters_made (d ∷ ds) h k =
     let two = no_lesser (parameter_fault d) (parameters_fault ds) h in
-    let sizes = either_false (is_too_large (parameter_of d)) (list_any is_too_large (map parameter_of ds)) k in
-    ((parameter_described d two.0, at_most 1000000 (size_of (parameter_of d)) sizes.0), parameters_made ds two.1 sizes.1)
+    let sizes = either_false (is_too_large_type (parameter_of d)) (list_any is_too_large_type (map parameter_of ds)) k in
+    (parameter_taken d two.0 (size_within (parameter_of d) sizes.0), parameters_made ds two.1 sizes.1)
 
 entry_within : (ds : List tree.ParameterDescription) → parameters_fault ds ≡ None → entry_fault ds ≡ None
-    → (length (map parameter_of ds) ≤ 64) × AllByRecursion IsMade (map parameter_of ds)
+    → (length (map parameter_of ds) ≤ 64) × AllByRecursion IsTaken (map parameter_of ds)
 entry_within ds h k =
-    let two = two_false (nat_lt 64 (length ds)) (list_any is_too_large (map parameter_of ds)) TooManyParameters GenerationTooLarge k in
+    let two = two_false (nat_lt 64 (length ds)) (list_any is_too_large_type (map parameter_of ds)) TooManyParameters GenerationTooLarge k in
     (omega (arith, at_most 64 (length ds) two.0, length-map ds parameter_of), parameters_made ds h two.1)
 
 returned_described : (r : Option (List tree.DescribedAttribute)) → returned_fault r ≡ None → IfThere IsDescription (option_map described_scalar r)
@@ -84,9 +93,9 @@ first_described (r ∷ rs) h = result_described r h.0
 -- ---- what names are declared as
 
 abbrev IsCompletedWithin : Completed → Option Description → Type 0
-IsCompletedWithin (OfVariable v) description = IfThere IsMade description
+IsCompletedWithin (OfVariable v) description = (v.taken ≡ None → IfThere IsMade description) × IfThere IsTaken v.taken
 IsCompletedWithin (OfEntry parameters returned) description =
-    (length parameters ≤ 64) × AllByRecursion IsMade parameters × IfThere IsDescription returned
+    (length parameters ≤ 64) × AllByRecursion IsTaken parameters × IfThere IsDescription returned
 IsCompletedWithin OfBuiltIn description = Unit {0}
 
 abbrev IsKindWithin : DeclaredKind → Type 0
@@ -97,9 +106,13 @@ IsKindWithin (OfProcedure returned region) = IfThere IsDescription returned
 abbrev Within : Declaration → Type 0
 Within d = IsKindWithin d.kind
 
+neither : (a b : Bool) → a ≡ false → b ≡ false → (a || b) ≡ false
+neither true b h k = cc
+neither false b h k = k
+
 -- an item without a fault, where the variable that it may be is described
 completed_within : (entries : List Entry) (parameters : List Name) (n : ℕ) (i : tree.Item) → item_fault (place_in entries parameters n) i ≡ None
-    → (whole : Option Description) → IfThere IsMade whole → IsCompletedWithin (completed_of (place_in entries parameters n) i) whole
+    → (whole : Option Description) → (is_starred i ≡ false → IfThere IsMade whole) → IsCompletedWithin (completed_of (place_in entries parameters n) i) whole
 unfolding item_fault completed_of
 completed_within entries parameters n i h whole described =
     let p = place_in entries parameters n in
@@ -107,16 +120,24 @@ completed_within entries parameters n i h whole described =
     let parts = parts_none p i both.0 in
     let s = set_of (map outermost i.attributes) in
     by (has s entry) (has s built_in) (entry_within (parameters_in i.attributes) parts.1 both.1) (returned_described (returned_in i.attributes) parts.2)
+    (variable_taken p i h)
   where
-    by : (a b : Bool) → (length (map parameter_of (parameters_in i.attributes)) ≤ 64) × AllByRecursion IsMade (map parameter_of (parameters_in i.attributes))
-        → IfThere IsDescription (option_map described_scalar (returned_in i.attributes))
+    own : own_fault (place_in entries parameters n) i ≡ None
+    own = (parts_none (place_in entries parameters n) i (or_none _ (entry_fault (parameters_in i.attributes)) h).0).0
+
+    by : (a b : Bool) → (length (map parameter_of (parameters_in i.attributes)) ≤ 64) × AllByRecursion IsTaken (map parameter_of (parameters_in i.attributes))
+        → IfThere IsDescription (option_map described_scalar (returned_in i.attributes)) → IfThere IsTaken (variable_of (place_in entries parameters n) i).taken
         → IsCompletedWithin (if a then OfEntry (map parameter_of (parameters_in i.attributes)) (option_map described_scalar (returned_in i.attributes)) else if b then OfBuiltIn else OfVariable (variable_of (place_in entries parameters n) i)) whole
-    by true b ps r = (ps.0, ps.1, r)
-    by false true ps r = tt
-    by false false ps r = described
+    by true b ps r taken = (ps.0, ps.1, r)
+    by false true ps r taken = tt
+    by false false ps r taken = (
+      λ none. let stars = stars_are_taken (place_in entries parameters n) i own none in
+          described (neither (types.has_star (map outermost i.attributes)) (has_star i.dimensions) stars.0 stars.1),
+      taken,
+    )
 
 kind_within : (entries : List Entry) (parameters : List Name) (n : ℕ) (x : Entity) → IsGood entries parameters n x → (get_or entries n no_entry).entity ≡ x
-    → IfThere IsMade (whole_description entries parameters n) → IsKindWithin (kind_of entries parameters n x)
+    → (is_starred (item_in x) ≡ false → IfThere IsMade (whole_description entries parameters n)) → IsKindWithin (kind_of entries parameters n x)
 kind_within entries parameters n (AsItem item is_bad) good is whole =
     completed_within entries parameters n item
     (ap (λ (x : Entity). item_fault (place_in entries parameters n) (item_in x)) (sym is) ∙ good.1)
@@ -132,7 +153,7 @@ declaration_within : (entries : List Entry) (parameters : List Name) → AreGood
     → (n : ℕ) → n < length entries → Within (declaration_at entries parameters n)
 declaration_within entries parameters good ranked stored n lt =
     kind_within entries parameters n (get_or entries n no_entry).entity (good n lt) refl
-    (both_there (whole_description entries parameters n) (whole_described entries parameters ranked good n lt) (whole_stored entries parameters stored n lt))
+    (λ none. both_there (whole_description entries parameters n) (whole_described entries parameters ranked good n lt) (whole_stored entries parameters stored n lt none))
 
 -- what is made of each of some numbers
 numbers_within : {A : Type 0} (P : A → Type 0) (f : ℕ → A) (first count : ℕ) → ((n : ℕ) → n < first + count → P (f n)) → AllByRecursion P (map f (numbers_from first count))
@@ -156,9 +177,13 @@ variable_within : (description : Option Description) → IfThere IsMade descript
 variable_within None h = (tt, omega arith)
 variable_within (Some d) h = h
 
+own_within : (t : Option ParameterType) (slot : ℕ) (area : Option SymbolKey) (kind : SymbolKind) → IfThere IsTaken t → (t ≡ None → IsLimited kind) → IsLimited (kind_with t slot area kind)
+own_within None slot area kind h k = k refl
+own_within (Some t) slot area kind h k = h
+
 symbol_within : (f : SymbolFacts) (parameters : List Name) (w : Way) (i : Identifier) (owner : Option ℕ) (k : DeclaredKind) → IsKindWithin k
     → IsLimited (symbol_kind f parameters w i owner k)
-symbol_within f parameters w i None (OfItem (OfVariable v) description) h = variable_within description h
+symbol_within f parameters w i None (OfItem (OfVariable v) description) h = own_within v.taken _ _ _ h.1 (λ none. variable_within description (h.0 none))
 symbol_within f parameters w i (Some owner) (OfItem (OfVariable v) description) h = tt
 symbol_within f parameters w i None (OfItem (OfEntry described returned) description) h = h
 symbol_within f parameters w i (Some owner) (OfItem (OfEntry described returned) description) h = h

@@ -4,7 +4,8 @@ ghost use Rattle.pli_resolve_bounds.specs.StatementNumbers.{StatementsAreFew};
 
 /// A law: where the declarations of a unit have no fault, each variable and each parameter of an entry has a
 /// description within the limits: its precisions, lengths, dimensions and bounds, how deep it nests and how many bytes
-/// it takes; so have results; and an entry has at most 64 parameters.
+/// it takes; so have results; where a `*` stands in a parameter, so is what is written of it; and an entry has at most
+/// 64 parameters.
 pub fn symbols_are_limited()
     ensures { SymbolsAreLimited }
 {}

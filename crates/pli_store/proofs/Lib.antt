@@ -5,10 +5,12 @@ pub mod ChangedBlocks
 pub mod CopiedBytes
 pub mod CopyLemmas
 pub mod EndingLemmas
+pub mod FarPlaces
 pub mod HeldScalars
 pub mod KnownLemmas
 pub mod LivingTargets
 pub mod MakingLemmas
+pub mod OneMore
 pub mod PartAnswers
 pub mod PlaceLemmas
 pub mod PointerBytes
@@ -19,3 +21,4 @@ pub mod RisingNumbers
 pub mod SameStorages
 pub mod Searches
 pub mod StandingParts
+pub mod StringLemmas

@@ -7,3 +7,5 @@ pub mod Kept
 pub mod Known
 pub mod LedOn
 pub mod Puts
+pub mod StringLists
+pub mod Strings

@@ -1,2 +1,3 @@
+pub mod DimensionSeen
 pub mod GenerationView
 pub mod StorageView

@@ -4,8 +4,10 @@
 //! `place` says where references lead, `part` which bytes of a generation stand there, `living` what lives at a
 //! position of a generation, `known` which parts of a whole need no search; `storage` reads, puts, copies, makes and
 //! ends, by `putting` and `copying`, which change bytes; `bits` tells a lone bit from its byte, `pointers` a pointer
-//! from its bytes; `spare` keeps memory for generations to come. `blocks` changes the blocks of one generation,
-//! `places_in_blocks` reads, puts and copies there, and `areas` allocates, frees, empties and assigns.
+//! from its bytes; `spare` keeps memory for generations to come. `strings` makes dummy arguments as long as their
+//! strings, which have the descriptions of
+//! `string_descriptions`. `blocks` changes the blocks of one generation, `places_in_blocks` reads, puts and copies
+//! there, and `areas` allocates, frees, empties and assigns.
 #![tactic(auto)]
 
 mod areas;
@@ -23,6 +25,8 @@ mod pointers;
 mod putting;
 mod spare;
 mod storage;
+mod string_descriptions;
+mod strings;
 
 pub use fault::StoreFault;
 pub use generation::Made;
@@ -30,3 +34,5 @@ pub use known::KnownPart;
 pub use living::Target;
 pub use place::Place;
 pub use storage::Storage;
+pub use string_descriptions::StringDescriptions;
+pub use strings::StringForms;

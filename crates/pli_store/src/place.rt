@@ -4,7 +4,7 @@ ghost use Rattle.pli_map.specs.views.DescriptionView.{description_view};
 ghost use Rattle.pli_world.specs.Targets.{whole_at};
 ghost use Rattle.pli_world.specs.World.{led_on};
 
-use pli_map::Description;
+use pli_map::{Description, Dimension};
 
 /// How many bytes behind the beginning a reference leads at most (own).
 pub const OFFSET_LIMIT: u32 = 1_000_000;
@@ -88,5 +88,18 @@ impl<'m> Place<'m> {
     {
         let passed = u64::from(subscript.abs_diff(low)) * u64::from(multiplier);
         self.advanced(passed, self.description)
+    }
+
+    /// What a dimension of the array that stands here leads on to, so many of its multipliers further as a subscript is
+    /// above its low bound. `None` where that is more than 1,000,000 bytes behind the beginning.
+    #[tactic(auto, using(pli_world::specs::laws::OperationLaws::led_too_far))]
+    pub fn along(self, dimension: Dimension<'m>, subscript: i64) -> Option<Place<'m>>
+        requires { dimension.bounds.low ≤ℤ subscript }
+        ensures { LedOn (led_on (unsigned_abs (subscript -ℤ dimension.entry.bounds.low) * dimension.entry.multiplier)
+            (description_view dimension.entry.after.now) (place_view self.entry)) result }
+    {
+        let above = subscript.abs_diff(i64::from(dimension.bounds.low));
+        let passed = above.checked_mul(dimension.multiplier)?;
+        self.advanced(passed, dimension.after)
     }
 }

@@ -2,8 +2,9 @@
 use Rattle.std.proofs.Common.{◌≡◌, ℕ, Bool, true, false, ◌&&◌, Option, Some, None, List, [], ◌∷◌, option_map, slice_get, refl, sym, ◌∙◌}
 use Rattle.std.specs.Prelude.{if◌then◌else◌}
 use Rattle.pli_map.specs.Description.{Description}
+use Rattle.pli_map.specs.ParameterTypes.{ParameterType, Stated}
 use Rattle.pli_resolve.specs.ResolvedUnits.{ResolvedUnit, symbol_at}
-use Rattle.pli_resolve.specs.Symbols.{Symbol, SymbolKind, Variable, Member, Label, Procedure, Entry, BuiltIn}
+use Rattle.pli_resolve.specs.Symbols.{Symbol, SymbolKind, Variable, OpenParameter, Member, Label, Procedure, Entry, BuiltIn}
 use Rattle.pli_resolve.specs.declared.symbol.NameMeaning.{NameMeaning}
 use Rattle.pli_resolve.specs.declared.symbol.NameMeaning.TheVariants as meanings
 use Rattle.pli_resolve.specs.declared.symbol.StorageClass.{StorageClass}
@@ -15,12 +16,12 @@ use Rattle.pli_type.specs.NamedUnits.{returned_of, storage_of, symbol_meant, dec
 use Rattle.pli_type.specs.declared.beginning.Beginning.{Beginning}
 use Rattle.pli_type_tree.specs.TypedTree.{OfEntry, Root}
 
-begins_somewhere : (o : Option Root) (passed : Bool) (d : Description) (path : List ℕ) (area : Option Beginning)
+begins_somewhere : (o : Option Root) (passed : Bool) (d : ParameterType) (path : List ℕ) (area : Option Beginning)
     → names_based (variable_from (option_map (λ root. Begins root passed) o) d path area) ≡ false
 begins_somewhere None passed d path area = refl
 begins_somewhere (Some root) passed d path area = refl
 
-based_somewhere : (b : Bool) (block number : ℕ) (here there : Option LocatorVariable) (d : Description) (path : List ℕ)
+based_somewhere : (b : Bool) (block number : ℕ) (here there : Option LocatorVariable) (d : ParameterType) (path : List ℕ)
     (h t : Option Beginning)
     → names_based (variable_from (if b then Some (IsBased block number here) else None) d path h)
     ≡ names_based (variable_from (if b then Some (IsBased block number there) else None) d path t)
@@ -30,17 +31,18 @@ based_somewhere false block number here there d path h t = refl
 
 module _ (n : ℕ) (r : ResolvedUnit) (here there : List ℕ) where
   class_anywhere : (key : SymbolKey) (class : StorageClass) (d : Description) (path : List ℕ) (h t : Option Beginning)
-      → names_based (variable_from (storage_of n r here key class d) d path h) ≡ names_based (variable_from (storage_of n r there key class d) d path t)
-  class_anywhere key classes.Automatic d path h t = begins_somewhere _ false d path h ∙ sym (begins_somewhere _ false d path t)
-  class_anywhere key classes.Static d path h t = begins_somewhere _ false d path h ∙ sym (begins_somewhere _ false d path t)
-  class_anywhere key classes.Controlled d path h t = begins_somewhere _ false d path h ∙ sym (begins_somewhere _ false d path t)
-  class_anywhere key (classes.Parameter slot) d path h t = begins_somewhere _ true d path h ∙ sym (begins_somewhere _ true d path t)
-  class_anywhere key (classes.Based locator) d path h t = based_somewhere (is_valued n d) key.block _ _ _ d path h t
+      → names_based (variable_from (storage_of n r here key class d) (Stated d) path h) ≡ names_based (variable_from (storage_of n r there key class d) (Stated d) path t)
+  class_anywhere key classes.Automatic d path h t = begins_somewhere _ false (Stated d) path h ∙ sym (begins_somewhere _ false (Stated d) path t)
+  class_anywhere key classes.Static d path h t = begins_somewhere _ false (Stated d) path h ∙ sym (begins_somewhere _ false (Stated d) path t)
+  class_anywhere key classes.Controlled d path h t = begins_somewhere _ false (Stated d) path h ∙ sym (begins_somewhere _ false (Stated d) path t)
+  class_anywhere key (classes.Parameter slot) d path h t = begins_somewhere _ true (Stated d) path h ∙ sym (begins_somewhere _ true (Stated d) path t)
+  class_anywhere key (classes.Based locator) d path h t = based_somewhere (is_valued n d) key.block _ _ _ (Stated d) path h t
 
   member_of_kind : (key : SymbolKey) (path : List ℕ) (h t : Option Beginning) (s : Symbol) (k : SymbolKind)
       → names_based (variable_at n r here key path h (Some (record { identifier = s.identifier; kind = k })))
       ≡ names_based (variable_at n r there key path t (Some (record { identifier = s.identifier; kind = k })))
   member_of_kind key path h t s (Variable d class scope initial area) = class_anywhere key class d path h t
+  member_of_kind key path h t s (OpenParameter type slot area) = refl
   member_of_kind key path h t s (Member root p initial area) = refl
   member_of_kind key path h t s (Label statement) = refl
   member_of_kind key path h t s (Procedure block returned area) = refl
@@ -56,12 +58,13 @@ module _ (n : ℕ) (r : ResolvedUnit) (here there : List ℕ) where
   no_procedure true p = refl
   no_procedure false p = refl
 
-  abbrev entry_procedure : SymbolKey → List Description → Option Description → Option Beginning → NamedProcedure
+  abbrev entry_procedure : SymbolKey → List ParameterType → Option Description → Option Beginning → NamedProcedure
   entry_procedure key parameters returned area =
       record { callee = OfEntry (global_number n r key); parameters = parameters; returned = returned; area = area }
 
   kind_anywhere : (key : SymbolKey) (k : SymbolKind) → names_based (symbol_meant n r here key k) ≡ names_based (symbol_meant n r there key k)
   kind_anywhere key (Variable d class scope initial area) = class_anywhere key class d [] _ _
+  kind_anywhere key (OpenParameter type slot area) = begins_somewhere _ true type [] _ ∙ sym (begins_somewhere _ true type [] _)
   kind_anywhere key (Member root path initial area) =
       member_anywhere (record { block = key.block; number = root }) path _ _ (slice_get (block_symbols r key.block) root)
   kind_anywhere key (Label statement) = refl

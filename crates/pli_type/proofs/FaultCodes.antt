@@ -14,6 +14,8 @@ use Rattle.pli_base.specs.declared.syntax.Joining.TheVariants.{Member, Located}
 use Rattle.pli_base.specs.declared.token.Fault.{Fault}
 use Rattle.pli_map.specs.Description.{Description}
 use Rattle.pli_resolve.specs.declared.built_in.BuiltInFunction.{BuiltInFunction}
+use Rattle.pli_map.specs.ParameterTypes.{ParameterType, Stated, AnyString, AnyArray, ArrayOf, StructureOf, stated}
+use Rattle.pli_map.specs.declared.parameter.StringForm.{StringForm}
 use Rattle.pli_type.specs.AllocationTyping.{in_turn, only_variable, place_given, kept_for, allocated, all_allocated, freed}
 use Rattle.pli_type.specs.Checked.{checked, typed_as}
 use Rattle.pli_type.specs.ExpressionTypes.{TypedValue}
@@ -23,7 +25,7 @@ use Rattle.pli_type.specs.Names.{NamedAs, AVariable, AFunction, AProcedure, ALab
 use Rattle.pli_type.specs.Names.{NamedProcedure, NamedUnit, Naming}
 use Rattle.pli_type.specs.ProcedureCalls.{arguments_passed, or_wrong_argument, result_of}
 use Rattle.pli_type.specs.References.{Role, AsValue, AsArgument, AsTarget, AsLocator, Referent, StridedPart}
-use Rattle.pli_type.specs.References.{settled, begins_somewhere, LocatorBefore, NotLocated}
+use Rattle.pli_type.specs.References.{settled, open_settled, whole_meant, begins_somewhere, LocatorBefore, NotLocated}
 use Rattle.pli_type.specs.StatementTyping as statements
 use Rattle.pli_type.specs.StatementTyping.{WithProcedures}
 use Rattle.pli_type.specs.Temporaries.{Next}
@@ -75,12 +77,22 @@ only_somewhere at None = told _ _ refl
 only_somewhere at (Some r) = fine _
 
 only_settled : (role : Role) (locator : LocatorBefore) (at : ℕ) (v : NamedVariable) (xs : List TypedExpression)
-    (o : Option StridedPart) → Only (settled role locator at v xs o)
-only_settled role locator at v xs None = told _ _ refl
-only_settled role locator at v xs (Some p) = only_if _ _ _ (told _ _ refl) (only_somewhere at _)
+    (whole : Description) (o : Option StridedPart) → Only (settled role locator at v whole xs o)
+only_settled role locator at v xs whole None = told _ _ refl
+only_settled role locator at v xs whole (Some p) = only_if _ _ _ (told _ _ refl) (only_somewhere at _)
+
+only_open : (role : Role) (locator : LocatorBefore) (at : ℕ) (v : NamedVariable) (xs : List TypedExpression)
+    (o : Option ParameterType) → Only (open_settled role locator at v xs o)
+only_open role locator at v xs None = told _ _ refl
+only_open role locator at v xs (Some type) = only_if _ _ _ (told _ _ refl) (only_somewhere at _)
+
+only_whole : (role : Role) (locator : LocatorBefore) (at : ℕ) (v : NamedVariable) (xs : List TypedExpression)
+    (whole : Option Description) → Only (whole_meant role locator at v xs whole)
+only_whole role locator at v xs (Some d) = only_settled role locator at v xs d _
+only_whole role locator at v xs None = only_open role locator at v xs _
 
 only_ended : (role : Role) (s : Segment) → Only (ended role s)
-only_ended role (OfVariable locator at v xs) = only_then _ _ (only_settled role locator at v xs _) (λ r. fine _)
+only_ended role (OfVariable locator at v xs) = only_then _ _ (only_whole role locator at v xs (stated v.whole)) (λ r. fine _)
 only_ended role (OfFunction value) = fine _
 only_ended role OfEmpty = fine _
 only_ended role (OfNoVariable at) = told _ _ refl
@@ -206,9 +218,14 @@ only_aggregate : (equals : ℕ) (target : Referent) (m : Meant)
 only_aggregate equals target (OneValue v) = told _ _ refl
 only_aggregate equals target (WholeAggregate source) = only_if _ _ _ (fine _) (told _ _ refl)
 
-only_scalar : (n : Naming) (equals : ℕ) (target : Referent) (e : Expression)
-    → Only (statements.scalar_assigned n equals target e)
-only_scalar n equals target e =
+only_scalar : (n : Naming) (equals : ℕ) (target : Referent) (d : Description) (e : Expression)
+    → Only (statements.scalar_assigned n equals target d e)
+only_scalar n equals target d e =
+    only_then _ _ (only_value_of n e) (λ v. only_then _ _ (only_or CannotAssign equals _ refl) (λ x. fine _))
+
+only_string : (n : Naming) (equals : ℕ) (target : Referent) (form : StringForm) (e : Expression)
+    → Only (statements.string_assigned n equals target form e)
+only_string n equals target form e =
     only_then _ _ (only_value_of n e) (λ v. only_then _ _ (only_or CannotAssign equals _ refl) (λ x. fine _))
 
 only_area : (n : Naming) (equals : ℕ) (target : Option Beginning) (e : Expression)
@@ -216,12 +233,20 @@ only_area : (n : Naming) (equals : ℕ) (target : Option Beginning) (e : Express
 only_area n equals target e =
     only_then _ _ (only_denoted n AsValue e) (λ d. only_or CannotAssign equals _ refl)
 
+only_one_assigned : (n : Naming) (equals : ℕ) (target : Referent) (type : ParameterType) (e : Expression)
+    → Only (statements.one_assigned n equals target type e)
+only_one_assigned n equals target (Stated d) e = only_if _ _ _ (only_area n equals _ e) (only_scalar n equals target d e)
+only_one_assigned n equals target (AnyString form) e = only_string n equals target form e
+only_one_assigned n equals target (AnyArray dimensions element) e = told _ _ refl
+only_one_assigned n equals target (ArrayOf bounds element) e = told _ _ refl
+only_one_assigned n equals target (StructureOf members) e = told _ _ refl
+
 only_assigned : (n : Naming) (at equals : ℕ) (d : Denoted) (e : Expression)
     → Only (statements.assigned n at equals d e)
 only_assigned n at equals (DenotesVariable target) e =
     only_if _ _ _
     (only_then _ _ (only_then _ _ (only_denoted n AsArgument e) (λ d. fine _)) (λ m. only_aggregate equals target m))
-    (only_if _ _ _ (only_area n equals _ e) (only_scalar n equals target e))
+    (only_one_assigned n equals target target.description e)
 only_assigned n at equals (DenotesResult value) e = told _ _ refl
 only_assigned n at equals DenotesEmpty e = told _ _ refl
 
@@ -342,7 +367,7 @@ only_repeat n r kept None = fine _
 only_repeat n r kept (Some (tree.To to by)) = fine _
 only_repeat n r kept (Some (tree.By by to)) = fine _
 only_repeat n r kept (Some (tree.Repeat next)) =
-    only_then _ _ (only_value_of n next) (λ v. only_then _ _ (only_or CannotAssign (first_token next) _ refl) (λ x. fine _))
+    only_then _ _ (only_value_of n next) (λ v. only_or CannotAssign (first_token next) _ refl)
 
 only_iteration : (n : Naming) (temporary : ℕ) (variable : Reference) (equals : ℕ) (first : Expression)
     (range : Option tree.Range) (tested : Option Expression)

@@ -14,7 +14,7 @@ pub operated_made : (operation : Operation) (operands : Vec TypedExpression Glob
     ≡ plain.Calculated (plain.Operate operation) (operands_view operands.items)
 operated_made operation operands = calculated_made (Operate operation) operands
 
-operands_all : (es : List TypedExpression) → operands_view es ≡ all_operands (map expression_view es)
+pub operands_all : (es : List TypedExpression) → operands_view es ≡ all_operands (map expression_view es)
 operands_all [] = refl
 operands_all (e ∷ es) = ap (plain.OperandThen (expression_view e)) (operands_all es)
 

@@ -1,6 +1,7 @@
 -- Where variables begin that are not BASED. An AREA is one of them, so an area is named by where it begins.
 use Rattle.std.specs.Prelude.{Option, Some, None}
-use Rattle.pli_map.specs.Description.{Description, Area}
+use Rattle.pli_map.specs.Description.{Area}
+use Rattle.pli_map.specs.ParameterTypes.{ParameterType, Stated}
 use Rattle.pli_type.specs.declared.beginning.Beginning.{Beginning}
 use Rattle.pli_type.specs.declared.beginning.Beginning.TheVariants as beginnings
 use Rattle.pli_type_tree.specs.TypedTree.{Root, InSlot, OfProgram, NewestOf, Located, TypedReference, Whole}
@@ -22,8 +23,8 @@ beginning_of (Located locator whole) = None
 abbrev pub whole_at : Beginning → TypedReference
 whole_at beginning = Whole (root_at beginning)
 
--- where an area begins, if a reference to what is of this description is one to an area: that is a whole
--- variable, and none that a locator leads to
-abbrev pub area_meant : TypedReference → Description → Option Beginning
-area_meant (Whole root) (Area bytes) = beginning_of root
-area_meant reference d = None
+-- where an area begins, if a reference to what is of this type is one to an area: that is a whole variable,
+-- and none that a locator leads to
+abbrev pub area_meant : TypedReference → ParameterType → Option Beginning
+area_meant (Whole root) (Stated (Area bytes)) = beginning_of root
+area_meant reference type = None

@@ -5,6 +5,7 @@ use Rattle.std.specs.List.{list_any}
 use Rattle.pli_base.specs.Statements.{ExternalProcedure, Main, ProcedureOption, Statements}
 use Rattle.pli_base.specs.declared.token.Fault.{Fault}
 use Rattle.pli_map.specs.Description.{Description}
+use Rattle.pli_map.specs.ParameterTypes.{ParameterType}
 use Rattle.pli_type.specs.Names.{NamedUnit}
 use Rattle.pli_type.specs.StatementTyping.{Surroundings, WithProcedures, enclosing, function_end}
 use Rattle.pli_type.specs.StatementTyping.{statements_typed}
@@ -40,7 +41,7 @@ abbrev pub outer_signature : NamedUnit → Signature
 outer_signature u = record { parameters = u.parameters 0; result = u.returned 0 }
 
 -- no parameters and no RETURNS
-abbrev pub is_nothing : List Description → Option Description → Bool
+abbrev pub is_nothing : List ParameterType → Option Description → Bool
 is_nothing [] None = true
 is_nothing parameters result = false
 

@@ -13,6 +13,9 @@ use Rattle.pli_base.specs.declared.syntax.PrefixOperator.{PrefixOperator}
 use Rattle.pli_base.specs.declared.syntax.PrefixOperator.TheVariants as prefixes
 use Rattle.pli_map.specs.Description as described
 use Rattle.pli_map.specs.Description.{Description}
+use Rattle.pli_map.specs.ParameterTypes.{ParameterType, Stated, AnyString}
+use Rattle.pli_map.specs.declared.parameter.StringForm.{StringForm}
+use Rattle.pli_map.specs.declared.parameter.StringForm.TheVariants as forms
 use Rattle.pli_operation.specs.declared.operation.Operation.{Operation}
 use Rattle.pli_operation.specs.declared.operation.Operation.TheVariants.{Negate, Not, FromBits, ToCharacters}
 use Rattle.pli_operation.specs.declared.operation.Operation.TheVariants.{Add, Subtract, Multiply, Compare}
@@ -26,7 +29,7 @@ use Rattle.pli_type.specs.declared.expression_type.ExpressionType.{ExpressionTyp
 use Rattle.pli_type.specs.declared.expression_type.ExpressionType.TheVariants as types
 use Rattle.pli_type_tree.specs.TypedTree.{TypedExpression, Literal, Calculated, Operands, NoOperand}
 use Rattle.pli_type_tree.specs.TypedTree.{OperandThen, TypedOperation, Fit, Operate, AsPointer, AsOffset}
-use Rattle.pli_type_tree.specs.TypedTree.{Conversion, ByOperations, AsPointerIn, AsOffsetIn}
+use Rattle.pli_type_tree.specs.TypedTree.{Conversion, ByOperations, AsPointerIn, AsOffsetIn, ToPlace}
 use Rattle.pli_type_tree.specs.ValueTypes.{longest}
 use Rattle.pli_value.specs.Value.{Value, Number, Characters, Bits, Located}
 use Rattle.pli_value.specs.declared.locator.Locator.TheVariants as locators
@@ -86,6 +89,18 @@ type_of area described.Pointer = Some types.Pointer
 type_of area described.Offset = Some (types.Offset area)
 type_of area (described.Area n) = Some types.Area
 type_of area aggregate = None
+
+-- the type of strings of a form
+abbrev pub form_type : StringForm → ExpressionType
+form_type forms.Character = types.Characters
+form_type forms.Varying = types.Characters
+form_type forms.Bit = types.Bits
+
+-- the type of what a variable of a type holds, whatever the lengths are that are the argument's
+abbrev pub held_type : (area : Option Beginning) → ParameterType → Option ExpressionType
+held_type area (Stated d) = type_of area d
+held_type area (AnyString form) = Some (form_type form)
+held_type area aggregate = None
 
 -- a number as far as so many binary digits have room for it: no more than the greatest that they have
 abbrev pub within : (precision value : ℕ) → ℕ
@@ -326,6 +341,12 @@ suited greatest (described.Varying n) e kind = as_characters e kind
 suited greatest (described.Bit n) e kind = only_bits e kind
 suited greatest other e kind = None
 
+-- a value of this type for a string of this form and any length, to which it is fitted where it is put
+abbrev pub suited_to_form : StringForm → TypedExpression → ExpressionType → Option TypedExpression
+suited_to_form forms.Character e kind = as_characters e kind
+suited_to_form forms.Varying e kind = as_characters e kind
+suited_to_form forms.Bit e kind = only_bits e kind
+
 -- a value that suits a variable is fitted to its description, also where it has the type already; locators
 -- are not fitted: a POINTER takes an OFFSET that names an area as a pointer, and an OFFSET of this area a
 -- pointer as an offset
@@ -354,6 +375,12 @@ suiting greatest (described.Varying n) kind = string_conversions kind
 suiting greatest (described.Bit n) kind = bit_conversions kind
 suiting greatest other kind = None
 
+-- those that make a string of this form
+abbrev pub form_conversions : StringForm → ExpressionType → Option (List TypedOperation)
+form_conversions forms.Character kind = string_conversions kind
+form_conversions forms.Varying kind = string_conversions kind
+form_conversions forms.Bit kind = bit_conversions kind
+
 -- what makes a pointer of it
 abbrev pub pointer_conversion : ExpressionType → Option Conversion
 pointer_conversion types.Pointer = Some (ByOperations [])
@@ -378,16 +405,23 @@ conversion greatest area described.Offset kind = offset_conversion area kind
 conversion greatest area d kind =
     option_map (λ operations. ByOperations (operations ++ Fit d ∷ [])) (suiting greatest d kind)
 
+-- the same for a variable of a type: a string of any length is fitted at its place
+abbrev pub conversion_to : (greatest : ℕ) → (area : Option Beginning) → ParameterType → ExpressionType
+    → Option Conversion
+conversion_to greatest area (Stated d) kind = conversion greatest area d kind
+conversion_to greatest area (AnyString form) kind = option_map ToPlace (form_conversions form kind)
+conversion_to greatest area type kind = None
+
 -- NULL as an offset, and any other value as it stands
 abbrev pub null_as_offset : TypedExpression → ExpressionType → TypedExpression
 null_as_offset e types.Null = null_offset
 null_as_offset e other = e
 
--- a value that is kept before it is converted to a variable of this description: NULL is an offset where that
--- is an OFFSET
-abbrev pub unconverted : Description → TypedValue → TypedExpression
-unconverted described.Offset v = null_as_offset v.expression v.kind
-unconverted d v = v.expression
+-- a value that is kept before it is converted to a variable of this type: NULL is an offset where that is an
+-- OFFSET
+abbrev pub unconverted : ParameterType → TypedValue → TypedExpression
+unconverted (Stated described.Offset) v = null_as_offset v.expression v.kind
+unconverted type v = v.expression
 
 -- what PUT prints of a value of this type: characters and bits as they stand, a number as characters; no
 -- locator and no area

@@ -9,8 +9,12 @@ use Rattle.pli_base.specs.declared.code.Code.TheVariants.{WrongNumberOfArguments
 use Rattle.pli_base.specs.declared.syntax.ConstantValue.{ConstantValue}
 use Rattle.pli_base.specs.declared.syntax.ConstantValue.TheVariants.{Decimal}
 use Rattle.pli_base.specs.declared.token.Fault.{Fault}
-use Rattle.pli_map.specs.Description.{Description, Array}
+use Rattle.pli_map.specs.Description.{Array}
+use Rattle.pli_map.specs.Dimensions.{bound_of}
+use Rattle.pli_map.specs.ParameterTypes.{ParameterType, Stated, AnyArray, ArrayOf}
 use Rattle.pli_map.specs.declared.description.Bounds.{Bounds}
+use Rattle.pli_map.specs.declared.dimension.WhichBound.{WhichBound}
+use Rattle.pli_map.specs.declared.dimension.WhichBound.TheVariants.{Low, High}
 use Rattle.pli_operation.specs.declared.operation.Operation.{Operation}
 use Rattle.pli_operation.specs.declared.operation.Operation.TheVariants.{Absolute, Sign as SignOf, LengthOf}
 use Rattle.pli_operation.specs.declared.operation.Operation.TheVariants.{Greatest, Least, Modulo}
@@ -18,12 +22,13 @@ use Rattle.pli_operation.specs.declared.operation.Operation.TheVariants.{Divide 
 use Rattle.pli_operation.specs.declared.operation.Operation.TheVariants.{Rest, Substring as SubstringOf}
 use Rattle.pli_type.specs.Beginnings.{area_meant, whole_at}
 use Rattle.pli_type.specs.ExpressionTypes.{precisions}
-use Rattle.pli_type.specs.ExpressionTypes.{TypedValue, type_of}
+use Rattle.pli_type.specs.ExpressionTypes.{TypedValue, held_type}
 use Rattle.pli_type.specs.ExpressionTypes.{precision_of, count_precision, all_operands, null_value}
 use Rattle.pli_type.specs.ExpressionTypes.{empty_value}
 use Rattle.pli_type.specs.References.{Role, AsValue, AsArgument, Referent}
 use Rattle.pli_type_tree.specs.TypedTree.{NewestOf, Operate, TypedExpression, Literal, Held, Calculated}
-use Rattle.pli_type_tree.specs.TypedTree.{Generations, Address, AsPointer, AsOffset, TypedReference, Whole}
+use Rattle.pli_type_tree.specs.TypedTree.{Generations, Address, AsPointer, AsOffset, Bounded, TypedReference}
+use Rattle.pli_type_tree.specs.TypedTree.{Whole}
 use Rattle.pli_value.specs.Value.{Number}
 use Rattle.pli_type.specs.declared.beginning.Beginning.{Beginning}
 use Rattle.pli_type.specs.declared.expression_type.ExpressionType.{ExpressionType}
@@ -45,7 +50,7 @@ pub data Meant : Type 0 where
 
 -- a variable or a part of one that is a scalar has a value
 abbrev pub meant_by : Referent → Meant
-meant_by r = held (type_of r.area r.description)
+meant_by r = held (held_type r.area r.description)
   where
     held : Option ExpressionType → Meant
     held None = WholeAggregate r
@@ -198,17 +203,30 @@ the_quotient greatest x y (Some precision) =
 abbrev pub bound_value : ℤ → TypedValue
 bound_value bound = record { expression = Literal (Number bound); kind = a_count }
 
--- a bound of the dimension of this number, from 1, of an array that is meant as a whole
-abbrev pub bound_in : (Bounds → ℤ) → (number : ℕ) → Description → Option TypedValue
-bound_in which number (Array bounds element) =
+-- a bound of the dimension of this number, from 1, of an array of these bounds
+abbrev pub bound_among : WhichBound → (number : ℕ) → List Bounds → Option TypedValue
+bound_among which number bounds =
     if nat_le 1 number
-    then option_map (λ b. bound_value (which b)) (slice_get bounds (number - 1))
+    then option_map (λ b. bound_value (bound_of which b)) (slice_get bounds (number - 1))
     else None
-bound_in which number other = None
+
+-- a bound of an array that is known where it runs: a number that counts
+abbrev pub bound_there : WhichBound → (number : ℕ) → TypedReference → TypedValue
+bound_there which number reference =
+    record { expression = Bounded which number reference; kind = a_count }
+
+-- a bound of the dimension of this number of an array that is meant as a whole, to which a reference leads:
+-- a constant where it is stated
+abbrev pub bound_in : WhichBound → (number : ℕ) → TypedReference → ParameterType → Option TypedValue
+bound_in which number reference (Stated (Array bounds element)) = bound_among which number bounds
+bound_in which number reference (ArrayOf bounds element) = bound_among which number bounds
+bound_in which number reference (AnyArray dimensions element) =
+    if nat_le 1 number && nat_le number dimensions then Some (bound_there which number reference) else None
+bound_in which number reference other = None
 
 -- a bound of an array, in the dimension that is written
-abbrev pub the_bound : (Bounds → ℤ) → Meant → (written : Option ℕ) → Option TypedValue
-the_bound which (WholeAggregate r) (Some number) = bound_in which number r.description
+abbrev pub the_bound : WhichBound → Meant → (written : Option ℕ) → Option TypedValue
+the_bound which (WholeAggregate r) (Some number) = bound_in which number r.reference r.description
 the_bound which meant written = None
 
 -- how many generations there are, of a whole CONTROLLED variable at level 1
@@ -278,9 +296,9 @@ abbrev pub of_arguments : (greatest : ℕ) → BuiltInFunction → List Argument
 of_arguments greatest functions.Divide (x ∷ y ∷ p ∷ []) =
     divided greatest (meant_as x.denoted) (meant_as y.denoted) p.written
 of_arguments greatest functions.LowBound (a ∷ n ∷ []) =
-    the_bound (λ b. b.low) (meant_as a.denoted) n.written
+    the_bound Low (meant_as a.denoted) n.written
 of_arguments greatest functions.HighBound (a ∷ n ∷ []) =
-    the_bound (λ b. b.high) (meant_as a.denoted) n.written
+    the_bound High (meant_as a.denoted) n.written
 of_arguments greatest functions.Allocation (a ∷ []) = generations_of a.denoted
 of_arguments greatest functions.Address (a ∷ []) = address_of a.denoted
 of_arguments greatest functions.Null [] = Some null_value

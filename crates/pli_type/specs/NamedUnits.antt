@@ -1,7 +1,8 @@
 -- A resolved unit as types see it: where its variables begin, what its names mean, and what its variables are
 -- made from. A name is looked at from where it is used: what the blocks around are says how many static links
 -- outward a variable is.
-use Rattle.std.specs.Prelude.{ℕ, zero, suc, ◌+◌, nat_eq, nat_lt, nat_le, Bool, true, false, ◌&&◌, ◌||◌, map}
+use Rattle.std.specs.Prelude.{ℕ, zero, suc, ◌+◌, nat_eq, nat_lt, nat_le, Bool, true, false, not, ◌&&◌, ◌||◌}
+use Rattle.std.specs.Prelude.{map}
 use Rattle.std.specs.Prelude.{length}
 use Rattle.std.specs.Prelude.{unsigned_abs, Option, Some, None, option_map, option_and_then, List, [], ◌∷◌}
 use Rattle.std.specs.Prelude.{◌++◌, get_or, replicate, take, slice_get, Result, if◌then◌else◌}
@@ -13,13 +14,15 @@ use Rattle.pli_declare_attributes.specs.declared.completed.ScopeAttribute.TheVar
 use Rattle.pli_map.specs.Description as described
 use Rattle.pli_map.specs.Description.{Description, FixedBinary, Character, Varying, Bit, Array, Structure}
 use Rattle.pli_map.specs.Description.{Members, NoMembers, MemberThen}
-use Rattle.pli_map.specs.Scalars.{is_area}
+use Rattle.pli_map.specs.ParameterTypes.{ParameterType, Stated, AnyString, AnyArray, ArrayOf}
+use Rattle.pli_map.specs.Scalars.{is_area, is_aggregate}
 use Rattle.pli_map.specs.Sizes.{count_of, size_of}
 use Rattle.pli_map.specs.declared.description.Bounds.{Bounds}
 use Rattle.pli_program.specs.declared.kind.VariableKind.{VariableKind}
 use Rattle.pli_program.specs.declared.kind.VariableKind.TheVariants as generations
 use Rattle.pli_resolve.specs.ResolvedUnits.{ResolvedUnit, ResolvedBlock, meaning_at, all_symbols, symbol_at}
-use Rattle.pli_resolve.specs.Symbols.{Symbol, SymbolKind, Variable, Member, Label, Procedure, Entry, BuiltIn}
+use Rattle.pli_resolve.specs.Symbols.{Symbol, SymbolKind, Variable, OpenParameter, Member, Label, Procedure}
+use Rattle.pli_resolve.specs.Symbols.{Entry, BuiltIn}
 use Rattle.pli_resolve.specs.declared.block_numbers.ResolvedBlockKind.{ResolvedBlockKind}
 use Rattle.pli_resolve.specs.declared.block_numbers.ResolvedBlockKind.TheVariants as kinds
 use Rattle.pli_resolve.specs.declared.symbol.NameMeaning.{NameMeaning}
@@ -84,6 +87,36 @@ may_stand greatest d = is_area d || is_plain greatest d
 abbrev pub is_stored : (greatest : ℕ) → Description → Bool
 is_stored greatest d = may_stand greatest d && nat_le (size_of d) 1000000
 
+-- how many dimensions an array may have: 1 to 8
+abbrev pub are_dimensions : ℕ → Bool
+are_dimensions n = nat_lt 0 n && nat_le n 8
+
+-- a string of any length
+abbrev pub is_any_length : ParameterType → Bool
+is_any_length (AnyString form) = true
+is_any_length type = false
+
+-- an element of an array whose bounds are all `*`: a scalar that is no area, or a string of any length
+abbrev pub is_open_element : (greatest : ℕ) → ParameterType → Bool
+is_open_element greatest (Stated d) = is_plain greatest d && not (is_aggregate d)
+is_open_element greatest type = is_any_length type
+
+-- a parameter in which a `*` stands: a string of any length; an array of any bounds of such elements; or one
+-- of bounds within the limits, of strings of any length
+abbrev pub is_open_parameter : (greatest : ℕ) → ParameterType → Bool
+is_open_parameter greatest (Stated d) = false
+is_open_parameter greatest (AnyString form) = true
+is_open_parameter greatest (AnyArray dimensions element) =
+    are_dimensions dimensions && is_open_element greatest element
+is_open_parameter greatest (ArrayOf bounds element) =
+    are_dimensions (length bounds) && are_bounds bounds && is_any_length element
+is_open_parameter greatest type = false
+
+-- what a variable that a name means may be
+abbrev pub may_be : (greatest : ℕ) → ParameterType → Bool
+may_be greatest (Stated d) = may_stand greatest d
+may_be greatest type = is_open_parameter greatest type
+
 -- an AUTOMATIC variable of it
 abbrev pub is_automatic : (greatest : ℕ) → StorageClass → Description → Bool
 is_automatic greatest classes.Automatic d = is_stored greatest d
@@ -126,19 +159,20 @@ abbrev pub parameter_numbers : ResolvedUnit → (block : ℕ) → List ℕ
 parameter_numbers r block =
     of_block (λ b. if is_procedure b.kind then b.parameters else []) [] (slice_get r.blocks block)
 
--- what a variable of its own is; each parameter is one
-abbrev pub description_in : Option Symbol → Description
-description_in None = described.Pointer
-description_in (Some s) = of_kind s.kind
+-- what a variable of its own is, or a parameter in which a `*` stands; each parameter is one of them
+abbrev pub type_in : Option Symbol → ParameterType
+type_in None = Stated described.Pointer
+type_in (Some s) = of_kind s.kind
   where
-    of_kind : SymbolKind → Description
-    of_kind (Variable description class scope initial area) = description
-    of_kind other = described.Pointer
+    of_kind : SymbolKind → ParameterType
+    of_kind (Variable description class scope initial area) = Stated description
+    of_kind (OpenParameter type slot area) = type
+    of_kind other = Stated described.Pointer
 
 -- what the parameters of a procedure are
-abbrev pub parameters_of : ResolvedUnit → (block : ℕ) → List Description
+abbrev pub parameters_of : ResolvedUnit → (block : ℕ) → List ParameterType
 parameters_of r block =
-    map (λ number. description_in (slice_get (block_symbols r block) number)) (parameter_numbers r block)
+    map (λ number. type_in (slice_get (block_symbols r block) number)) (parameter_numbers r block)
 
 -- what the procedure of this symbol gives
 abbrev pub returned_by : Option Symbol → Option Description
@@ -260,6 +294,13 @@ root_of greatest r blocks key classes.Controlled d =
     if is_stored greatest d then Some (NewestOf (global_number greatest r key)) else None
 root_of greatest r blocks key class d = None
 
+-- a parameter in which a `*` stands begins in its slot too
+abbrev pub open_root : (greatest : ℕ) → ResolvedUnit → (blocks : List ℕ) → SymbolKey → (slot : ℕ)
+    → ParameterType → Option Root
+open_root greatest r blocks key slot type =
+    if is_open_parameter greatest type && is_parameter (parameter_numbers r key.block) slot key.number
+    then in_slot (outward_to blocks key.block) slot else None
+
 -- where areas begin
 
 -- where an area begins, if this is one that begins somewhere: it is no member of a variable
@@ -303,7 +344,8 @@ abbrev pub locator_part : Root → (path : List ℕ) → (area : Option Beginnin
     → Option LocatorVariable
 locator_part root path area None = None
 locator_part root path area (Some p) =
-    if nat_eq (length p.strides) 0 then locator_at (reference_to root path p []) p.description area else None
+    if nat_eq (length p.strides) 0 then locator_at (reference_to root path p []) (Stated p.description) area
+    else None
 
 -- the same, if the variable begins somewhere, of this description, or a member of it on this way
 abbrev pub locator_on : Option Root → (whole : Description) → (path : List ℕ) → (area : Option Beginning)
@@ -362,7 +404,7 @@ storage_of greatest r blocks key class d =
 -- what names mean
 
 -- a variable, or a member of it, where it has storage; and the area that its OFFSET names
-abbrev pub variable_from : Option NamedStorage → (whole : Description) → (path : List ℕ)
+abbrev pub variable_from : Option NamedStorage → (whole : ParameterType) → (path : List ℕ)
     → (area : Option Beginning) → NamedAs
 variable_from None whole path area = Untyped
 variable_from (Some storage) whole path area =
@@ -376,7 +418,7 @@ variable_at greatest r blocks key path area (Some s) = of_kind s.kind
   where
     of_kind : SymbolKind → NamedAs
     of_kind (Variable description class scope initial named) =
-        variable_from (storage_of greatest r blocks key class description) description path area
+        variable_from (storage_of greatest r blocks key class description) (Stated description) path area
     of_kind other = Untyped
 
 -- what stands directly in a block around, or in none
@@ -415,7 +457,7 @@ procedure_named greatest r blocks block =
     then AProcedure (named_procedure greatest r blocks block) else Untyped
 
 -- an external procedure, by its entry, with the area that its RETURNS names
-abbrev pub entry_named : (greatest : ℕ) → (number : ℕ) → List Description → Option Description
+abbrev pub entry_named : (greatest : ℕ) → (number : ℕ) → List ParameterType → Option Description
     → (area : Option Beginning) → NamedAs
 entry_named greatest number parameters returned area =
     if gives_stored greatest returned
@@ -427,10 +469,17 @@ entry_named greatest number parameters returned area =
     })
     else Untyped
 
+-- the storage of a parameter in which a `*` stands
+abbrev pub open_storage : Option Root → Option NamedStorage
+open_storage root = option_map (λ root. Begins root true) root
+
 -- what a name means, by what its symbol is
 abbrev pub symbol_meant : (greatest : ℕ) → ResolvedUnit → (blocks : List ℕ) → SymbolKey → SymbolKind → NamedAs
 symbol_meant greatest r blocks key (Variable description class scope initial area) =
-    variable_from (storage_of greatest r blocks key class description) description []
+    variable_from (storage_of greatest r blocks key class description) (Stated description) []
+    (area_named greatest r blocks area)
+symbol_meant greatest r blocks key (OpenParameter type slot area) =
+    variable_from (open_storage (open_root greatest r blocks key slot type)) type []
     (area_named greatest r blocks area)
 symbol_meant greatest r blocks key (Member root path initial area) =
     variable_at greatest r blocks (record { block = key.block; number = root }) path

@@ -2,6 +2,7 @@
 use Rattle.std.specs.Prelude.{ℕ, Bool, Option, List}
 use Rattle.pli_base.specs.Statements.{ExternalProcedure}
 use Rattle.pli_map.specs.Description.{Description}
+use Rattle.pli_map.specs.ParameterTypes.{ParameterType}
 use Rattle.pli_resolve.specs.declared.built_in.BuiltInFunction.{BuiltInFunction}
 use Rattle.pli_type.specs.declared.beginning.Beginning.{Beginning}
 use Rattle.pli_type_tree.specs.Templates.{Template}
@@ -20,12 +21,12 @@ pub data NamedStorage : Type 0 where
   Begins : (root : Root) (is_parameter : Bool) → NamedStorage
   IsBased : (block number : ℕ) (implied : Option LocatorVariable) → NamedStorage
 
--- a variable of its own, or a member of one: where the variable's storage is, the description of the whole
--- variable, and the members on the way, each counted from 0; and the area that OFFSET in its declaration
--- names, seen from where its name is used
+-- a variable of its own, or a member of one: where the variable's storage is, the type of the whole variable,
+-- which is open where a `*` stands in a parameter, and the members on the way, each counted from 0; and the
+-- area that OFFSET in its declaration names, seen from where its name is used
 pub record NamedVariable : Type 0 where
   pub storage : NamedStorage
-  pub whole : Description
+  pub whole : ParameterType
   pub path : List ℕ
   pub area : Option Beginning
 
@@ -33,7 +34,7 @@ pub record NamedVariable : Type 0 where
 -- area that OFFSET in its RETURNS names, seen from where its name is used
 pub record NamedProcedure : Type 0 where
   pub callee : Callee
-  pub parameters : List Description
+  pub parameters : List ParameterType
   pub returned : Option Description
   pub area : Option Beginning
 
@@ -64,7 +65,7 @@ pub record NamedUnit : Type 0 where
   pub tree : ExternalProcedure
   pub is_based : (at : ℕ) → Bool
   pub naming : (blocks : List ℕ) → Naming
-  pub parameters : (block : ℕ) → List Description
+  pub parameters : (block : ℕ) → List ParameterType
   pub returned : (block : ℕ) → Option Description
   pub automatic : (block : ℕ) → List Template
   pub globals : List Global

@@ -7,53 +7,61 @@ use Rattle.pli_base.specs.declared.code.Code.TheVariants.{WrongNumberOfArguments
 use Rattle.pli_base.specs.declared.code.Code.TheVariants.{NotCallableHere}
 use Rattle.pli_base.specs.declared.token.Fault.{Fault}
 use Rattle.pli_map.specs.Description.{Description}
-use Rattle.pli_map.specs.Same.{same}
-use Rattle.pli_map.specs.Scalars.{is_area}
+use Rattle.pli_map.specs.ParameterTypes.{ParameterType, Stated, AnyString, agrees}
 use Rattle.pli_type.specs.Beginnings.{area_meant, whole_at}
-use Rattle.pli_type.specs.ExpressionTypes.{TypedValue, converted, type_of}
+use Rattle.pli_type.specs.ExpressionTypes.{TypedValue, converted, suited_to_form, type_of}
 use Rattle.pli_type.specs.FunctionCalls.{Denoted, DenotesVariable, Meant, OneValue}
-use Rattle.pli_type.specs.FunctionCalls.{WholeAggregate, meant_as, Argument}
+use Rattle.pli_type.specs.FunctionCalls.{meant_as, Argument}
 use Rattle.pli_type.specs.Names.{NamedProcedure}
 use Rattle.pli_type.specs.declared.beginning.Beginning.{Beginning}
 use Rattle.pli_type.specs.declared.expression_type.ExpressionType.{ExpressionType}
 use Rattle.pli_type_tree.specs.TypedTree.{Callee, TypedExpression, Called, TypedReference}
-use Rattle.pli_type_tree.specs.TypedTree.{TypedArguments, NoArgument, ByPlace, ByDummy}
+use Rattle.pli_type_tree.specs.TypedTree.{TypedArguments, NoArgument, ByPlace, ByDummy, ByString}
+use Rattle.pli_type_tree.specs.WellTyped.{is_area_type}
 
--- the place that a reference to what is of this description hands over: that of a whole area, where it is one
-abbrev pub place_of : TypedReference → Description → Option TypedReference
-place_of reference d = if is_area d then option_map whole_at (area_meant reference d) else Some reference
+-- the place that a reference to what is of this type hands over: that of a whole area, where it is one
+abbrev pub place_of : TypedReference → ParameterType → Option TypedReference
+place_of reference type =
+    if is_area_type type then option_map whole_at (area_meant reference type) else Some reference
 
--- a variable of the very description of the parameter is handed over itself
-abbrev pub passed_place : Description → Denoted → Option TypedReference
-passed_place d (DenotesVariable r) =
-    if same r.description d then place_of r.reference r.description else None
-passed_place d denoted = None
+-- a variable that agrees with the parameter is handed over itself
+abbrev pub passed_place : ParameterType → Denoted → Option TypedReference
+passed_place type (DenotesVariable r) =
+    if agrees type r.description then place_of r.reference r.description else None
+passed_place type denoted = None
 
 -- any other value is converted to it, and a dummy argument holds it; a pointer does not become an offset for
--- an OFFSET
-abbrev pub passed_value : (greatest : ℕ) → Description → Meant → Option TypedExpression
-passed_value greatest d (OneValue v) = converted greatest None d v
-passed_value greatest d (WholeAggregate r) = None
+-- an OFFSET; a string for one of any length is not fitted
+abbrev pub passed_value : (greatest : ℕ) → ParameterType → Meant → Option TypedExpression
+passed_value greatest (Stated d) (OneValue v) = converted greatest None d v
+passed_value greatest (AnyString form) (OneValue v) = suited_to_form form v.expression v.kind
+passed_value greatest type meant = None
+
+-- a value is handed over for a parameter of this type
+abbrev pub handed : ParameterType → TypedExpression → TypedArguments → Option TypedArguments
+handed (Stated d) e more = Some (ByDummy d e more)
+handed (AnyString form) e more = Some (ByString form e more)
+handed type e more = None
 
 -- an argument is handed over by its place, if it can be, or else by its value
-abbrev pub passed : Description → Option TypedReference → Option TypedExpression → TypedArguments
+abbrev pub passed : ParameterType → Option TypedReference → Option TypedExpression → TypedArguments
     → Option TypedArguments
-passed d (Some place) value more = Some (ByPlace place more)
-passed d None (Some e) more = Some (ByDummy d e more)
-passed d None None more = None
+passed type (Some place) value more = Some (ByPlace place more)
+passed type None (Some e) more = handed type e more
+passed type None None more = None
 
 -- an argument, and those behind it
-abbrev pub passed_before : (greatest : ℕ) → Description → Argument → Option TypedArguments
+abbrev pub passed_before : (greatest : ℕ) → ParameterType → Argument → Option TypedArguments
     → Option TypedArguments
-passed_before greatest d a None = None
-passed_before greatest d a (Some more) =
-    passed d (passed_place d a.denoted) (passed_value greatest d (meant_as a.denoted)) more
+passed_before greatest type a None = None
+passed_before greatest type a (Some more) =
+    passed type (passed_place type a.denoted) (passed_value greatest type (meant_as a.denoted)) more
 
 -- as many arguments as parameters, where each suits its parameter
-abbrev pub all_passed : (greatest : ℕ) → (parameters : List Description) → List Argument
+abbrev pub all_passed : (greatest : ℕ) → (parameters : List ParameterType) → List Argument
     → Option TypedArguments
 all_passed greatest [] [] = Some NoArgument
-all_passed greatest (d ∷ ds) (a ∷ more) = passed_before greatest d a (all_passed greatest ds more)
+all_passed greatest (t ∷ ts) (a ∷ more) = passed_before greatest t a (all_passed greatest ts more)
 all_passed greatest parameters arguments = None
 
 -- T7 at the called name where one does not suit

@@ -1,5 +1,5 @@
 -- References: which part of which variable is meant, and where the first fault stands.
-use Rattle.std.specs.Prelude.{ℕ, ◌+◌, ◌*◌, nat_eq, Bool, true, false, ◌&&◌, Option, Some, None}
+use Rattle.std.specs.Prelude.{ℕ, zero, suc, ◌+◌, ◌*◌, nat_eq, Bool, true, false, ◌&&◌, Option, Some, None}
 use Rattle.std.specs.Prelude.{option_map}
 use Rattle.std.specs.Prelude.{option_and_then, List, [], ◌∷◌, ◌++◌, length, Result, Ok, if◌then◌else◌}
 use Rattle.pli_base.specs.Reading.{at_fault}
@@ -8,16 +8,17 @@ use Rattle.pli_base.specs.declared.code.Code.TheVariants.{LocatorMissingOrNotAll
 use Rattle.pli_base.specs.declared.token.Fault.{Fault}
 use Rattle.pli_map.specs.Description as described
 use Rattle.pli_map.specs.Description.{Description, Array, Structure}
+use Rattle.pli_map.specs.ParameterTypes.{ParameterType, Stated, stated, element_type, is_aggregate_type}
 use Rattle.pli_map.specs.Parts.{member_behind}
-use Rattle.pli_map.specs.Scalars.{is_aggregate}
 use Rattle.pli_map.specs.Sizes.{count_of, stride_of}
 use Rattle.pli_map.specs.declared.description.Bounds.{Bounds}
 use Rattle.pli_type.specs.Beginnings.{whole_at}
+use Rattle.pli_type.specs.ExpressionTypes.{all_operands}
 use Rattle.pli_type.specs.Names.{NamedStorage, Begins, IsBased, NamedVariable, LocatorVariable, OfPointer}
 use Rattle.pli_type.specs.Names.{OfOffset}
 use Rattle.pli_type.specs.declared.beginning.Beginning.{Beginning}
 use Rattle.pli_type_tree.specs.TypedTree.{Root, Located, Stride, TypedExpression, Held, TypedReference}
-use Rattle.pli_type_tree.specs.TypedTree.{AsPointer, Whole, Part}
+use Rattle.pli_type_tree.specs.TypedTree.{AsPointer, Whole, Part, ElementOf}
 use Rattle.pli_type_tree.specs.TypedTree.{Subscripts, NoSubscript, SubscriptThen}
 
 -- for what a reference stands: for one value; for an argument, or for what is assigned to an aggregate, which
@@ -80,9 +81,9 @@ part_on p (i ∷ path) = option_and_then (λ m. part_on m path) (member_of p i)
 abbrev pub whole_part : Description → StridedPart
 whole_part d = record { offset = 0; description = d; strides = [] }
 
--- the part that a name leads to, all its subscripts being the lowest
+-- the part that a name leads to, all its subscripts being the lowest; none of what is open
 abbrev pub part_of : NamedVariable → Option StridedPart
-part_of v = part_on (whole_part v.whole) v.path
+part_of v = option_and_then (λ d. part_on (whole_part d) v.path) (stated v.whole)
 
 -- what is meant with so many subscripts: with those of all its levels one element, without any the whole, but
 -- only where no level above it has subscripts; with another number nothing
@@ -102,21 +103,34 @@ abbrev pub reference_to : Root → (path : List ℕ) → StridedPart → List Ty
 reference_to root [] p [] = Whole root
 reference_to root path p xs = Part root p.offset p.description (subscripts_at p.strides xs)
 
--- a variable or a part of one, a scalar, an area or an aggregate, with its description; whether it is, or is
--- in, a parameter; and the area that OFFSET in its declaration names
+-- parameters in which a `*` stands
+
+-- what is meant with so many subscripts: without any the whole; with one for each dimension of an array an
+-- element; with another number nothing
+abbrev pub open_part : ParameterType → (given : ℕ) → Option ParameterType
+open_part type zero = Some type
+open_part type (suc n) = element_type (suc n) type
+
+-- a whole parameter, or an element
+abbrev pub open_reference : Root → List TypedExpression → TypedReference
+open_reference root [] = Whole root
+open_reference root (x ∷ xs) = ElementOf root (all_operands (x ∷ xs))
+
+-- a variable or a part of one, a scalar, an area or an aggregate, with its type; whether it is, or is in, a
+-- parameter; and the area that OFFSET in its declaration names
 pub record Referent : Type 0 where
   pub reference : TypedReference
-  pub description : Description
+  pub description : ParameterType
   pub is_parameter : Bool
   pub area : Option Beginning
 
 -- where references begin
 
 -- a reference to what leads to BASED variables: a POINTER, or an OFFSET whose declaration names an area
-abbrev pub locator_at : TypedReference → Description → (area : Option Beginning) → Option LocatorVariable
-locator_at reference described.Pointer area = Some (OfPointer reference)
-locator_at reference described.Offset (Some area) = Some (OfOffset reference area)
-locator_at reference d area = None
+abbrev pub locator_at : TypedReference → ParameterType → (area : Option Beginning) → Option LocatorVariable
+locator_at reference (Stated described.Pointer) area = Some (OfPointer reference)
+locator_at reference (Stated described.Offset) (Some area) = Some (OfOffset reference area)
+locator_at reference type area = None
 
 -- the pointer that such a variable gives: an offset is one in its area
 abbrev pub pointer_of : LocatorVariable → TypedExpression
@@ -145,6 +159,12 @@ root_by (IsBased block number (Some implied)) whole NotLocated =
 root_by (IsBased block number implied) whole (LocatedBy locator) = Some (Located locator whole)
 root_by storage whole locator = None
 
+-- where a reference begins that is in the storage of a parameter in which a `*` stands: no locator stands in
+-- front of it
+abbrev pub passed_root : NamedStorage → LocatorBefore → Option Root
+passed_root (Begins root is_parameter) NotLocated = Some root
+passed_root storage locator = None
+
 -- the storage is a parameter's
 abbrev pub is_passed : NamedStorage → Bool
 is_passed (Begins root is_parameter) = is_parameter
@@ -157,29 +177,55 @@ begins_somewhere at None = at_fault LocatorMissingOrNotAllowed at
 begins_somewhere at (Some r) = Ok r
 
 -- T2 where no aggregate may stand, then T10
-abbrev pub permitted : Role → (at : ℕ) → Description → Option Referent → Result Referent Fault
-permitted role at d r =
-    if wants_scalar role && is_aggregate d then at_fault AggregateNotAllowedHere at
+abbrev pub permitted : Role → (at : ℕ) → ParameterType → Option Referent → Result Referent Fault
+permitted role at type r =
+    if wants_scalar role && is_aggregate_type type then at_fault AggregateNotAllowedHere at
     else begins_somewhere at r
 
 -- a reference to a part of a variable, with all its subscripts, from where it begins
 abbrev pub referent_from : NamedVariable → List TypedExpression → StridedPart → Root → Referent
 referent_from v xs p root = record {
   reference = reference_to root v.path p xs;
-  description = p.description;
+  description = Stated p.description;
   is_parameter = is_passed v.storage;
   area = v.area;
 }
 
--- a reference to a variable, with all its subscripts; T3 where their number is wrong
-abbrev pub settled : Role → LocatorBefore → (at : ℕ) → NamedVariable → List TypedExpression
-    → Option StridedPart → Result Referent Fault
-settled role locator at v xs None = at_fault WrongNumberOfSubscripts at
-settled role locator at v xs (Some p) =
-    permitted role at p.description (option_map (referent_from v xs p) (root_by v.storage v.whole locator))
+-- a reference to a variable of this description, with all its subscripts; T3 where their number is wrong
+abbrev pub settled : Role → LocatorBefore → (at : ℕ) → NamedVariable → (whole : Description)
+    → List TypedExpression → Option StridedPart → Result Referent Fault
+settled role locator at v whole xs None = at_fault WrongNumberOfSubscripts at
+settled role locator at v whole xs (Some p) =
+    permitted role at (Stated p.description)
+    (option_map (referent_from v xs p) (root_by v.storage whole locator))
+
+-- a reference to a parameter in which a `*` stands, or to an element of it, from where it begins
+abbrev pub open_referent : NamedVariable → List TypedExpression → ParameterType → Root → Referent
+open_referent v xs type root = record {
+  reference = open_reference root xs;
+  description = type;
+  is_parameter = is_passed v.storage;
+  area = v.area;
+}
+
+-- the same, with its subscripts; T3 where their number is wrong
+abbrev pub open_settled : Role → LocatorBefore → (at : ℕ) → NamedVariable → List TypedExpression
+    → Option ParameterType → Result Referent Fault
+open_settled role locator at v xs None = at_fault WrongNumberOfSubscripts at
+open_settled role locator at v xs (Some type) =
+    permitted role at type (option_map (open_referent v xs type) (passed_root v.storage locator))
+
+-- a reference to a variable or a part of one, by the description of the variable, which is none where a `*`
+-- stands in it
+abbrev pub whole_meant : Role → LocatorBefore → (at : ℕ) → NamedVariable → List TypedExpression
+    → (whole : Option Description) → Result Referent Fault
+whole_meant role locator at v xs (Some d) =
+    settled role locator at v d xs
+    (option_and_then (with_subscripts (length xs)) (part_of v))
+whole_meant role locator at v xs None =
+    open_settled role locator at v xs (open_part v.whole (length xs))
 
 -- a reference to a variable or a part of one, with its subscripts
 abbrev pub variable_meant : Role → LocatorBefore → (at : ℕ) → NamedVariable → List TypedExpression
     → Result Referent Fault
-variable_meant role locator at v xs =
-    settled role locator at v xs (option_and_then (with_subscripts (length xs)) (part_of v))
+variable_meant role locator at v xs = whole_meant role locator at v xs (stated v.whole)

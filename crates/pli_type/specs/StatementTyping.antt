@@ -19,12 +19,14 @@ use Rattle.pli_base.specs.declared.code.Code.TheVariants.{BadControlVariable, Ba
 use Rattle.pli_base.specs.declared.syntax.Identifier.{Identifier}
 use Rattle.pli_base.specs.declared.token.Fault.{Fault}
 use Rattle.pli_map.specs.Description.{Description, FixedBinary}
+use Rattle.pli_map.specs.ParameterTypes.{ParameterType, Stated, AnyString, is_aggregate_type}
 use Rattle.pli_map.specs.Same.{same}
-use Rattle.pli_map.specs.Scalars.{is_aggregate, is_area}
+use Rattle.pli_map.specs.Scalars.{is_area}
+use Rattle.pli_map.specs.declared.parameter.StringForm.{StringForm}
 use Rattle.pli_type.specs.AllocationTyping.{in_turn, all_allocated, freed}
 use Rattle.pli_type.specs.Beginnings.{area_meant, whole_at}
-use Rattle.pli_type.specs.ExpressionTypes.{TypedValue, conversion, converted, precision_of, printed}
-use Rattle.pli_type.specs.ExpressionTypes.{unconverted}
+use Rattle.pli_type.specs.ExpressionTypes.{TypedValue, conversion_to, converted, precision_of, printed}
+use Rattle.pli_type.specs.ExpressionTypes.{suited_to_form, unconverted}
 use Rattle.pli_type.specs.FunctionCalls.{Denoted, DenotesVariable, DenotesEmpty, area_of}
 use Rattle.pli_type.specs.FunctionCalls.{Meant, OneValue, WholeAggregate, Argument}
 use Rattle.pli_type.specs.Names.{NamedAs, AProcedure, ALabel, Naming, NamedUnit}
@@ -34,30 +36,45 @@ use Rattle.pli_type.specs.Temporaries.{Next, behind, temporaries_among, limits_k
 use Rattle.pli_type.specs.Typing.{first_token, own_token, or_fault, meant, denoted, referred, value_of}
 use Rattle.pli_type.specs.Typing.{all_arguments}
 use Rattle.pli_type_tree.specs.TypedTree as typed
-use Rattle.pli_type_tree.specs.TypedTree.{Callee, TypedExpression, TypedReference, Whole, Part}
+use Rattle.pli_type_tree.specs.TypedTree.{Callee, TypedExpression, TypedReference, Whole, Part, ElementOf}
 use Rattle.pli_type_tree.specs.TypedTree.{NoSubscript, SubscriptThen, BlockHead, TypedRange, Iteration, Form}
 use Rattle.pli_type_tree.specs.TypedTree.{TypedArguments, TypedStatement, TypedStatements, NoStatement}
 use Rattle.pli_type_tree.specs.TypedTree.{StatementThen, OtherWise, NoElse, Else, TypedProcedure}
+use Rattle.pli_type_tree.specs.WellTyped.{is_area_type}
 use Rattle.pli_type.specs.declared.beginning.Beginning.{Beginning}
 use Rattle.pli_type.specs.declared.expression_type.ExpressionType.{ExpressionType}
 use Rattle.pli_type.specs.declared.expression_type.ExpressionType.TheVariants as types
 
 -- assignments
 
--- an aggregate is assigned to one of equal description: types, bounds and structure agree
+-- two types are the same, and no `*` stands in them
+abbrev pub are_alike : (one other : ParameterType) → Bool
+are_alike (Stated d) (Stated e) = same d e
+are_alike one other = false
+
+-- an aggregate is assigned to one of equal description: types, bounds and structure agree, and are known
 abbrev pub aggregate_assigned : (equals : ℕ) → (target : Referent) → Meant → Result Form Fault
 aggregate_assigned equals target (OneValue v) = at_fault CannotAssign equals
 aggregate_assigned equals target (WholeAggregate source) =
-    if same target.description source.description
+    if are_alike target.description source.description
     then Ok (typed.AssignAggregate target.reference source.reference)
     else at_fault CannotAssign equals
 
 -- to a scalar one value is assigned, an aggregate being T2 there; T5 at `=` where the value does not suit
-abbrev pub scalar_assigned : Naming → (equals : ℕ) → (target : Referent) → Expression → Result Form Fault
-scalar_assigned n equals target e = do
+abbrev pub scalar_assigned : Naming → (equals : ℕ) → (target : Referent) → Description → Expression
+    → Result Form Fault
+scalar_assigned n equals target d e = do
   v ← value_of n e
-  x ← or_fault CannotAssign equals (converted n.greatest target.area target.description v)
+  x ← or_fault CannotAssign equals (converted n.greatest target.area d v)
   Ok (typed.Assign target.reference x)
+
+-- to a string of any length too: it is fitted to its place
+abbrev pub string_assigned : Naming → (equals : ℕ) → (target : Referent) → StringForm → Expression
+    → Result Form Fault
+string_assigned n equals target form e = do
+  v ← value_of n e
+  x ← or_fault CannotAssign equals (suited_to_form form v.expression v.kind)
+  Ok (typed.AssignString target.reference x)
 
 -- to an area another one is assigned, or EMPTY, but nothing in parentheses
 abbrev pub area_put : (target : Option Beginning) → Denoted → Option Form
@@ -73,13 +90,20 @@ area_assigned n equals target e = do
   d ← denoted n AsValue e
   or_fault CannotAssign equals (area_put target d)
 
+-- to what is no aggregate, by what it is
+abbrev pub one_assigned : Naming → (equals : ℕ) → (target : Referent) → ParameterType → Expression
+    → Result Form Fault
+one_assigned n equals target (Stated d) e =
+    if is_area d then area_assigned n equals (area_meant target.reference (Stated d)) e
+    else scalar_assigned n equals target d e
+one_assigned n equals target (AnyString form) e = string_assigned n equals target form e
+one_assigned n equals target type e = at_fault CannotAssign equals
+
 -- by what the target is
 abbrev pub variable_assigned : Naming → (equals : ℕ) → (target : Referent) → Expression → Result Form Fault
 variable_assigned n equals target e =
-    if is_aggregate target.description then (meant n AsArgument e >>= aggregate_assigned equals target)
-    else if is_area target.description
-    then area_assigned n equals (area_meant target.reference target.description) e
-    else scalar_assigned n equals target e
+    if is_aggregate_type target.description then (meant n AsArgument e >>= aggregate_assigned equals target)
+    else one_assigned n equals target target.description e
 
 -- by what the target denotes; a function's result is none
 abbrev pub assigned : Naming → (at equals : ℕ) → Denoted → Expression → Result Form Fault
@@ -331,6 +355,7 @@ abbrev pub without_subscripts : TypedReference → Bool
 without_subscripts (Whole root) = true
 without_subscripts (Part root offset d NoSubscript) = true
 without_subscripts (Part root offset d (SubscriptThen stride value more)) = false
+without_subscripts (ElementOf root subscripts) = false
 
 -- an arrow stands among these parts
 abbrev pub has_arrow : JoinedParts → Bool
@@ -343,10 +368,10 @@ abbrev pub has_locator : Reference → Bool
 has_locator (Named name arguments more) = has_arrow more
 
 -- the variable is a number where TO or BY stands
-abbrev pub suits_range : Description → TypedRange → Bool
-suits_range d typed.Once = true
-suits_range (FixedBinary p) range = true
-suits_range d range = false
+abbrev pub suits_range : ParameterType → TypedRange → Bool
+suits_range type typed.Once = true
+suits_range (Stated (FixedBinary p)) range = true
+suits_range type range = false
 
 -- T12 at the variable where it may not control a group
 abbrev pub suited_control : (at : ℕ) → Referent → Bool → Result Referent Fault
@@ -357,7 +382,7 @@ suited_control at r false = at_fault BadControlVariable at
 -- an area
 abbrev pub controls : (at : ℕ) → (is_located : Bool) → TypedRange → Denoted → Result Referent Fault
 controls at is_located range (DenotesVariable r) =
-    if without_subscripts r.reference && not is_located && not (is_area r.description)
+    if without_subscripts r.reference && not is_located && not (is_area_type r.description)
     then suited_control at r (suits_range r.description range)
     else at_fault BadControlVariable at
 controls at is_located range denoted = at_fault NotAVariable at
@@ -369,12 +394,20 @@ possible_condition n (Some e) = do
   x ← condition n e
   Ok (Some x)
 
+-- what REPEAT gives a variable of this type, whose declaration names this area if it is an OFFSET, where it
+-- suits that
+abbrev pub turned : (greatest : ℕ) → (area : Option Beginning) → TypedValue → ParameterType
+    → Option TypedRange
+turned greatest area v (Stated d) = option_map typed.Repeated (converted greatest area d v)
+turned greatest area v (AnyString form) =
+    option_map typed.RepeatedString (suited_to_form form v.expression v.kind)
+turned greatest area v type = None
+
 -- what REPEAT says: T5 at its expression where that does not suit the variable
 abbrev pub next_value : Naming → (control : Referent) → Expression → Result TypedRange Fault
 next_value n r e = do
   v ← value_of n e
-  x ← or_fault CannotAssign (first_token e) (converted n.greatest r.area r.description v)
-  Ok (typed.Repeated x)
+  or_fault CannotAssign (first_token e) (turned n.greatest r.area v r.description)
 
 -- and with REPEAT, if it stands
 abbrev pub with_repeat : Naming → (control : Referent) → TypedRange → Option Range → Result TypedRange Fault
@@ -389,7 +422,7 @@ iteration n temporary variable equals first range tested = do
   kept ← limits n range
   d ← referred n AsLocator variable
   r ← controls (own_token variable) (has_locator variable) kept d
-  convert ← or_fault CannotAssign equals (conversion n.greatest r.area r.description v.kind)
+  convert ← or_fault CannotAssign equals (conversion_to n.greatest r.area r.description v.kind)
   x ← possible_condition n tested
   turns ← with_repeat n r kept range
   Ok (record {

@@ -5,6 +5,7 @@ pub mod ControlExamples
 pub mod ExampleTrees
 pub mod FaultExamples
 pub mod NameExamples
+pub mod OpenExamples
 pub mod OrderExamples
 pub mod PointerExamples
 pub mod TypeExamples

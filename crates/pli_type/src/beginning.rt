@@ -1,10 +1,13 @@
 //! Where variables begin that are not BASED.
 ghost use Rattle.std.specs.Prelude.{◌≡◌};
+ghost use Rattle.pli_map.specs.ParameterTypes as taken;
 ghost use Rattle.pli_map.specs.views.DescriptionView.{description_view};
+ghost use Rattle.pli_map.specs.views.ParameterView.{type_seen, type_view};
 ghost use Rattle.pli_type.specs.Beginnings as spec;
+ghost use Rattle.pli_type_tree.specs.WellTyped.{is_area_type};
 ghost use Rattle.pli_type_tree.specs.views.TypedView.{reference_view, root_view};
 
-use pli_map::Description;
+use pli_map::{Description, ParameterType, TypeRef, is_area};
 use pli_type_tree::{Root, TypedReference};
 
 /// Where a variable begins that is no BASED one, seen from where its name is used. An AREA is such a variable.
@@ -53,16 +56,57 @@ fn beginning_of(root: &Root) -> Option<Beginning>
     }
 }
 
-/// Where an area begins, if a reference to what is of a description is one to an area: that is a whole variable, and
-/// none that a locator leads to.
-pub fn area_meant(reference: &TypedReference, description: &Description) -> Option<Beginning>
-    ensures { result ≡ spec.area_meant (reference_view reference.now) (description_view description.now) }
+/// Whether a type of a parameter is that of an area.
+fn is_area_among(taken: &ParameterType) -> bool
+    ensures { result ≡ is_area_type (type_view taken.now) }
+{
+    match taken {
+        ParameterType::Stated(description) => is_area(description),
+        _ => false,
+    }
+}
+
+/// Whether a type is that of an area.
+pub fn is_area_type(taken: TypeRef<'_>) -> bool
+    ensures { result ≡ is_area_type (type_seen taken.entry) }
+{
+    match taken {
+        TypeRef::Stated(description) => is_area(description),
+        TypeRef::Open(taken) => is_area_among(taken),
+    }
+}
+
+/// Where an area begins, if a reference to what is of a description is one to an area.
+fn described_area(reference: &TypedReference, description: &Description) -> Option<Beginning>
+    ensures { result ≡ spec.area_meant (reference_view reference.now)
+        (taken.Stated (description_view description.now)) }
 {
     match description {
         Description::Area(_) => match reference {
             TypedReference::Whole(root) => beginning_of(root),
-            TypedReference::Part { .. } => None,
+            TypedReference::Part { .. } | TypedReference::ElementOf { .. } => None,
         },
         _ => None,
+    }
+}
+
+/// The same of what is of a type.
+fn area_of_type(reference: &TypedReference, taken: &ParameterType) -> Option<Beginning>
+    ensures { result ≡ spec.area_meant (reference_view reference.now) (type_view taken.now) }
+{
+    match taken {
+        ParameterType::Stated(description) => described_area(reference, description),
+        _ => None,
+    }
+}
+
+/// Where an area begins, if a reference to what is of a type is one to an area: that is a whole variable, and none that
+/// a locator leads to.
+pub fn area_meant(reference: &TypedReference, taken: TypeRef<'_>) -> Option<Beginning>
+    ensures { result ≡ spec.area_meant (reference_view reference.now) (type_seen taken.entry) }
+{
+    match taken {
+        TypeRef::Stated(description) => described_area(reference, description),
+        TypeRef::Open(taken) => area_of_type(reference, taken),
     }
 }

@@ -1,16 +1,18 @@
 //! Which conversions a value goes through where it is assigned or printed.
 ghost use Rattle.std.specs.Prelude.{◌≡◌, ◌++◌, ◌∷◌, [], IfOk, map, option_map};
+ghost use Rattle.pli_map.specs.ParameterTypes as types;
 ghost use Rattle.pli_map.specs.views.DescriptionView.{description_view};
+ghost use Rattle.pli_map.specs.views.ParameterView.{type_seen, type_view};
 ghost use Rattle.pli_type.specs.ExpressionTypes as spec;
 ghost use Rattle.pli_type.specs.views.ValueView.{value_view};
-ghost use Rattle.pli_type_tree.specs.TypedTree.{ByOperations, Fit};
+ghost use Rattle.pli_type_tree.specs.TypedTree.{ByOperations, Fit, ToPlace};
 ghost use Rattle.pli_type_tree.specs.views.TypedView.{conversion_view, expression_view, operation_view};
 
 use crate::beginning::Beginning;
 use crate::expression_type::ExpressionType;
 use crate::locators::{as_offset, as_pointer, null_offset};
 use crate::typed_value::{TypedValue, with_one};
-use pli_map::Description;
+use pli_map::{Description, ParameterType, StringForm, TypeRef};
 use pli_operation::Operation;
 use pli_type_tree::{Conversion, TypedExpression, TypedOperation};
 use std::alloc::{AllocError, Global};
@@ -49,6 +51,25 @@ fn as_characters(alloc: Global, value: TypedValue) -> Result<Option<TypedExpress
             Ok(Some(made))
         }
         _ => number_as_characters(alloc, value),
+    }
+}
+
+/// What stands where a string of a form is assigned, which is fitted where it is put; none of what does not suit.
+pub fn suited_to_form(
+    alloc: Global,
+    form: StringForm,
+    value: TypedValue,
+) -> Result<Option<TypedExpression>, AllocError>
+    ensures { IfOk result (λ made. option_map expression_view made
+        ≡ spec.suited_to_form form (expression_view value.expression) value.kind) }
+{
+    match (form, value.kind) {
+        (StringForm::Character | StringForm::Varying, _) => as_characters(alloc, value),
+        (StringForm::Bit, ExpressionType::Bits) => Ok(Some(value.expression)),
+        (StringForm::Bit, _) => {
+            drop(value);
+            Ok(None)
+        }
     }
 }
 
@@ -179,6 +200,22 @@ fn suiting(
     }
 }
 
+/// The conversions of a value of a type to a string of a form; none at all for what does not suit.
+fn form_conversions(
+    alloc: Global,
+    form: StringForm,
+    kind: ExpressionType,
+) -> Result<Option<Vec<TypedOperation>>, AllocError>
+    ensures { IfOk result (λ made. option_map (λ v. map operation_view v.items) made
+        ≡ spec.form_conversions form kind) }
+{
+    match (form, kind) {
+        (StringForm::Character | StringForm::Varying, _) => string_conversions(alloc, kind),
+        (StringForm::Bit, ExpressionType::Bits) => Ok(Some(Vec::new(alloc))),
+        (StringForm::Bit, _) => Ok(None),
+    }
+}
+
 /// What makes a pointer of a value of a type; none of what is no locator, or an OFFSET without an area.
 fn pointer_conversion(alloc: Global, kind: ExpressionType) -> Option<Conversion>
     ensures { option_map conversion_view result ≡ spec.pointer_conversion kind }
@@ -231,7 +268,7 @@ fn fitting(
 
 /// What converts a value of a type to a variable of this description, whose declaration names this area if it is an
 /// OFFSET, or none where it does not suit: what `converted` puts round an expression. A locator is not fitted.
-pub fn conversion(
+fn conversion(
     alloc: Global,
     greatest: u8,
     area: Option<Beginning>,
@@ -248,10 +285,63 @@ pub fn conversion(
     }
 }
 
-/// A value that is kept before it is converted to a variable of this description: NULL is an offset where that is an
-/// OFFSET, and anything else stands as it is.
-pub fn unconverted(description: &Description, value: TypedValue) -> TypedExpression
-    ensures { expression_view result ≡ spec.unconverted (description_view description.now) (value_view value) }
+/// What converts a value of a type to a string of any length, which is then fitted to its place.
+fn conversion_to_form(
+    alloc: Global,
+    form: StringForm,
+    kind: ExpressionType,
+) -> Result<Option<Conversion>, AllocError>
+    ensures { IfOk result (λ made. option_map conversion_view made
+        ≡ option_map ToPlace (spec.form_conversions form kind)) }
+{
+    match form_conversions(alloc, form, kind)? {
+        Some(operations) => Ok(Some(Conversion::ToPlace(operations))),
+        None => Ok(None),
+    }
+}
+
+/// What converts a value of a type to a variable of this type.
+fn conversion_to_type(
+    alloc: Global,
+    greatest: u8,
+    area: Option<Beginning>,
+    taken: &ParameterType,
+    kind: ExpressionType,
+) -> Result<Option<Conversion>, AllocError>
+    ensures { IfOk result (λ made. option_map conversion_view made
+        ≡ spec.conversion_to greatest area (type_view taken.now) kind) }
+{
+    match taken {
+        ParameterType::Stated(description) => {
+            conversion(alloc, greatest, area, description, kind)
+        }
+        ParameterType::AnyString(form) => conversion_to_form(alloc, *form, kind),
+        _ => Ok(None),
+    }
+}
+
+/// What converts a value of a type to a variable of a type, whose declaration names this area if it is an OFFSET, or
+/// none where it does not suit: a string of any length is fitted at its place.
+pub fn conversion_to(
+    alloc: Global,
+    greatest: u8,
+    area: Option<Beginning>,
+    taken: TypeRef<'_>,
+    kind: ExpressionType,
+) -> Result<Option<Conversion>, AllocError>
+    ensures { IfOk result (λ made. option_map conversion_view made
+        ≡ spec.conversion_to greatest area (type_seen taken.entry) kind) }
+{
+    match taken {
+        TypeRef::Stated(description) => conversion(alloc, greatest, area, description, kind),
+        TypeRef::Open(taken) => conversion_to_type(alloc, greatest, area, taken, kind),
+    }
+}
+
+/// A value that is kept before it is converted to a variable of this description.
+fn unconverted_for(description: &Description, value: TypedValue) -> TypedExpression
+    ensures { expression_view result
+        ≡ spec.unconverted (types.Stated (description_view description.now)) (value_view value) }
 {
     match description {
         Description::Offset => match value.kind {
@@ -262,5 +352,26 @@ pub fn unconverted(description: &Description, value: TypedValue) -> TypedExpress
             _ => value.expression,
         },
         _ => value.expression,
+    }
+}
+
+/// The same for a variable of this type.
+fn unconverted_for_type(taken: &ParameterType, value: TypedValue) -> TypedExpression
+    ensures { expression_view result ≡ spec.unconverted (type_view taken.now) (value_view value) }
+{
+    match taken {
+        ParameterType::Stated(description) => unconverted_for(description, value),
+        _ => value.expression,
+    }
+}
+
+/// A value that is kept before it is converted to a variable of this type: NULL is an offset where that is an OFFSET,
+/// and anything else stands as it is.
+pub fn unconverted(taken: TypeRef<'_>, value: TypedValue) -> TypedExpression
+    ensures { expression_view result ≡ spec.unconverted (type_seen taken.entry) (value_view value) }
+{
+    match taken {
+        TypeRef::Stated(description) => unconverted_for(description, value),
+        TypeRef::Open(taken) => unconverted_for_type(taken, value),
     }
 }

@@ -1,10 +1,11 @@
 //! The types of expressions.
 ghost use Rattle.std.specs.Prelude.{◌≡◌};
 ghost use Rattle.pli_map.specs.views.DescriptionView.{description_view};
+ghost use Rattle.pli_map.specs.views.ParameterView.{type_seen, type_view};
 ghost use Rattle.pli_type.specs.ExpressionTypes as spec;
 
 use crate::beginning::Beginning;
-use pli_map::Description;
+use pli_map::{Description, ParameterType, StringForm, TypeRef};
 
 /// The type of an expression (X3.74). How long a string is belongs to no type: it shows when the program runs.
 #[derive(Clone, Copy, Debug, PartialEq, Eq)]
@@ -104,6 +105,38 @@ impl ExpressionType {
             Description::Offset => Some(ExpressionType::Offset { area }),
             Description::Area(_) => Some(ExpressionType::Area),
             Description::Array { .. } | Description::Structure(_) => None,
+        }
+    }
+
+    /// The type of strings of a form.
+    pub fn of_strings(form: StringForm) -> ExpressionType
+        ensures { result ≡ spec.form_type form }
+    {
+        match form {
+            StringForm::Character | StringForm::Varying => ExpressionType::Characters,
+            StringForm::Bit => ExpressionType::Bits,
+        }
+    }
+
+    /// The type of what a variable of this type holds.
+    fn of_type(taken: &ParameterType, area: Option<Beginning>) -> Option<ExpressionType>
+        ensures { result ≡ spec.held_type area (type_view taken.now) }
+    {
+        match taken {
+            ParameterType::Stated(description) => ExpressionType::of(description, area),
+            ParameterType::AnyString(form) => Some(ExpressionType::of_strings(*form)),
+            _ => None,
+        }
+    }
+
+    /// The type of what a variable of a type holds, whatever the lengths are that are the argument's, and whose
+    /// declaration names this area if it is an OFFSET; an aggregate has none.
+    pub fn held(taken: TypeRef<'_>, area: Option<Beginning>) -> Option<ExpressionType>
+        ensures { result ≡ spec.held_type area (type_seen taken.entry) }
+    {
+        match taken {
+            TypeRef::Stated(description) => ExpressionType::of(description, area),
+            TypeRef::Open(taken) => ExpressionType::of_type(taken, area),
         }
     }
 

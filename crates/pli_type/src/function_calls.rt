@@ -9,6 +9,7 @@ use crate::beginning::Beginning;
 use crate::expression_type::{ExpressionType, precisions};
 use crate::locators::{offset_of, pointer_into};
 use crate::typed_value::{TypedValue, refused, with_two};
+use pli_map::WhichBound;
 use pli_operation::Operation;
 use pli_resolve::BuiltInFunction;
 use pli_type_tree::{Root, TypedExpression, TypedOperation, TypedReference};
@@ -210,6 +211,20 @@ pub fn generations(reference: &TypedReference) -> Option<TypedValue>
             kind: A_COUNT,
         }),
         _ => None,
+    }
+}
+
+/// A bound of a dimension, counted from 1, of an array that is known where it runs (LBOUND, HBOUND).
+pub fn bound_there(which: WhichBound, dimension: u8, variable: TypedReference) -> TypedValue
+    ensures { value_view result ≡ spec.bound_there which dimension (reference_view variable) }
+{
+    TypedValue {
+        expression: TypedExpression::Bounded {
+            which,
+            dimension,
+            variable,
+        },
+        kind: A_COUNT,
     }
 }
 

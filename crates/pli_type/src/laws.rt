@@ -16,6 +16,7 @@ ghost use Rattle.pli_type.specs.examples.TypeExamples.{PrecisionsOfFunctions, Ki
 ghost use Rattle.pli_type.specs.examples.TypedExamples.{ConversionsStand, SubscriptsHaveStrides};
 ghost use Rattle.pli_type.specs.examples.UnitExamples.{InitialValues, CheckedUnits};
 ghost use Rattle.pli_type.specs.examples.NameExamples.{NamesOfUnit, VariablesOfUnit};
+ghost use Rattle.pli_type.specs.examples.OpenExamples.{StarsAreTyped};
 ghost use Rattle.pli_type.specs.examples.OrderExamples.{GlobalsOfUnit, TokensInOrder};
 
 /// Worked examples of faults.
@@ -76,6 +77,11 @@ pub fn type_examples()
 pub fn typed_examples()
     ensures conversions { ConversionsStand }
     ensures references { SubscriptsHaveStrides }
+{}
+
+/// Worked examples of parameters in which a `*` stands.
+pub fn open_examples()
+    ensures { StarsAreTyped }
 {}
 
 /// Worked examples of units.

@@ -11,6 +11,7 @@ use Rattle.pli_base.specs.Statements.{ExternalProcedure, Statement, Numbered, Bo
 use Rattle.pli_base.specs.declared.token.Fault.{Fault}
 use Rattle.pli_gen_emit.specs.TreeTranslation.{BlockTree, has_number, procedure_block, begin_block, blocks_in, blocks_of_form, blocks_of_else, blocks_among, blocks_of_procedure}
 use Rattle.pli_map.specs.Description.{Description}
+use Rattle.pli_map.specs.ParameterTypes.{ParameterType}
 use Rattle.pli_resolve.specs.TreeBlocks as source
 use Rattle.pli_resolve.specs.declared.block_numbers.ResolvedBlockKind.TheVariants as kinds
 use Rattle.pli_type.specs.Checked.{external_of, unit_of}
@@ -216,7 +217,7 @@ module _ (sizes : ℕ → ℕ) where
 -- ---- statements
 
 module _ (program : ExternalProcedure) (is_based : ℕ → Bool) (based : List ℕ → ℕ → List Template) (areas : List ℕ → ℕ → Option Beginning)
-    (meaning : List ℕ → ℕ → NamedAs) (parameters : ℕ → List Description) (returned : ℕ → Option Description) (automatic : ℕ → List Template)
+    (meaning : List ℕ → ℕ → NamedAs) (parameters : ℕ → List ParameterType) (returned : ℕ → Option Description) (automatic : ℕ → List Template)
     (globals : List Global)
     (without_parameters : (number : ℕ) (b : SourceBlock) → slice_get (unit_blocks program) number ≡ Some b → (b.kind ≡ kinds.Procedure → ⊥)
     → parameters number ≡ []) where
@@ -232,7 +233,7 @@ module _ (program : ExternalProcedure) (is_based : ℕ → Bool) (based : List �
   own_slots : (number : ℕ) (b : SourceBlock) → slice_get All number ≡ Some b → (b.kind ≡ kinds.Procedure → ⊥)
       → length (automatic number) ≡ sizes_of number
   own_slots number b there other =
-      let none : length (parameters number) ≡ 0 = ap (λ (ds : List Description). length ds) (without_parameters number b there other) in
+      let none : length (parameters number) ≡ 0 = ap (λ (ts : List ParameterType). length ts) (without_parameters number b there other) in
       omega (arith, none)
 
   at_end : {A : Type 0} (blocks : (parent : ℕ) → A → List BlockTree) (from one other : ℕ) (r : Result (WithProcedures A) (List Fault)) → one ≡ other

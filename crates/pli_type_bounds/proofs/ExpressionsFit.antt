@@ -11,20 +11,19 @@ use Rattle.pli_base.specs.declared.syntax.Joining.TheVariants.{Member, Located}
 use Rattle.pli_gen_emit.specs.TreeTranslation.{argument_count}
 use Rattle.pli_map.specs.Description as described
 use Rattle.pli_map.specs.Description.{Description}
-use Rattle.pli_map.specs.Same.{same}
-use Rattle.pli_map.specs.Scalars.{is_aggregate, is_area}
+use Rattle.pli_map.specs.ParameterTypes.{ParameterType, Stated, AnyString, AnyArray, ArrayOf, StructureOf, stated, agrees, is_aggregate_type}
 use Rattle.pli_map.specs.Sizes.{size_of}
 use Rattle.pli_type.specs.Beginnings.{area_meant, whole_at}
-use Rattle.pli_type.specs.ExpressionTypes.{TypedValue, precision_of, prefix_value, infix_value, converted}
+use Rattle.pli_type.specs.ExpressionTypes.{TypedValue, precision_of, prefix_value, infix_value, all_operands, converted}
 use Rattle.pli_resolve.specs.declared.built_in.BuiltInFunction.{BuiltInFunction}
 use Rattle.pli_resolve.specs.declared.built_in.BuiltInFunction.TheVariants as functions
 use Rattle.pli_type.specs.FunctionCalls.{Denoted, DenotesVariable, DenotesResult, DenotesEmpty, Meant, OneValue, WholeAggregate, meant_as, Argument}
 use Rattle.pli_type.specs.FunctionCalls.{roles_of, function_called}
 use Rattle.pli_type.specs.Names.{LocatorVariable, OfPointer, OfOffset, NamedAs, AVariable, AFunction, AProcedure, NamedStorage, Begins, IsBased, NamedVariable, NamedProcedure, Naming}
-use Rattle.pli_type.specs.ProcedureCalls.{place_of, passed_place, passed_value, passed, passed_before, all_passed, or_wrong_argument}
+use Rattle.pli_type.specs.ProcedureCalls.{place_of, passed_place, passed_value, handed, passed, passed_before, all_passed, or_wrong_argument}
 use Rattle.pli_type.specs.ProcedureCalls.{arguments_passed, result_of, type_returned}
-use Rattle.pli_type.specs.References.{Role, AsValue, AsArgument, AsLocator, wants_scalar, variable_meant, StridedPart, part_of, with_subscripts, subscripts_at, reference_to, Referent, permitted, settled}
-use Rattle.pli_type.specs.References.{LocatorBefore, NotLocated, LocatedBy, LocatedWrongly, locator_at, located_by, pointer_of, root_by, begins_somewhere, referent_from}
+use Rattle.pli_type.specs.References.{Role, AsValue, AsArgument, AsLocator, wants_scalar, variable_meant, whole_meant, StridedPart, part_on, part_of, whole_part, with_subscripts, subscripts_at, reference_to, open_part, open_reference, open_referent, open_settled, Referent, permitted, settled}
+use Rattle.pli_type.specs.References.{LocatorBefore, NotLocated, LocatedBy, LocatedWrongly, locator_at, located_by, pointer_of, root_by, passed_root, begins_somewhere, referent_from}
 use Rattle.pli_type.specs.Typing.{first_token, how_many, or_fault, one_value}
 use Rattle.pli_type.specs.Typing.{subscript_value, Segment, OfVariable, OfFunction, OfEmpty, OfNoVariable, is_call, with_more, ended, as_locator, named_alone, given_by, procedure_called, roles_or_none}
 use Rattle.pli_type.specs.Typing.{as_value, denoted, meant, referred, joined, begun, subscripts_in, all_subscripts, all_arguments, value_of}
@@ -32,14 +31,16 @@ use Rattle.pli_type.specs.declared.beginning.Beginning.{Beginning}
 use Rattle.pli_type.specs.declared.expression_type.ExpressionType.{ExpressionType}
 use Rattle.pli_type_tree.specs.Templates.{Template}
 use Rattle.pli_type_tree.specs.TypedTree.{Root, Stride, TypedExpression, TypedReference, TypedArguments, TypedUnit}
+use Rattle.pli_type_tree.specs.WellTyped.{is_area_type, operand_count}
 use Rattle.pli_type_laws.proofs.Conversions.{OnGiven, given_if}
 use Rattle.pli_type_laws.proofs.Denotations.{OnRead}
 use Rattle.pli_type_laws.proofs.Expressions.{read_option}
 use Rattle.pli_type_laws.proofs.References.{read_then, read_if}
 use Rattle.pli_type_name_laws.proofs.InitialHeld.{all_behind}
 use Rattle.pli_type_bounds.proofs.Meanings.{IsPart, IsAreaNamed, IsLocatorVariable, IsImplied, locator_fits, IsStorage, IsLocator, IsVariable, IsProcedureNamed, IsMeaning, IsKind, IsValue, IsReferent, IsMeant, IsDenoted, AreArgumentsGiven, IsSegment}
-use Rattle.pli_type_bounds.proofs.OperatorsFit.{given_made, constant_fits, prefix_fits, infix_fits, converted_fits, kinds_held, area_fits, denoted_fits, functions_fit}
-use Rattle.pli_deck_laws.specs.Limits.{parameter_limit, IsDescription, IsMade, IsStride}
+use Rattle.pli_type_bounds.proofs.OperatorsFit.{given_made, constant_fits, operands_fit, prefix_fits, infix_fits, suited_to_fits, converted_fits, kinds_held, area_fits, denoted_fits, functions_fit}
+use Rattle.pli_type_bounds.proofs.TypesFit.{stated_fits, open_part_fits}
+use Rattle.pli_deck_laws.specs.Limits.{parameter_limit, IsDescription, IsMade, IsParameterType, IsStride}
 use Rattle.pli_deck_laws.specs.WellFormed.{IsRoot, IsExpression, IsReference, AreSubscripts, AreArguments}
 
 module _ (t : TypedUnit) where
@@ -56,6 +57,15 @@ module _ (t : TypedUnit) where
   reference_fits root [] q [] r h k = r
   reference_fits root [] q (x ∷ xs) r h k = (r, h.offset, h.described, subscripts_fit q.strides (x ∷ xs) h.strides k)
   reference_fits root (i ∷ path) q xs r h k = (r, h.offset, h.described, subscripts_fit q.strides xs h.strides k)
+
+  operands_counted : (xs : List TypedExpression) → operand_count (all_operands xs) ≡ length xs
+  operands_counted [] = refl
+  operands_counted (x ∷ xs) = ap suc (operands_counted xs)
+
+  open_reference_fits : (root : Root) (xs : List TypedExpression) → IsRoot t root → length xs ≤ 8 → AllByRecursion (IsExpression t) xs
+      → IsReference t (open_reference root xs)
+  open_reference_fits root [] h few k = h
+  open_reference_fits root (x ∷ xs) h few k = (h, omega (arith, few, operands_counted (x ∷ xs)), operands_fit t (x ∷ xs) k)
 
   -- what a variable gives that leads to BASED ones
   pointer_given : (locator : LocatorVariable) → IsLocatorVariable t locator → IsExpression t (pointer_of locator)
@@ -79,13 +89,20 @@ module _ (t : TypedUnit) where
   root_fits (IsBased block number None) whole LocatedWrongly h good k = tt
   root_fits (IsBased block number (Some implied)) whole LocatedWrongly h good k = tt
 
+  -- where a reference begins to a parameter in which a `*` stands
+  passed_root_fits : (storage : NamedStorage) (locator : LocatorBefore) → IsStorage t storage → OnGiven (IsRoot t) (passed_root storage locator)
+  passed_root_fits (Begins root is_parameter) NotLocated h = h
+  passed_root_fits (Begins root is_parameter) (LocatedBy e) h = tt
+  passed_root_fits (Begins root is_parameter) LocatedWrongly h = tt
+  passed_root_fits (IsBased block number implied) locator h = tt
+
   somewhere : (at : ℕ) (o : Option Referent) → OnGiven (IsReferent t) o → OnRead (IsReferent t) (begins_somewhere at o)
   somewhere at (Some r) h = h
   somewhere at None h = tt
 
-  allowed : (role : Role) (at : ℕ) (d : Description) (o : Option Referent) → OnGiven (IsReferent t) o
-      → OnRead (IsReferent t) (permitted role at d o)
-  allowed role at d o h = read_if (IsReferent t) (wants_scalar role && is_aggregate d) _ _ tt (somewhere at o h)
+  allowed : (role : Role) (at : ℕ) (type : ParameterType) (o : Option Referent) → OnGiven (IsReferent t) o
+      → OnRead (IsReferent t) (permitted role at type o)
+  allowed role at type o h = read_if (IsReferent t) (wants_scalar role && is_aggregate_type type) _ _ tt (somewhere at o h)
 
   module _ (role : Role) (locator : LocatorBefore) (located : IsLocator t locator) (at : ℕ) (v : NamedVariable) (known : IsVariable t v)
       (xs : List TypedExpression) (given : AllByRecursion (IsExpression t) xs) where
@@ -98,21 +115,41 @@ module _ (t : TypedUnit) where
       area = known.area;
     }
 
-    with_part : (p : StridedPart) → part_of v ≡ Some p → (o : Option StridedPart) → with_subscripts (length xs) p ≡ o
-        → OnRead (IsReferent t) (settled role locator at v xs o)
-    with_part p is None e = tt
-    with_part p is (Some q) e =
-        allowed role at q.description (option_map (referent_from v xs q) (root_by v.storage v.whole locator))
-        (with_root q (known.parts p q (length xs) is e) (root_by v.storage v.whole locator)
-        (root_fits v.storage v.whole locator known.storage known.whole located))
+    module _ (d : Description) (whole : stated v.whole ≡ Some d) where
+      with_part : (p : StridedPart) → part_on (whole_part d) v.path ≡ Some p → (o : Option StridedPart) → with_subscripts (length xs) p ≡ o
+          → OnRead (IsReferent t) (settled role locator at v d xs o)
+      with_part p is None e = tt
+      with_part p is (Some q) e =
+          allowed role at (Stated q.description) (option_map (referent_from v xs q) (root_by v.storage d locator))
+          (with_root q (known.parts d p q (length xs) whole is e) (root_by v.storage d locator)
+          (root_fits v.storage d locator known.storage (stated_fits v.whole d known.whole whole) located))
 
-    in_variable : (o : Option StridedPart) → part_of v ≡ o
-        → OnRead (IsReferent t) (settled role locator at v xs (option_and_then (with_subscripts (length xs)) o))
-    in_variable None is = tt
-    in_variable (Some p) is = with_part p is (with_subscripts (length xs) p) refl
+      in_variable : (o : Option StridedPart) → part_on (whole_part d) v.path ≡ o
+          → OnRead (IsReferent t) (settled role locator at v d xs (option_and_then (with_subscripts (length xs)) o))
+      in_variable None is = tt
+      in_variable (Some p) is = with_part p is (with_subscripts (length xs) p) refl
+
+    -- a parameter in which a `*` stands, or an element of it
+    with_open_root : (type : ParameterType) → IsParameterType type → length xs ≤ 8 → (o : Option Root) → OnGiven (IsRoot t) o
+        → OnGiven (IsReferent t) (option_map (open_referent v xs type) o)
+    with_open_root type good few None h = tt
+    with_open_root type good few (Some root) h =
+        record { reference = open_reference_fits root xs h few given; described = good; area = known.area }
+
+    in_open : (o : Option ParameterType) → open_part v.whole (length xs) ≡ o → OnRead (IsReferent t) (open_settled role locator at v xs o)
+    in_open None e = tt
+    in_open (Some type) e =
+        let good = open_part_fits v.whole (length xs) type known.whole e in
+        allowed role at type (option_map (open_referent v xs type) (passed_root v.storage locator))
+        (with_open_root type good.0 good.1 (passed_root v.storage locator) (passed_root_fits v.storage locator known.storage))
+
+    in_whole : (o : Option Description) → stated v.whole ≡ o → OnRead (IsReferent t) (whole_meant role locator at v xs o)
+    in_whole (Some d) is =
+        in_variable d is (part_of v) (sym (ap (option_and_then (λ (e : Description). part_on (whole_part e) v.path)) is))
+    in_whole None is = in_open (open_part v.whole (length xs)) refl
 
     variable_fits : OnRead (IsReferent t) (variable_meant role locator at v xs)
-    variable_fits = in_variable (part_of v) refl
+    variable_fits = in_whole (stated v.whole) refl
 
   -- ---- calls
 
@@ -141,53 +178,66 @@ module _ (t : TypedUnit) where
   place_chosen true o q h k = h
   place_chosen false o q h k = k
 
-  place_of_fits : (r : TypedReference) (d : Description) → IsReference t r → OnGiven (IsReference t) (place_of r d)
-  place_of_fits r d h =
-      place_chosen (is_area d) (option_map whole_at (area_meant r d)) (Some r) (whole_fits (area_meant r d) (area_fits t r d h)) h
+  place_of_fits : (r : TypedReference) (type : ParameterType) → IsReference t r → OnGiven (IsReference t) (place_of r type)
+  place_of_fits r type h =
+      place_chosen (is_area_type type) (option_map whole_at (area_meant r type)) (Some r) (whole_fits (area_meant r type) (area_fits t r type h)) h
 
-  place_fits : (d : Description) (a : Denoted) → IsDenoted t a → OnGiven (IsReference t) (passed_place d a)
-  place_fits d (DenotesVariable r) h =
-      given_if (IsReference t) (same r.description d) (place_of r.reference r.description) (place_of_fits r.reference r.description h.reference)
-  place_fits d (DenotesResult v) h = tt
-  place_fits d DenotesEmpty h = tt
+  place_fits : (type : ParameterType) (a : Denoted) → IsDenoted t a → OnGiven (IsReference t) (passed_place type a)
+  place_fits type (DenotesVariable r) h =
+      given_if (IsReference t) (agrees type r.description) (place_of r.reference r.description) (place_of_fits r.reference r.description h.reference)
+  place_fits type (DenotesResult v) h = tt
+  place_fits type DenotesEmpty h = tt
 
-  abbrev IsDummy : Description → TypedExpression → Type 0
-  IsDummy d e = IsMade d × IsExpression t e
+  -- a value that is handed over for a parameter of a type
+  abbrev IsHanded : ParameterType → TypedExpression → Type 0
+  IsHanded (Stated d) e = IsMade d × IsExpression t e
+  IsHanded type e = IsExpression t e
 
   dummy_of : (d : Description) (v : TypedValue) (o : Option TypedExpression) → IsDescription d → converted 63 None d v ≡ o → OnGiven (IsExpression t) o
-      → OnGiven (IsDummy d) o
+      → OnGiven (IsHanded (Stated d)) o
   dummy_of d v (Some e) good is h = ((good, small d v e good is), h)
   dummy_of d v None good is h = tt
 
-  value_fits : (d : Description) (m : Meant) → IsDescription d → IsMeant t m → OnGiven (IsDummy d) (passed_value 63 d m)
-  value_fits d (OneValue v) good h = dummy_of d v (converted 63 None d v) good refl (converted_fits t None tt d v good h)
-  value_fits d (WholeAggregate r) good h = tt
+  value_fits : (type : ParameterType) (m : Meant) → IsParameterType type → IsMeant t m → OnGiven (IsHanded type) (passed_value 63 type m)
+  value_fits (Stated d) (OneValue v) good h = dummy_of d v (converted 63 None d v) good refl (converted_fits t None tt d v good h)
+  value_fits (Stated d) (WholeAggregate r) good h = tt
+  value_fits (AnyString form) (OneValue v) good h = suited_to_fits t form v.expression v.kind h.0
+  value_fits (AnyString form) (WholeAggregate r) good h = tt
+  value_fits (AnyArray dimensions element) m good h = tt
+  value_fits (ArrayOf bounds element) m good h = tt
+  value_fits (StructureOf types) m good h = tt
 
-  abbrev pub Pass : List Description → TypedArguments → Type 0
-  Pass ds xs = AreArguments t xs × (argument_count xs ≡ length ds)
+  abbrev pub Pass : List ParameterType → TypedArguments → Type 0
+  Pass ts xs = AreArguments t xs × (argument_count xs ≡ length ts)
 
-  one_passed : (d : Description) (ds : List Description) (place : Option TypedReference) (value : Option TypedExpression)
-      (more : TypedArguments) → OnGiven (IsReference t) place → OnGiven (IsDummy d) value → Pass ds more
-      → OnGiven (Pass (d ∷ ds)) (passed d place value more)
-  one_passed d ds (Some r) value more a b h = ((a, h.0), ap suc h.1)
-  one_passed d ds None (Some e) more a b h = ((b.0, b.1, h.0), ap suc h.1)
-  one_passed d ds None None more a b h = tt
+  handed_fits : (type : ParameterType) (ts : List ParameterType) (e : TypedExpression) (more : TypedArguments) → IsHanded type e → Pass ts more
+      → OnGiven (Pass (type ∷ ts)) (handed type e more)
+  handed_fits (Stated d) ts e more b h = ((b.0, b.1, h.0), ap suc h.1)
+  handed_fits (AnyString form) ts e more b h = ((b, h.0), ap suc h.1)
+  handed_fits type ts e more b h = tt
 
-  before : (d : Description) (ds : List Description) (g : Argument) (more : Option TypedArguments) → IsDescription d → IsDenoted t g.denoted
-      → OnGiven (Pass ds) more → OnGiven (Pass (d ∷ ds)) (passed_before 63 d g more)
-  before d ds g None good h k = tt
-  before d ds g (Some more) good h k =
-      one_passed d ds (passed_place d g.denoted) (passed_value 63 d (meant_as g.denoted)) more (place_fits d g.denoted h)
-      (value_fits d (meant_as g.denoted) good (denoted_fits t g.denoted h)) k
+  one_passed : (type : ParameterType) (ts : List ParameterType) (place : Option TypedReference) (value : Option TypedExpression)
+      (more : TypedArguments) → OnGiven (IsReference t) place → OnGiven (IsHanded type) value → Pass ts more
+      → OnGiven (Pass (type ∷ ts)) (passed type place value more)
+  one_passed type ts (Some r) value more a b h = ((a, h.0), ap suc h.1)
+  one_passed type ts None (Some e) more a b h = handed_fits type ts e more b h
+  one_passed type ts None None more a b h = tt
 
-  all_pass : (ds : List Description) (gs : List Argument) → AllByRecursion IsDescription ds → AreArgumentsGiven t gs
-      → OnGiven (Pass ds) (all_passed 63 ds gs)
+  before : (type : ParameterType) (ts : List ParameterType) (g : Argument) (more : Option TypedArguments) → IsParameterType type → IsDenoted t g.denoted
+      → OnGiven (Pass ts) more → OnGiven (Pass (type ∷ ts)) (passed_before 63 type g more)
+  before type ts g None good h k = tt
+  before type ts g (Some more) good h k =
+      one_passed type ts (passed_place type g.denoted) (passed_value 63 type (meant_as g.denoted)) more (place_fits type g.denoted h)
+      (value_fits type (meant_as g.denoted) good (denoted_fits t g.denoted h)) k
+
+  all_pass : (ts : List ParameterType) (gs : List Argument) → AllByRecursion IsParameterType ts → AreArgumentsGiven t gs
+      → OnGiven (Pass ts) (all_passed 63 ts gs)
   all_pass [] [] good h = (tt, refl)
   all_pass [] (g ∷ gs) good h = tt
-  all_pass (d ∷ ds) [] good h = tt
-  all_pass (d ∷ ds) (g ∷ gs) good h = before d ds g (all_passed 63 ds gs) good.0 h.0 (all_pass ds gs good.1 h.1)
+  all_pass (type ∷ ts) [] good h = tt
+  all_pass (type ∷ ts) (g ∷ gs) good h = before type ts g (all_passed 63 ts gs) good.0 h.0 (all_pass ts gs good.1 h.1)
 
-  or_wrong : (at : ℕ) (ds : List Description) (o : Option TypedArguments) → OnGiven (Pass ds) o → OnRead (Pass ds) (or_wrong_argument at o)
+  or_wrong : (at : ℕ) (ds : List ParameterType) (o : Option TypedArguments) → OnGiven (Pass ds) o → OnRead (Pass ds) (or_wrong_argument at o)
   or_wrong at ds (Some xs) h = h
   or_wrong at ds None h = tt
 

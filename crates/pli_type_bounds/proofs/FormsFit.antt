@@ -10,18 +10,19 @@ use Rattle.pli_base.specs.Syntax.{Expression, Reference, Arguments, Absent, Give
 use Rattle.pli_base.specs.declared.code.Code.TheVariants.{WrongOperandType, CannotAssign, CannotPrint, BadGoto, WrongReturn}
 use Rattle.pli_base.specs.declared.syntax.Identifier.{Identifier}
 use Rattle.pli_map.specs.Description.{Description}
-use Rattle.pli_map.specs.Same.{same}
-use Rattle.pli_map.specs.Scalars.{is_aggregate, is_area}
+use Rattle.pli_map.specs.ParameterTypes.{ParameterType, Stated, AnyString, is_aggregate_type}
+use Rattle.pli_map.specs.Scalars.{is_area}
+use Rattle.pli_map.specs.declared.parameter.StringForm.{StringForm}
 use Rattle.pli_type.specs.Beginnings.{area_meant, whole_at}
-use Rattle.pli_type.specs.ExpressionTypes.{TypedValue, precision_of, converted, conversion, printed}
+use Rattle.pli_type.specs.ExpressionTypes.{TypedValue, precision_of, suited_to_form, converted, conversion_to, printed}
 use Rattle.pli_type.specs.FunctionCalls.{Denoted, DenotesVariable, DenotesResult, DenotesEmpty, area_of, Meant, OneValue, WholeAggregate, Argument}
 use Rattle.pli_type.specs.Names.{NamedAs, AProcedure, ALabel, NamedProcedure, Naming}
 use Rattle.pli_type.specs.ProcedureCalls.{arguments_passed}
 use Rattle.pli_type.specs.References.{AsArgument, AsLocator, AsTarget, AsValue, Referent}
-use Rattle.pli_type.specs.StatementTyping.{aggregate_assigned, scalar_assigned, area_put, area_assigned, variable_assigned, assigned, assignment, truth_of, condition, item, items}
+use Rattle.pli_type.specs.StatementTyping.{are_alike, aggregate_assigned, scalar_assigned, string_assigned, one_assigned, area_put, area_assigned, variable_assigned, assigned, assignment, truth_of, condition, item, items}
 use Rattle.pli_type.specs.StatementTyping.{Surroundings, Enclosing, label_found, jump_to, jump, goto_typed, arguments_typed, no_function, call_of}
 use Rattle.pli_type.specs.StatementTyping.{call_typed, area_here, returned_value, return_typed, number_of, limit, possible_limit, limits}
-use Rattle.pli_type.specs.StatementTyping.{without_subscripts, has_locator, suits_range, suited_control, controls, possible_condition, next_value, with_repeat}
+use Rattle.pli_type.specs.StatementTyping.{without_subscripts, has_locator, suits_range, suited_control, controls, possible_condition, turned, next_value, with_repeat}
 use Rattle.pli_type.specs.StatementTyping.{iteration}
 use Rattle.pli_type.specs.Typing.{first_token, own_token, or_fault, denoted, meant, referred, value_of}
 use Rattle.pli_type.specs.declared.beginning.Beginning.{Beginning}
@@ -30,14 +31,16 @@ use Rattle.pli_type.specs.declared.expression_type.ExpressionType.TheVariants as
 use Rattle.pli_type_tree.specs.Templates.{Template}
 use Rattle.pli_type_tree.specs.TypedTree as typed
 use Rattle.pli_type_tree.specs.TypedTree.{TypedExpression, TypedArguments, TypedRange, TypedUnit}
+use Rattle.pli_type_tree.specs.WellTyped.{is_area_type}
 use Rattle.pli_type_laws.proofs.Conversions.{OnGiven}
 use Rattle.pli_type_laws.proofs.Denotations.{OnRead}
 use Rattle.pli_type_laws.proofs.Expressions.{read_option}
+use Rattle.pli_type_laws.proofs.Operators.{given_map}
 use Rattle.pli_type_laws.proofs.References.{read_then, read_if}
 use Rattle.pli_type_bounds.proofs.ExpressionsFit.{N, Pass, arguments_fit, denoted_all, referred_fits, list_fits, meant_fits, value_of_fits}
 use Rattle.pli_type_bounds.proofs.Meanings.{IsAreaNamed, IsProcedureNamed, IsMeaning, IsValue, IsReferent, IsMeant, IsDenoted, AreArgumentsGiven}
-use Rattle.pli_type_bounds.proofs.OperatorsFit.{given_made, converted_fits, conversion_fits, unconverted_fits, area_fits, area_given, printed_fits}
-use Rattle.pli_deck_laws.specs.Limits.{link_limit, parameter_limit, IfThere, IsDescription}
+use Rattle.pli_type_bounds.proofs.OperatorsFit.{given_made, suited_to_fits, converted_fits, conversion_to_fits, unconverted_fits, area_fits, area_given, printed_fits}
+use Rattle.pli_deck_laws.specs.Limits.{link_limit, parameter_limit, IfThere, IsDescription, IsParameterType}
 use Rattle.pli_deck_laws.specs.WellFormed.{IsExpression, IsReference, IsConversion, IsRange, IsIteration, IsForm}
 
 module _ (t : TypedUnit) where
@@ -50,7 +53,7 @@ module _ (t : TypedUnit) where
       → OnRead (IsForm t) (aggregate_assigned equals target m)
   aggregate_fits equals target h (OneValue v) k = tt
   aggregate_fits equals target h (WholeAggregate source) k =
-      read_if (IsForm t) (same target.description source.description) (Ok (typed.AssignAggregate target.reference source.reference)) _
+      read_if (IsForm t) (are_alike target.description source.description) (Ok (typed.AssignAggregate target.reference source.reference)) _
       (h.reference, k.reference) tt
 
   -- to an area another one, or EMPTY
@@ -104,13 +107,20 @@ module _ (t : TypedUnit) (based : ℕ → List Template) (areas : ℕ → Option
       read_then (IsExpression t) (AllByRecursion (IsExpression t)) (item M e) _ (item_fits e)
       (λ x h. read_then (AllByRecursion (IsExpression t)) (AllByRecursion (IsExpression t)) (items M es) _ (items_fit es) (λ xs k. (h, k)))
 
-  scalar_fits : (equals : ℕ) (target : Referent) → IsReferent t target → (e : Expression)
-      → OnRead (IsForm t) (scalar_assigned M equals target e)
-  scalar_fits equals target placed e =
-      let d : Description = target.description in
+  scalar_fits : (equals : ℕ) (target : Referent) → IsReferent t target → (d : Description) → IsDescription d → (e : Expression)
+      → OnRead (IsForm t) (scalar_assigned M equals target d e)
+  scalar_fits equals target placed d good e =
       read_then (IsValue t) (IsForm t) (value_of M e) _ (value_of_fits t based areas meaning known e)
       (λ v h. read_then (IsExpression t) (IsForm t) (or_fault CannotAssign equals (converted 63 target.area d v)) _
-      (read_option (IsExpression t) CannotAssign equals (converted 63 target.area d v) (converted_fits t target.area placed.area d v placed.described h))
+      (read_option (IsExpression t) CannotAssign equals (converted 63 target.area d v) (converted_fits t target.area placed.area d v good h))
+      (λ x k. (placed.reference, k)))
+
+  string_fits : (equals : ℕ) (target : Referent) → IsReferent t target → (form : StringForm) (e : Expression)
+      → OnRead (IsForm t) (string_assigned M equals target form e)
+  string_fits equals target placed form e =
+      read_then (IsValue t) (IsForm t) (value_of M e) _ (value_of_fits t based areas meaning known e)
+      (λ v h. read_then (IsExpression t) (IsForm t) (or_fault CannotAssign equals (suited_to_form form v.expression v.kind)) _
+      (read_option (IsExpression t) CannotAssign equals (suited_to_form form v.expression v.kind) (suited_to_fits t form v.expression v.kind h.0))
       (λ x k. (placed.reference, k)))
 
   area_assigned_fits : (equals : ℕ) (target : Option Beginning) → IsAreaNamed t target → (e : Expression)
@@ -119,15 +129,23 @@ module _ (t : TypedUnit) (based : ℕ → List Template) (areas : ℕ → Option
       read_then (IsDenoted t) (IsForm t) (denoted M AsValue e) _ (denoted_all t based areas meaning known AsValue e)
       (λ d k. read_option (IsForm t) CannotAssign equals (area_put target d) (put_fits t target h d k))
 
+  -- to what is no aggregate
+  one_fits : (equals : ℕ) (target : Referent) → IsReferent t target → (type : ParameterType) → IsParameterType type → (e : Expression)
+      → OnRead (IsForm t) (one_assigned M equals target type e)
+  one_fits equals target h (Stated d) good e =
+      read_if (IsForm t) (is_area d) _ _
+      (area_assigned_fits equals (area_meant target.reference (Stated d)) (area_fits t target.reference (Stated d) h.reference) e)
+      (scalar_fits equals target h d good e)
+  one_fits equals target h (AnyString form) good e = string_fits equals target h form e
+  one_fits equals target h type good e = tt
+
   variable_assigned_fits : (equals : ℕ) (target : Referent) → IsReferent t target → (e : Expression)
       → OnRead (IsForm t) (variable_assigned M equals target e)
   variable_assigned_fits equals target h e =
-      read_if (IsForm t) (is_aggregate target.description) _ _
+      read_if (IsForm t) (is_aggregate_type target.description) _ _
       (read_then (IsMeant t) (IsForm t) (meant M AsArgument e) (aggregate_assigned equals target)
       (meant_fits t based areas meaning known AsArgument e) (aggregate_fits t equals target h))
-      (read_if (IsForm t) (is_area target.description) _ _
-      (area_assigned_fits equals (area_meant target.reference target.description) (area_fits t target.reference target.description h.reference) e)
-      (scalar_fits equals target h e))
+      (one_fits equals target h target.description h.described e)
 
   assigned_fits : (at equals : ℕ) (d : Denoted) → IsDenoted t d → (e : Expression) → OnRead (IsForm t) (assigned M at equals d e)
   assigned_fits at equals (DenotesVariable target) h e = variable_assigned_fits equals target h e
@@ -232,7 +250,7 @@ module _ (t : TypedUnit) (based : ℕ → List Template) (areas : ℕ → Option
   controls_fit : (at : ℕ) (is_located : Bool) (range : TypedRange) (d : Denoted) → IsDenoted t d
       → OnRead (IsReferent t) (controls at is_located range d)
   controls_fit at is_located range (DenotesVariable r) h =
-      read_if (IsReferent t) (without_subscripts r.reference && not is_located && not (is_area r.description)) _ _ (control_fits at r (suits_range r.description range) h) tt
+      read_if (IsReferent t) (without_subscripts r.reference && not is_located && not (is_area_type r.description)) _ _ (control_fits at r (suits_range r.description range) h) tt
   controls_fit at is_located range (DenotesResult v) h = tt
   controls_fit at is_located range DenotesEmpty h = tt
 
@@ -241,13 +259,21 @@ module _ (t : TypedUnit) (based : ℕ → List Template) (areas : ℕ → Option
   possible_condition_fits (Some e) =
       read_then (IsExpression t) (IfThere (IsExpression t)) (condition M e) _ (condition_fits e) (λ x h. h)
 
+  -- what REPEAT gives
+  turned_fits : (area : Option Beginning) → IsAreaNamed t area → (v : TypedValue) → IsValue t v → (type : ParameterType) → IsParameterType type
+      → OnGiven (IsRange t) (turned 63 area v type)
+  turned_fits area named v h (Stated d) good =
+      given_map (IsExpression t) (IsRange t) typed.Repeated (converted 63 area d v) (λ x k. k) (converted_fits t area named d v good h)
+  turned_fits area named v h (AnyString form) good =
+      given_map (IsExpression t) (IsRange t) typed.RepeatedString (suited_to_form form v.expression v.kind) (λ x k. k)
+      (suited_to_fits t form v.expression v.kind h.0)
+  turned_fits area named v h type good = tt
+
   next_fits : (r : Referent) → IsReferent t r → (e : Expression) → OnRead (IsRange t) (next_value M r e)
   next_fits r placed e =
-      let d : Description = r.description in
       read_then (IsValue t) (IsRange t) (value_of M e) _ (value_of_fits t based areas meaning known e)
-      (λ v h. read_then (IsExpression t) (IsRange t) (or_fault CannotAssign (first_token e) (converted 63 r.area d v)) _
-      (read_option (IsExpression t) CannotAssign (first_token e) (converted 63 r.area d v)
-      (converted_fits t r.area placed.area d v placed.described h)) (λ x k. k))
+      (λ v h. read_option (IsRange t) CannotAssign (first_token e) (turned 63 r.area v r.description)
+      (turned_fits r.area placed.area v h r.description placed.described))
 
   turns_fit : (r : Referent) → IsReferent t r → (kept : TypedRange) (range : Option Range) → IsRange t kept
       → OnRead (IsRange t) (with_repeat M r kept range)
@@ -265,9 +291,9 @@ module _ (t : TypedUnit) (based : ℕ → List Template) (areas : ℕ → Option
       (λ kept k. read_then (IsDenoted t) (IsIteration t) (referred M AsLocator variable) _ (referred_fits t based areas meaning known AsLocator variable)
       (λ d g. read_then (IsReferent t) (IsIteration t) (controls (own_token variable) (has_locator variable) kept d) _
       (controls_fit (own_token variable) (has_locator variable) kept d g)
-      (λ r m. read_then (IsConversion t) (IsIteration t) (or_fault CannotAssign equals (conversion 63 r.area r.description v.kind)) _
-      (read_option (IsConversion t) CannotAssign equals (conversion 63 r.area r.description v.kind)
-      (conversion_fits t r.area m.area r.description v.kind m.described h.1))
+      (λ r m. read_then (IsConversion t) (IsIteration t) (or_fault CannotAssign equals (conversion_to 63 r.area r.description v.kind)) _
+      (read_option (IsConversion t) CannotAssign equals (conversion_to 63 r.area r.description v.kind)
+      (conversion_to_fits t r.area m.area r.description v.kind m.described h.1))
       (λ converts c. read_then (IfThere (IsExpression t)) (IsIteration t) (possible_condition M tested) _ (possible_condition_fits tested)
       (λ x w. read_then (IsRange t) (IsIteration t) (with_repeat M r kept range) _ (turns_fit r m kept range k)
       (λ turns s. (m.reference, c, unconverted_fits t r.description v h, s, w))))))))

@@ -9,4 +9,5 @@ pub mod PartsFit
 pub mod StatementsFit
 pub mod SymbolsFit
 pub mod TemplatesFit
+pub mod TypesFit
 pub mod UnitsFit

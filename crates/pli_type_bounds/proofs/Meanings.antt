@@ -2,17 +2,18 @@
 use Rattle.std.specs.Prelude.{◌≡◌, ℕ, ◌≤◌, ◌<◌, Option, Some, None, List, [], ◌∷◌, length}
 use Rattle.std.specs.List.{AllByRecursion}
 use Rattle.pli_map.specs.Description.{Description, Pointer, Offset}
+use Rattle.pli_map.specs.ParameterTypes.{ParameterType, Stated, stated}
 use Rattle.pli_type.specs.Beginnings.{whole_at}
 use Rattle.pli_type.specs.ExpressionTypes.{TypedValue}
 use Rattle.pli_type.specs.FunctionCalls.{Denoted, DenotesVariable, DenotesResult, DenotesEmpty, Meant, OneValue, WholeAggregate, Argument}
 use Rattle.pli_type.specs.Names.{LocatorVariable, OfPointer, OfOffset, NamedStorage, Begins, IsBased, NamedVariable, NamedProcedure, NamedAs, AVariable, AProcedure}
-use Rattle.pli_type.specs.References.{StridedPart, part_of, with_subscripts, Referent, LocatorBefore, NotLocated, LocatedBy, LocatedWrongly, locator_at}
+use Rattle.pli_type.specs.References.{StridedPart, part_on, whole_part, with_subscripts, Referent, LocatorBefore, NotLocated, LocatedBy, LocatedWrongly, locator_at}
 use Rattle.pli_type.specs.Typing.{Segment, OfVariable, OfFunction, OfEmpty, OfNoVariable}
 use Rattle.pli_type.specs.declared.beginning.Beginning.{Beginning}
 use Rattle.pli_type.specs.declared.expression_type.ExpressionType.{ExpressionType}
 use Rattle.pli_type.specs.declared.expression_type.ExpressionType.TheVariants as types
 use Rattle.pli_type_tree.specs.TypedTree.{TypedReference, TypedUnit}
-use Rattle.pli_deck_laws.specs.Limits.{parameter_limit, word_limit, IfThere, IsDescription, IsStride}
+use Rattle.pli_deck_laws.specs.Limits.{parameter_limit, word_limit, IfThere, IsDescription, IsParameterType, IsStride}
 use Rattle.pli_deck_laws.specs.WellFormed.{IsRoot, IsCallee, IsExpression, IsReference}
 
 -- a part of a variable
@@ -34,12 +35,12 @@ module _ (t : TypedUnit) where
   abbrev pub IsImplied : Option LocatorVariable → Type 0
   IsImplied locator = IfThere IsLocatorVariable locator
 
-  pub locator_fits : (r : TypedReference) (d : Description) (area : Option Beginning) → IsReference t r → IsAreaNamed area
-      → IsImplied (locator_at r d area)
-  locator_fits r Pointer None h k = h
-  locator_fits r Pointer (Some area) h k = h
-  locator_fits r Offset (Some area) h k = (h, k)
-  locator_fits r d area h k = tt
+  pub locator_fits : (r : TypedReference) (type : ParameterType) (area : Option Beginning) → IsReference t r → IsAreaNamed area
+      → IsImplied (locator_at r type area)
+  locator_fits r (Stated Pointer) None h k = h
+  locator_fits r (Stated Pointer) (Some area) h k = h
+  locator_fits r (Stated Offset) (Some area) h k = (h, k)
+  locator_fits r type area h k = tt
 
   -- storage begins where there is something; or a locator that BASED names does
   abbrev pub IsStorage : NamedStorage → Type 0
@@ -55,15 +56,16 @@ module _ (t : TypedUnit) where
   -- it has storage, each of its parts is within the limits, and so is the area that its OFFSET names
   pub record IsVariable (v : NamedVariable) : Type 0 where
     pub storage : IsStorage v.storage
-    pub whole : IsDescription v.whole
+    pub whole : IsParameterType v.whole
     pub area : IsAreaNamed v.area
-    pub parts : (p q : StridedPart) (given : ℕ) → part_of v ≡ Some p → with_subscripts given p ≡ Some q → IsPart q
+    pub parts : (d : Description) (p q : StridedPart) (given : ℕ) → stated v.whole ≡ Some d → part_on (whole_part d) v.path ≡ Some p
+        → with_subscripts given p ≡ Some q → IsPart q
 
   -- it is there, has few parameters, and so is the area that its RETURNS names
   pub record IsProcedureNamed (p : NamedProcedure) : Type 0 where
     pub callee : IsCallee t p.callee
     pub few : length p.parameters ≤ parameter_limit
-    pub described : AllByRecursion IsDescription p.parameters
+    pub described : AllByRecursion IsParameterType p.parameters
     pub area : IsAreaNamed p.area
 
   abbrev pub IsMeaning : NamedAs → Type 0
@@ -81,7 +83,7 @@ module _ (t : TypedUnit) where
 
   pub record IsReferent (r : Referent) : Type 0 where
     pub reference : IsReference t r.reference
-    pub described : IsDescription r.description
+    pub described : IsParameterType r.description
     pub area : IsAreaNamed r.area
 
   abbrev pub IsMeant : Meant → Type 0

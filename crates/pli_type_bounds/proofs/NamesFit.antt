@@ -10,20 +10,21 @@ use Rattle.pli_base.specs.Statements.{ExternalProcedure}
 use Rattle.pli_base.specs.declared.syntax.Identifier.{Identifier}
 use Rattle.pli_declare.specs.Resolution.{resolution_faults}
 use Rattle.pli_map.specs.Description.{Description, Area}
+use Rattle.pli_map.specs.ParameterTypes.{ParameterType, Stated, AnyString, AnyArray, ArrayOf, StructureOf, stated}
 use Rattle.pli_map.specs.Sizes.{size_of}
 use Rattle.pli_resolve.specs.ResolvedUnits.{ResolvedUnit, ResolvedBlock, resolved_unit_of, all_symbols, symbol_at, meaning_at}
-use Rattle.pli_resolve.specs.Symbols.{Symbol, SymbolKind, Variable, Member, Label, Procedure, Entry, BuiltIn}
+use Rattle.pli_resolve.specs.Symbols.{Symbol, SymbolKind, Variable, OpenParameter, Member, Label, Procedure, Entry, BuiltIn}
 use Rattle.pli_resolve.specs.declared.symbol.StorageClass.{StorageClass}
 use Rattle.pli_resolve.specs.declared.symbol.StorageClass.TheVariants as classes
 use Rattle.pli_resolve.specs.declared.symbol.SymbolKey.{SymbolKey}
 use Rattle.pli_type.specs.Beginnings.{beginning_of}
 use Rattle.pli_type.specs.NamedUnits.{may_stand, is_automatic, is_based, is_passed_class, root_of, area_on, area_in, area_at, area_named, locator_part, locator_on, locator_in, locator_meant, locator_named}
-use Rattle.pli_type.specs.NamedUnits.{block_symbols, of_block, is_procedure, parameter_numbers, description_in, parameters_of, returned_by, returned_of, returned_area_of}
+use Rattle.pli_type.specs.NamedUnits.{block_symbols, of_block, is_procedure, parameter_numbers, type_in, parameters_of, returned_by, name_of, returned_of, returned_area_of}
 use Rattle.pli_type.specs.NamedUnits.{outward_to, is_reached, all_globals, templates_of, named_as}
 use Rattle.pli_type.specs.References.{StridedPart, part_on, whole_part, locator_at, reference_to, subscripts_at}
 use Rattle.pli_type.specs.Names.{LocatorVariable, NamedStorage, Begins, IsBased, NamedVariable, NamedProcedure, NamedAs, AVariable, AFunction, AProcedure, ALabel, Untyped}
 use Rattle.pli_type.specs.declared.beginning.Beginning.{Beginning}
-use Rattle.pli_type_name_laws.proofs.NamesMean.{StandsIn, IsStored, IsNamedArea, IsThere, variable_begins, procedure_named_so}
+use Rattle.pli_type_name_laws.proofs.NamesMean.{MayBe, StandsIn, IsStored, IsNamedArea, IsThere, variable_begins, procedure_named_so}
 use Rattle.pli_type_name_laws.proofs.RootsStand.{Standing, IsOf, IsEntry, root_begins, descriptions, automatic_stored, based_stored, entry_stands}
 use Rattle.pli_program.specs.declared.kind.VariableKind.{VariableKind}
 use Rattle.pli_program.specs.declared.kind.VariableKind.TheVariants.{Static, Controlled}
@@ -37,9 +38,10 @@ use Rattle.pli_type_bounds.proofs.PartsFit.{way_fits, parts_fit}
 use Rattle.pli_type_bounds.proofs.SymbolsFit.{symbol_fits, initial_fits}
 use Rattle.pli_resolve_bounds.specs.SymbolBounds.{IsLimited}
 use Rattle.pli_type_name_laws.proofs.InitialHeld.{all_behind}
-use Rattle.pli_type_bounds.proofs.TemplatesFit.{AreSymbols, all_described, templates_fit, globals_fit}
+use Rattle.pli_type_bounds.proofs.TemplatesFit.{AreSymbols, templates_fit, globals_fit}
+use Rattle.pli_type_bounds.proofs.TypesFit.{stated_fits, taken_fits, all_taken}
 use Rattle.pli_initial_laws.specs.InitialCounts.{HaveFewInitial}
-use Rattle.pli_deck_laws.specs.Limits.{IfThere, IsDescription, IsTemplate, IsGlobal, link_limit, parameter_limit}
+use Rattle.pli_deck_laws.specs.Limits.{IfThere, IsDescription, IsParameterType, IsTemplate, IsGlobal, link_limit, parameter_limit}
 use Rattle.pli_deck_laws.specs.WellFormed.{HasBlock, HasSlot, IsRoot, IsCallee, IsReference, AreSubscripts}
 
 -- ---- lists
@@ -87,21 +89,22 @@ module _ (u : ExternalProcedure) (none : resolution_faults u ≡ []) where
   symbols_in block = all_at (λ (s : Symbol). IsLimited s.kind) (block_symbols R block) (λ i s e. symbol_in block i s e)
 
   -- parameters
-  kind_described : (i : Identifier) (kind : SymbolKind) → IsLimited kind → IsDescription (description_in (Some (record { identifier = i; kind = kind })))
+  kind_described : (i : Identifier) (kind : SymbolKind) → IsLimited kind → IsParameterType (type_in (Some (record { identifier = i; kind = kind })))
   kind_described i (Variable d class scope initial area) h = h.0
+  kind_described i (OpenParameter type slot area) h = taken_fits type h
   kind_described i (Member root path initial area) h = tt
   kind_described i (Label statement) h = tt
   kind_described i (Procedure block returned area) h = tt
   kind_described i (Entry parameters returned area) h = tt
   kind_described i BuiltIn h = tt
 
-  parameter_described : (block number : ℕ) (o : Option Symbol) → slice_get (block_symbols R block) number ≡ o → IsDescription (description_in o)
+  parameter_described : (block number : ℕ) (o : Option Symbol) → slice_get (block_symbols R block) number ≡ o → IsParameterType (type_in o)
   parameter_described block number None e = tt
   parameter_described block number (Some s) e = kind_described s.identifier s.kind (symbol_in block number s e)
 
-  pub parameters_described : (block : ℕ) → AllByRecursion IsDescription (parameters_of R block)
+  pub parameters_described : (block : ℕ) → AllByRecursion IsParameterType (parameters_of R block)
   parameters_described block =
-      all_mapped IsDescription (λ number. description_in (slice_get (block_symbols R block) number)) (parameter_numbers R block)
+      all_mapped IsParameterType (λ number. type_in (slice_get (block_symbols R block) number)) (parameter_numbers R block)
       (λ number. parameter_described block number (slice_get (block_symbols R block) number) refl)
 
   few_if : (b : Bool) (xs : List ℕ) → length xs ≤ parameter_limit → length (if b then xs else []) ≤ parameter_limit
@@ -120,12 +123,13 @@ module _ (u : ExternalProcedure) (none : resolution_faults u ≡ []) where
       omega (
         arith,
         numbers_few block (slice_get R.blocks block) refl,
-        length-map (parameter_numbers R block) (λ number. description_in (slice_get (block_symbols R block) number)),
+        length-map (parameter_numbers R block) (λ number. type_in (slice_get (block_symbols R block) number)),
       )
 
   -- results
   kind_returned : (i : Identifier) (kind : SymbolKind) → IsLimited kind → IfThere IsDescription (returned_by (Some (record { identifier = i; kind = kind })))
   kind_returned i (Variable d class scope initial area) h = tt
+  kind_returned i (OpenParameter type slot area) h = tt
   kind_returned i (Member root path initial area) h = tt
   kind_returned i (Label statement) h = tt
   kind_returned i (Procedure block returned area) h = h
@@ -141,7 +145,7 @@ module _ (u : ExternalProcedure) (none : resolution_faults u ≡ []) where
   key_returned (Some key) = symbol_returned key (symbol_at R key) refl
 
   pub returned_described : (block : ℕ) → IfThere IsDescription (returned_of R block)
-  returned_described block = key_returned (of_block (λ b. if is_procedure b.kind then b.name else None) None (slice_get R.blocks block))
+  returned_described block = key_returned (name_of R block)
 
   -- ---- what is there in the typed unit
 
@@ -192,13 +196,13 @@ module _ (u : ExternalProcedure) (none : resolution_faults u ≡ []) where
       (all_at (λ (ss : List Symbol). AreSymbols ss × HaveFewInitial ss 0 ss) (all_symbols R) each_block)
 
   -- what slots and globals are
-  described_templates : (ts : List Template) → AllByRecursion IsTemplate ts → AllByRecursion IsDescription (descriptions ts)
+  described_templates : (ts : List Template) → AllByRecursion IsTemplate ts → AllByRecursion IsParameterType (descriptions ts)
   described_templates [] h = tt
   described_templates (v ∷ ts) h = (h.0.0.0, described_templates ts h.1)
 
-  slots_described : (block : ℕ) → AllByRecursion IsDescription (parameters_of R block ++ descriptions (Automatic block))
+  slots_described : (block : ℕ) → AllByRecursion IsParameterType (parameters_of R block ++ descriptions (Automatic block))
   slots_described block =
-      all_behind IsDescription (parameters_of R block) (descriptions (Automatic block)) (parameters_described block)
+      all_behind IsParameterType (parameters_of R block) (descriptions (Automatic block)) (parameters_described block)
       (described_templates (Automatic block) (automatic_fit block))
 
   global_described : (o : Option Global) (d : Description) → ((g : Global) → o ≡ Some g → IsGlobal g) → description_of o ≡ Some d → IsDescription d
@@ -211,18 +215,18 @@ module _ (u : ExternalProcedure) (none : resolution_faults u ≡ []) where
     abbrev IsInside : List ℕ → Type 0
     IsInside blocks = AllByRecursion (λ b. b < length R.blocks) blocks
 
-    slot_fits : (blocks : List ℕ) (is_parameter : Bool) (outward slot : ℕ) (d : Description) → length blocks ≤ link_limit → IsInside blocks
-        → Standing 63 R blocks is_parameter (InSlot outward slot) d → IsRoot t (InSlot outward slot) × IsDescription d
-    slot_fits blocks is_parameter outward slot d near inside (block, at, there, own) =
+    slot_fits : (blocks : List ℕ) (is_parameter : Bool) (outward slot : ℕ) (type : ParameterType) → length blocks ≤ link_limit → IsInside blocks
+        → Standing 63 R blocks is_parameter (InSlot outward slot) type → IsRoot t (InSlot outward slot) × IsParameterType type
+    slot_fits blocks is_parameter outward slot type near inside (block, at, there, own) =
         let found = outward_near (λ b. b < length R.blocks) blocks block outward inside at in
         let within : slot < length (parameters_of R block) + length (Automatic block) =
         omega (
           arith,
-          slice_get_within (parameters_of R block ++ descriptions (Automatic block)) slot d there,
+          slice_get_within (parameters_of R block ++ descriptions (Automatic block)) slot type there,
           length-append (parameters_of R block) (descriptions (Automatic block)),
-          length-map (Automatic block) (λ (v : Template). v.description),
+          length-map (Automatic block) (λ (v : Template). Stated v.description),
         ) in
-        ((omega (arith, found.0, near), has.slots block slot found.1 within), at_all IsDescription _ slot d (slots_described block) there)
+        ((omega (arith, found.0, near), has.slots block slot found.1 within), at_all IsParameterType _ slot type (slots_described block) there)
 
     global_fits : (kind : VariableKind) (number : ℕ) (d : Description) → described_as kind (slice_get Globals number) ≡ Some d
         → (number < length t.globals) × IsDescription d
@@ -232,12 +236,17 @@ module _ (u : ExternalProcedure) (none : resolution_faults u ≡ []) where
           global_described (slice_get Globals number) d (λ g is. at_all IsGlobal Globals number g all_globals_fit is) is,
         )
 
-    root_fits : (blocks : List ℕ) (is_parameter : Bool) (root : Root) (d : Description) → length blocks ≤ link_limit → IsInside blocks
-        → Standing 63 R blocks is_parameter root d → IsRoot t root × IsDescription d
-    root_fits blocks is_parameter (InSlot outward slot) d near inside h = slot_fits blocks is_parameter outward slot d near inside h
-    root_fits blocks is_parameter (OfProgram number) d near inside h = global_fits Static number d h
-    root_fits blocks is_parameter (NewestOf number) d near inside h = global_fits Controlled number d h
-    root_fits blocks is_parameter (Located locator whole) d near inside h = absurd h
+    stated_global : (kind : VariableKind) (number : ℕ) (type : ParameterType)
+        → ((d : Description) × (type ≡ Stated d) × (described_as kind (slice_get Globals number) ≡ Some d))
+        → (number < length t.globals) × IsParameterType type
+    stated_global kind number type (d, is, e) = let known = global_fits kind number d e in (known.0, subst IsParameterType (sym is) known.1)
+
+    root_fits : (blocks : List ℕ) (is_parameter : Bool) (root : Root) (type : ParameterType) → length blocks ≤ link_limit → IsInside blocks
+        → Standing 63 R blocks is_parameter root type → IsRoot t root × IsParameterType type
+    root_fits blocks is_parameter (InSlot outward slot) type near inside h = slot_fits blocks is_parameter outward slot type near inside h
+    root_fits blocks is_parameter (OfProgram number) type near inside h = stated_global Static number type h
+    root_fits blocks is_parameter (NewestOf number) type near inside h = stated_global Controlled number type h
+    root_fits blocks is_parameter (Located locator whole) type near inside h = absurd h
 
     -- the area that a declaration names
     root_named : (root : Root) → IsRoot t root → IsAreaNamed t (beginning_of root)
@@ -269,8 +278,8 @@ module _ (u : ExternalProcedure) (none : resolution_faults u ≡ []) where
         → ((q : StridedPart) → o ≡ Some q → IsPart q) → IsImplied t (locator_part root path area o)
     part_fits root path area there None h k = tt
     part_fits root path area there (Some q) h k =
-        implied_if (nat_eq (length q.strides) 0) (locator_at (reference_to root path q []) q.description area)
-        (locator_fits t (reference_to root path q []) q.description area (scalar_fits root path q h (k q refl)) there)
+        implied_if (nat_eq (length q.strides) 0) (locator_at (reference_to root path q []) (Stated q.description) area)
+        (locator_fits t (reference_to root path q []) (Stated q.description) area (scalar_fits root path q h (k q refl)) there)
 
     module _ (blocks : List ℕ) (near : length blocks ≤ link_limit) (inside : IsInside blocks) where
       -- areas
@@ -279,7 +288,7 @@ module _ (u : ExternalProcedure) (none : resolution_faults u ≡ []) where
           → root_of 63 R blocks key class d ≡ Some root → IsRoot t root
       begun_fits key class d s there of root is =
           let begun = root_begins 63 R blocks key d root s there class of is in
-          (root_fits blocks (is_passed_class class) root d near inside begun.0).0
+          (root_fits blocks (is_passed_class class) root (Stated d) near inside begun.0).0
 
       area_kind_fits : (key : SymbolKey) (path : List ℕ) (s : Symbol) (kind : SymbolKind)
           → slice_get (block_symbols R key.block) key.number ≡ Some s → s.kind ≡ kind
@@ -287,6 +296,7 @@ module _ (u : ExternalProcedure) (none : resolution_faults u ≡ []) where
       area_kind_fits key path s (Variable d class scope initial area) there is =
           on_named path d (root_of 63 R blocks key class d)
           (λ root e. begun_fits key class d s there (subst (IsOf class d) (sym is) (refl, refl)) root e)
+      area_kind_fits key path s (OpenParameter type slot area) there is = tt
       area_kind_fits key path s (Member root p initial area) there is = tt
       area_kind_fits key path s (Label statement) there is = tt
       area_kind_fits key path s (Procedure block returned area) there is = tt
@@ -306,6 +316,7 @@ module _ (u : ExternalProcedure) (none : resolution_faults u ≡ []) where
           by : (kind : SymbolKind) → s.kind ≡ kind
               → IsAreaNamed t (area_at 63 R blocks key (Some (record { identifier = s.identifier; kind = kind })))
           by (Variable d class scope initial area) is = area_kind_fits key [] s (Variable d class scope initial area) there is
+          by (OpenParameter type slot area) is = tt
           by (Member root path initial area) is =
               area_symbol_fits (record { block = key.block; number = root }) path (slice_get (block_symbols R key.block) root) refl
           by (Label statement) is = tt
@@ -327,7 +338,7 @@ module _ (u : ExternalProcedure) (none : resolution_faults u ≡ []) where
       on_fits key class d path named s there of None is = tt
       on_fits key class d path named s there of (Some root) is =
           let begun = root_begins 63 R blocks key d root s there class of is in
-          let both = root_fits blocks (is_passed_class class) root d near inside begun.0 in
+          let both = root_fits blocks (is_passed_class class) root (Stated d) near inside begun.0 in
           let small : size_of d ≤ 1000000 = leb-true (size_of d) 1000000 (and_parts (may_stand 63 d) (nat_le (size_of d) 1000000) begun.1).1 in
           part_fits root path (area_named 63 R blocks named) (area_fits named) (part_on (whole_part d) path) both.0
           (λ q e. way_fits d path both.1 small q e)
@@ -337,6 +348,7 @@ module _ (u : ExternalProcedure) (none : resolution_faults u ≡ []) where
           → IsImplied t (locator_in 63 R blocks key path (area_named 63 R blocks named) (Some (record { identifier = s.identifier; kind = kind })))
       kind_fits key path named s (Variable d class scope initial area) there is =
           on_fits key class d path named s there (subst (IsOf class d) (sym is) (refl, refl)) (root_of 63 R blocks key class d) refl
+      kind_fits key path named s (OpenParameter type slot area) there is = tt
       kind_fits key path named s (Member root p initial area) there is = tt
       kind_fits key path named s (Label statement) there is = tt
       kind_fits key path named s (Procedure block returned area) there is = tt
@@ -357,6 +369,7 @@ module _ (u : ExternalProcedure) (none : resolution_faults u ≡ []) where
           by : (kind : SymbolKind) → s.kind ≡ kind
               → IsImplied t (locator_meant 63 R blocks key (Some (record { identifier = s.identifier; kind = kind })))
           by (Variable d class scope initial area) is = kind_fits key [] area s (Variable d class scope initial area) there is
+          by (OpenParameter type slot area) is = tt
           by (Member root path initial area) is =
               in_fits (record { block = key.block; number = root }) path area (slice_get (block_symbols R key.block) root) refl
           by (Label statement) is = tt
@@ -369,9 +382,9 @@ module _ (u : ExternalProcedure) (none : resolution_faults u ≡ []) where
       implied_fits (Some key) = meant_fits key (symbol_at R key) refl
 
       -- storage
-      storage_fits : (storage : NamedStorage) (d : Description) → StandsIn 63 R blocks storage d → IsStorage t storage
-      storage_fits (Begins root is_parameter) d h = (root_fits blocks is_parameter root d near inside h).0
-      storage_fits (IsBased block number implied) d h = subst (IsImplied t) (sym h.3) (implied_fits h.0)
+      storage_fits : (storage : NamedStorage) (type : ParameterType) → StandsIn 63 R blocks storage type → IsStorage t storage
+      storage_fits (Begins root is_parameter) type h = (root_fits blocks is_parameter root type near inside h).0
+      storage_fits (IsBased block number implied) type h = subst (IsImplied t) (sym h.3) (implied_fits h.0)
 
       -- the area that RETURNS of a function names
       pub areas_fit : (block : ℕ) → IsAreaNamed t (area_named 63 R blocks (returned_area_of R block))
@@ -380,27 +393,39 @@ module _ (u : ExternalProcedure) (none : resolution_faults u ≡ []) where
     -- what a symbol is, is described
     of_described : (class : StorageClass) (d : Description) (kind : SymbolKind) → IsOf class d kind → IsLimited kind → IsDescription d
     of_described class d (Variable description c scope values area) h g = subst IsDescription h.0 g.0
+    of_described class d (OpenParameter type slot area) h g = absurd h
     of_described class d (Member root path values area) h g = absurd h
     of_described class d (Label statement) h g = absurd h
     of_described class d (Procedure block returned area) h g = absurd h
     of_described class d (Entry parameters returned area) h g = absurd h
     of_described class d BuiltIn h g = absurd h
 
-    whole_fits : (blocks : List ℕ) (storage : NamedStorage) (d : Description) → length blocks ≤ link_limit → IsInside blocks
-        → StandsIn 63 R blocks storage d → IsDescription d
-    whole_fits blocks (Begins root is_parameter) d near inside h = (root_fits blocks is_parameter root d near inside h).1
-    whole_fits blocks (IsBased block number implied) d near inside h =
-        of_described (classes.Based h.0) d h.2.kind h.5 (symbol_in h.1.block h.1.number h.2 h.4)
+    whole_fits : (blocks : List ℕ) (storage : NamedStorage) (type : ParameterType) → length blocks ≤ link_limit → IsInside blocks
+        → StandsIn 63 R blocks storage type → IsParameterType type
+    whole_fits blocks (Begins root is_parameter) type near inside h = (root_fits blocks is_parameter root type near inside h).1
+    whole_fits blocks (IsBased block number implied) type near inside h =
+        subst IsParameterType (sym h.6)
+        (of_described (classes.Based h.0) h.5 h.2.kind h.7 (symbol_in h.1.block h.1.number h.2 h.4))
+
+    -- what is stated of it is small
+    stated_small : (whole : ParameterType) (d : Description) → MayBe 63 whole → stated whole ≡ Some d → size_of d ≤ 1000000
+    stated_small (Stated c) d may is =
+        subst (λ (e : Description). size_of e ≤ 1000000) (same_Some c d is)
+        (leb-true (size_of c) 1000000 (and_parts (may_stand 63 c) (nat_le (size_of c) 1000000) may).1)
+    stated_small (AnyString form) d may is = absurd cc
+    stated_small (AnyArray dimensions element) d may is = absurd cc
+    stated_small (ArrayOf bounds element) d may is = absurd cc
+    stated_small (StructureOf types) d may is = absurd cc
 
     variable_fits : (blocks : List ℕ) (v : NamedVariable) → length blocks ≤ link_limit → IsInside blocks → IsStored 63 R blocks v → IsVariable t v
     variable_fits blocks v near inside b =
         let good = whole_fits blocks v.storage v.whole near inside b.0 in
-        let small : size_of v.whole ≤ 1000000 = leb-true (size_of v.whole) 1000000 (and_parts (may_stand 63 v.whole) (nat_le (size_of v.whole) 1000000) b.1).1 in
         record {
           storage = storage_fits blocks near inside v.storage v.whole b.0;
           whole = good;
           area = named_area blocks near inside v.area b.2;
-          parts = λ p q given e f. parts_fit v good small p q given e f;
+          parts = λ d p q given is e f.
+              parts_fit d v.path (stated_fits v.whole d good is) (stated_small v.whole d b.1 is) p q given e f;
         }
 
     -- procedures
@@ -413,10 +438,11 @@ module _ (u : ExternalProcedure) (none : resolution_faults u ≡ []) where
     reached_within blocks block (Some b) is h = slice_get_within R.blocks block b is
 
     entry_parts : (p : NamedProcedure) (kind : SymbolKind) → IsEntry p.parameters p.returned kind → IsLimited kind
-        → (length p.parameters ≤ parameter_limit) × AllByRecursion IsDescription p.parameters
+        → (length p.parameters ≤ parameter_limit) × AllByRecursion IsParameterType p.parameters
     entry_parts p (Entry ps o area) h g =
-        (subst (λ (ds : List Description). length ds ≤ parameter_limit) h.0 g.0, subst (AllByRecursion IsDescription) h.0 (all_described ps g.1))
+        (subst (λ (ts : List ParameterType). length ts ≤ parameter_limit) h.0 g.0, subst (AllByRecursion IsParameterType) h.0 (all_taken ps g.1))
     entry_parts p (Variable d class scope values area) h g = absurd h
+    entry_parts p (OpenParameter type slot area) h g = absurd h
     entry_parts p (Member root path values area) h g = absurd h
     entry_parts p (Label statement) h g = absurd h
     entry_parts p (Procedure block returned area) h g = absurd h
@@ -428,8 +454,8 @@ module _ (u : ExternalProcedure) (none : resolution_faults u ≡ []) where
         let same : parameters_of R block ≡ p.parameters = ap (λ (q : NamedProcedure). q.parameters) h.0 in
         record {
           callee = subst (IsCallee t) (sym is) (has.blocks block (reached_within blocks block (slice_get R.blocks block) refl h.1));
-          few = subst (λ (ds : List Description). length ds ≤ parameter_limit) same (parameters_few block);
-          described = subst (AllByRecursion IsDescription) same (parameters_described block);
+          few = subst (λ (ts : List ParameterType). length ts ≤ parameter_limit) same (parameters_few block);
+          described = subst (AllByRecursion IsParameterType) same (parameters_described block);
           area = area;
         }
     callee_fits blocks p (OfEntry number) is h area =

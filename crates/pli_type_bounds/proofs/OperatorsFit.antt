@@ -14,6 +14,12 @@ use Rattle.pli_base.specs.declared.syntax.PrefixOperator.{PrefixOperator}
 use Rattle.pli_base.specs.declared.syntax.PrefixOperator.TheVariants as prefixes
 use Rattle.pli_map.specs.Description as described
 use Rattle.pli_map.specs.Description.{Description, Area, Array}
+use Rattle.pli_map.specs.Dimensions.{bound_of}
+use Rattle.pli_map.specs.ParameterTypes.{ParameterType, Stated, AnyString, AnyArray, ArrayOf, StructureOf}
+use Rattle.pli_map.specs.declared.dimension.WhichBound.{WhichBound}
+use Rattle.pli_map.specs.declared.dimension.WhichBound.TheVariants.{Low, High}
+use Rattle.pli_map.specs.declared.parameter.StringForm.{StringForm}
+use Rattle.pli_map.specs.declared.parameter.StringForm.TheVariants as forms
 use Rattle.pli_map.specs.declared.description.Bounds.{Bounds}
 use Rattle.pli_operation.specs.declared.operation.Operation.{Operation}
 use Rattle.pli_operation.specs.declared.operation.Operation.TheVariants.{ToCharacters, Add, Subtract, Multiply, Divide, Compare, Concatenate, And, Or, Rest, Substring}
@@ -25,24 +31,24 @@ use Rattle.pli_type.specs.Beginnings.{area_meant, whole_at}
 use Rattle.pli_type.specs.ExpressionTypes.{TypedValue, precision_of, precisions, all_operands, binary_digits, constant, within, null_offset, with_one, with_plus, with_minus, with_not}
 use Rattle.pli_type.specs.ExpressionTypes.{prefix_value, infix_value, on_numbers, sum_precision, product_precision, columns, width_of, decimal_digits}
 use Rattle.pli_type.specs.ExpressionTypes.{string_type, string_as, on_strings, as_bits, is_locator, as_pointer, as_offset, are_offsets, locators_compared, locators_beside, compared, comparison, concatenation, of_bits_alone}
-use Rattle.pli_type.specs.ExpressionTypes.{number_as_characters, as_characters, only_bits, suited, converted, string_conversions, bit_conversions, suiting, printed_from}
-use Rattle.pli_type.specs.ExpressionTypes.{pointer_conversion, offset_conversion, conversion, null_as_offset, unconverted, type_of}
+use Rattle.pli_type.specs.ExpressionTypes.{number_as_characters, as_characters, only_bits, suited, suited_to_form, converted, string_conversions, bit_conversions, form_conversions, suiting, printed_from}
+use Rattle.pli_type.specs.ExpressionTypes.{pointer_conversion, offset_conversion, conversion, conversion_to, null_as_offset, unconverted, type_of}
 use Rattle.pli_type.specs.FunctionCalls.{Meant, OneValue, WholeAggregate, meant_as, Argument, Denoted, DenotesVariable, DenotesResult, DenotesEmpty, meant_by}
-use Rattle.pli_type.specs.FunctionCalls.{call_type, operation_of, calculation, of_values, bound_value, bound_in, the_bound, generations_in, generations_of, address_in, address_of}
+use Rattle.pli_type.specs.FunctionCalls.{call_type, operation_of, calculation, of_values, bound_value, bound_among, bound_there, bound_in, the_bound, generations_in, generations_of, address_in, address_of}
 use Rattle.pli_type.specs.FunctionCalls.{string_kind, of_one_kind, with_number, a_count, area_of, offset_within, pointer_within, located_within}
 use Rattle.pli_type.specs.FunctionCalls.{value_in, values_in, divided, of_arguments, or_bad_argument, function_called, number_type}
 use Rattle.pli_type.specs.References.{Role, Referent}
 use Rattle.pli_type.specs.declared.beginning.Beginning.{Beginning}
 use Rattle.pli_type.specs.declared.expression_type.ExpressionType.{ExpressionType}
 use Rattle.pli_type.specs.declared.expression_type.ExpressionType.TheVariants as types
-use Rattle.pli_type_tree.specs.TypedTree.{InSlot, OfProgram, NewestOf, Located, TypedOperation, Fit, Operate, TypedExpression, ByOperations, TypedReference, Whole, TypedUnit}
+use Rattle.pli_type_tree.specs.TypedTree.{InSlot, OfProgram, NewestOf, Located, TypedOperation, Fit, Operate, TypedExpression, ByOperations, ToPlace, TypedReference, Whole, TypedUnit}
 use Rattle.pli_type_tree.specs.ValueTypes.{longest}
 use Rattle.pli_type_laws.proofs.Constants.{below}
 use Rattle.pli_type_laws.proofs.Conversions.{OnGiven, given_if}
 use Rattle.pli_type_laws.proofs.Denotations.{OnRead}
 use Rattle.pli_type_laws.proofs.Operators.{given_map}
 use Rattle.pli_type_bounds.proofs.Meanings.{IsAreaNamed, IsKind, IsValue, IsReferent, IsMeant, IsDenoted, AreArgumentsGiven}
-use Rattle.pli_deck_laws.specs.Limits.{IsDescription, IsBound, AreBounds, IsOperation}
+use Rattle.pli_deck_laws.specs.Limits.{IsDescription, IsBound, AreBounds, IsOperation, IsParameterType}
 use Rattle.pli_deck_laws.specs.WellFormed.{IsExpression, IsReference, AreOperands, IsConversion}
 
 -- no number becomes more characters than a byte counts
@@ -65,7 +71,7 @@ module _ (t : TypedUnit) where
   constant_fits (constants.Characters text) = (omega (arith, length-take longest text), tt)
   constant_fits (constants.Bits bits) = (omega (arith, length-take longest bits), tt)
 
-  operands_fit : (es : List TypedExpression) → AllByRecursion (IsExpression t) es → AreOperands t (all_operands es)
+  pub operands_fit : (es : List TypedExpression) → AllByRecursion (IsExpression t) es → AreOperands t (all_operands es)
   operands_fit [] h = tt
   operands_fit (e ∷ es) h = (h.0, operands_fit es h.1)
 
@@ -227,6 +233,12 @@ module _ (t : TypedUnit) where
   suited_fits (described.Bit k) e kind h = only_bits_fit e kind h
   suited_fits other e kind h = tt
 
+  -- for a string of any length
+  pub suited_to_fits : (form : StringForm) (e : TypedExpression) (kind : ExpressionType) → IsExpression t e → OnGiven (IsExpression t) (suited_to_form form e kind)
+  suited_to_fits forms.Character e kind h = characters_fit e kind h
+  suited_to_fits forms.Varying e kind h = characters_fit e kind h
+  suited_to_fits forms.Bit e kind h = only_bits_fit e kind h
+
   pub converted_fits : (area : Option Beginning) → IsAreaNamed t area → (d : Description) (v : TypedValue) → IsDescription d → IsValue t v
       → OnGiven (IsExpression t) (converted 63 area d v)
   converted_fits area there described.Pointer v good h = pointer_fits v.expression v.kind h.0 h.1
@@ -291,14 +303,27 @@ module _ (t : TypedUnit) where
       given_map (AllByRecursion IsOperation) (IsConversion t) (λ operations. ByOperations (operations ++ Fit d ∷ [])) (suiting 63 d kind)
       (λ os h. then_fitted d os good h) (suiting_operations d kind)
 
+  form_operations : (form : StringForm) (kind : ExpressionType) → OnGiven (AllByRecursion IsOperation) (form_conversions form kind)
+  form_operations forms.Character kind = string_operations kind
+  form_operations forms.Varying kind = string_operations kind
+  form_operations forms.Bit kind = bit_operations kind
+
+  -- to a variable of a type
+  pub conversion_to_fits : (area : Option Beginning) → IsAreaNamed t area → (type : ParameterType) (kind : ExpressionType) → IsParameterType type
+      → IsKind t kind → OnGiven (IsConversion t) (conversion_to 63 area type kind)
+  conversion_to_fits area there (Stated d) kind good k = conversion_fits area there d kind good k
+  conversion_to_fits area there (AnyString form) kind good k =
+      given_map (AllByRecursion IsOperation) (IsConversion t) ToPlace (form_conversions form kind) (λ os h. h) (form_operations form kind)
+  conversion_to_fits area there type kind good k = tt
+
   -- a value that is kept before it is converted
   as_null : (e : TypedExpression) (kind : ExpressionType) → IsExpression t e → IsExpression t (null_as_offset e kind)
   as_null e types.Null h = null_offset_fits
   as_null e kind h = h
 
-  pub unconverted_fits : (d : Description) (v : TypedValue) → IsValue t v → IsExpression t (unconverted d v)
-  unconverted_fits described.Offset v h = as_null v.expression v.kind h.0
-  unconverted_fits d v h = h.0
+  pub unconverted_fits : (type : ParameterType) (v : TypedValue) → IsValue t v → IsExpression t (unconverted type v)
+  unconverted_fits (Stated described.Offset) v h = as_null v.expression v.kind h.0
+  unconverted_fits type v h = h.0
 
   -- ---- what is denoted
 
@@ -314,20 +339,26 @@ module _ (t : TypedUnit) where
   kinds_held area there (described.Array bounds element) = tt
   kinds_held area there (described.Structure ds) = tt
 
-  abbrev as_referent : TypedReference → Description → Bool → Option Beginning → Referent
-  as_referent r d passed area = record { reference = r; description = d; is_parameter = passed; area = area }
+  abbrev as_referent : TypedReference → ParameterType → Bool → Option Beginning → Referent
+  as_referent r type passed area = record { reference = r; description = type; is_parameter = passed; area = area }
 
-  held_fits : (r : TypedReference) (d : Description) (passed : Bool) (area : Option Beginning) → IsReferent t (as_referent r d passed area)
-      → IsMeant t (meant_by (as_referent r d passed area))
-  held_fits r (described.FixedBinary p) passed area h = (h.reference, tt)
-  held_fits r (described.Character k) passed area h = (h.reference, tt)
-  held_fits r (described.Varying k) passed area h = (h.reference, tt)
-  held_fits r (described.Bit k) passed area h = (h.reference, tt)
-  held_fits r described.Pointer passed area h = (h.reference, tt)
-  held_fits r described.Offset passed area h = (h.reference, h.area)
-  held_fits r (described.Area k) passed area h = (h.reference, tt)
-  held_fits r (described.Array bounds element) passed area h = h
-  held_fits r (described.Structure ds) passed area h = h
+  held_fits : (r : TypedReference) (type : ParameterType) (passed : Bool) (area : Option Beginning) → IsReferent t (as_referent r type passed area)
+      → IsMeant t (meant_by (as_referent r type passed area))
+  held_fits r (Stated (described.FixedBinary p)) passed area h = (h.reference, tt)
+  held_fits r (Stated (described.Character k)) passed area h = (h.reference, tt)
+  held_fits r (Stated (described.Varying k)) passed area h = (h.reference, tt)
+  held_fits r (Stated (described.Bit k)) passed area h = (h.reference, tt)
+  held_fits r (Stated described.Pointer) passed area h = (h.reference, tt)
+  held_fits r (Stated described.Offset) passed area h = (h.reference, h.area)
+  held_fits r (Stated (described.Area k)) passed area h = (h.reference, tt)
+  held_fits r (Stated (described.Array bounds element)) passed area h = h
+  held_fits r (Stated (described.Structure ds)) passed area h = h
+  held_fits r (AnyString forms.Character) passed area h = (h.reference, tt)
+  held_fits r (AnyString forms.Varying) passed area h = (h.reference, tt)
+  held_fits r (AnyString forms.Bit) passed area h = (h.reference, tt)
+  held_fits r (AnyArray dimensions element) passed area h = h
+  held_fits r (ArrayOf bounds element) passed area h = h
+  held_fits r (StructureOf types) passed area h = h
 
   pub denoted_fits : (d : Denoted) → IsDenoted t d → IsMeant t (meant_as d)
   denoted_fits (DenotesVariable r) h = held_fits r.reference r.description r.is_parameter r.area h
@@ -416,25 +447,40 @@ module _ (t : TypedUnit) where
   bound_fits : (x : ℤ) → IsBound x → IsValue t (bound_value x)
   bound_fits x h = (omega (arith, h), tt)
 
-  abbrev Keeps : (Bounds → ℤ) → Type 0
-  Keeps which = (b : Bounds) → AreBounds b → IsBound (which b)
+  bound_kept : (which : WhichBound) (b : Bounds) → AreBounds b → IsBound (bound_of which b)
+  bound_kept Low b h = h.1
+  bound_kept High b h = h.2
 
-  bound_at : (which : Bounds → ℤ) → Keeps which → (bs : List Bounds) (k : ℕ) → AllByRecursion AreBounds bs
-      → OnGiven (IsValue t) (option_map (λ b. bound_value (which b)) (slice_get bs k))
-  bound_at which keeps [] k h = tt
-  bound_at which keeps (b ∷ bs) zero h = bound_fits (which b) (keeps b h.0)
-  bound_at which keeps (b ∷ bs) (suc k) h = bound_at which keeps bs k h.1
+  bound_at : (which : WhichBound) (bs : List Bounds) (k : ℕ) → AllByRecursion AreBounds bs
+      → OnGiven (IsValue t) (option_map (λ b. bound_value (bound_of which b)) (slice_get bs k))
+  bound_at which [] k h = tt
+  bound_at which (b ∷ bs) zero h = bound_fits (bound_of which b) (bound_kept which b h.0)
+  bound_at which (b ∷ bs) (suc k) h = bound_at which bs k h.1
 
-  bound_within : (which : Bounds → ℤ) → Keeps which → (number : ℕ) (d : Description) → IsDescription d
-      → OnGiven (IsValue t) (bound_in which number d)
-  bound_within which keeps number (Array bs element) h =
-      given_if (IsValue t) (nat_le 1 number) _ (bound_at which keeps bs (number - 1) h.2)
-  bound_within which keeps number other h = tt
+  among_fits : (which : WhichBound) (number : ℕ) (bs : List Bounds) → AllByRecursion AreBounds bs → OnGiven (IsValue t) (bound_among which number bs)
+  among_fits which number bs h = given_if (IsValue t) (nat_le 1 number) _ (bound_at which bs (number - 1) h)
 
-  bound_of : (which : Bounds → ℤ) → Keeps which → (m : Meant) (written : Option ℕ) → IsMeant t m → OnGiven (IsValue t) (the_bound which m written)
-  bound_of which keeps (OneValue v) written h = tt
-  bound_of which keeps (WholeAggregate r) None h = tt
-  bound_of which keeps (WholeAggregate r) (Some number) h = bound_within which keeps number r.description h.described
+  -- a bound that is known where the array is
+  there_fits : (which : WhichBound) (number j : ℕ) (r : TypedReference) (b : Bool) → (nat_le 1 number && nat_le number j) ≡ b → j ≤ 8 → IsReference t r
+      → OnGiven (IsValue t) (if b then Some (bound_there which number r) else None)
+  there_fits which number j r true e few h =
+      let both = and_parts (nat_le 1 number) (nat_le number j) e in
+      let most = leb-true number j both.1 in
+      (((leb-true 1 number both.0, omega (arith, most, few)), h), tt)
+  there_fits which number j r false e few h = tt
+
+  bound_within : (which : WhichBound) (number : ℕ) (r : TypedReference) (type : ParameterType) → IsReference t r → IsParameterType type
+      → OnGiven (IsValue t) (bound_in which number r type)
+  bound_within which number r (Stated (Array bs element)) k h = among_fits which number bs h.2
+  bound_within which number r (ArrayOf bs element) k h = among_fits which number bs h.1
+  bound_within which number r (AnyArray j element) k h =
+      let few = h.0.1 in there_fits which number j r (nat_le 1 number && nat_le number j) refl few k
+  bound_within which number r type k h = tt
+
+  the_bound_fits : (which : WhichBound) (m : Meant) (written : Option ℕ) → IsMeant t m → OnGiven (IsValue t) (the_bound which m written)
+  the_bound_fits which (OneValue v) written h = tt
+  the_bound_fits which (WholeAggregate r) None h = tt
+  the_bound_fits which (WholeAggregate r) (Some number) h = bound_within which number r.reference r.description h.reference h.described
 
   -- ALLOCATION
   generations_fit : (r : TypedReference) → IsReference t r → OnGiven (IsValue t) (generations_in r)
@@ -457,12 +503,12 @@ module _ (t : TypedUnit) where
   address_given DenotesEmpty h = tt
 
   -- POINTER and OFFSET
-  pub area_fits : (r : TypedReference) (d : Description) → IsReference t r → IsAreaNamed t (area_meant r d)
-  area_fits (Whole (InSlot outward slot)) (Area bytes) h = h
-  area_fits (Whole (OfProgram number)) (Area bytes) h = h
-  area_fits (Whole (NewestOf number)) (Area bytes) h = h
-  area_fits (Whole (Located locator whole)) (Area bytes) h = tt
-  area_fits r d h = tt
+  pub area_fits : (r : TypedReference) (type : ParameterType) → IsReference t r → IsAreaNamed t (area_meant r type)
+  area_fits (Whole (InSlot outward slot)) (Stated (Area bytes)) h = h
+  area_fits (Whole (OfProgram number)) (Stated (Area bytes)) h = h
+  area_fits (Whole (NewestOf number)) (Stated (Area bytes)) h = h
+  area_fits (Whole (Located locator whole)) (Stated (Area bytes)) h = tt
+  area_fits r type h = tt
 
   pub area_given : (d : Denoted) → IsDenoted t d → IsAreaNamed t (area_of d)
   area_given (DenotesVariable r) h = area_fits r.reference r.description h.reference
@@ -514,8 +560,8 @@ module _ (t : TypedUnit) where
   arguments_give : (function : BuiltInFunction) (gs : List Argument) → AreArgumentsGiven t gs → OnGiven (IsValue t) (of_arguments 63 function gs)
   arguments_give functions.Divide (x ∷ y ∷ p ∷ []) h =
       division_fits (meant_as x.denoted) (meant_as y.denoted) p.written (denoted_fits x.denoted h.0) (denoted_fits y.denoted h.1.0)
-  arguments_give functions.LowBound (a ∷ n ∷ []) h = bound_of (λ b. b.low) (λ b k. k.1) (meant_as a.denoted) n.written (denoted_fits a.denoted h.0)
-  arguments_give functions.HighBound (a ∷ n ∷ []) h = bound_of (λ b. b.high) (λ b k. k.2) (meant_as a.denoted) n.written (denoted_fits a.denoted h.0)
+  arguments_give functions.LowBound (a ∷ n ∷ []) h = the_bound_fits Low (meant_as a.denoted) n.written (denoted_fits a.denoted h.0)
+  arguments_give functions.HighBound (a ∷ n ∷ []) h = the_bound_fits High (meant_as a.denoted) n.written (denoted_fits a.denoted h.0)
   arguments_give functions.Allocation (a ∷ []) h = generations_given a.denoted h.0
   arguments_give functions.Address (a ∷ []) h = address_given a.denoted h.0
   arguments_give functions.Null [] h = (refl, tt)

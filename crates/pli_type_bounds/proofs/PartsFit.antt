@@ -11,8 +11,7 @@ use Rattle.std.specs.Int.{next_multiple_of}
 use Rattle.pli_map.specs.Sizes.{extent_of, count_of, alignment_of, size_of, stride_of}
 use Rattle.pli_map.specs.declared.description.Bounds.{Bounds}
 use Rattle.pli_map.proofs.Places.{member_inside}
-use Rattle.pli_type.specs.Names.{NamedVariable}
-use Rattle.pli_type.specs.References.{StridedPart, strides_of, element_of, member_of, part_on, part_of, whole_part, with_subscripts}
+use Rattle.pli_type.specs.References.{StridedPart, strides_of, element_of, member_of, part_on, whole_part, with_subscripts}
 use Rattle.pli_type_tree.specs.TypedTree.{Stride}
 use Rattle.pli_type_name_laws.proofs.InitialHeld.{all_behind}
 use Rattle.pli_type_bounds.proofs.Meanings.{IsPart}
@@ -165,11 +164,11 @@ way_fits d path h small q e =
     as_part (size_of d) small q (path_lies (size_of d) small (strided 0 d []) path q start e)
 
 -- with so many subscripts
-pub parts_fit : (v : NamedVariable) → IsDescription v.whole → size_of v.whole ≤ 1000000 → (p q : StridedPart) (given : ℕ)
-    → part_of v ≡ Some p → with_subscripts given p ≡ Some q → IsPart q
-parts_fit v h small p q given e f =
-    let size : ℕ = size_of v.whole in
-    let start : Lies size (strided 0 v.whole []) = record { within = omega arith; described = h; strides = tt } in
+pub parts_fit : (d : Description) (path : List ℕ) → IsDescription d → size_of d ≤ 1000000 → (p q : StridedPart) (given : ℕ)
+    → part_on (whole_part d) path ≡ Some p → with_subscripts given p ≡ Some q → IsPart q
+parts_fit d path h small p q given e f =
+    let size : ℕ = size_of d in
+    let start : Lies size (strided 0 d []) = record { within = omega arith; described = h; strides = tt } in
     as_part size small q
     (subscripted size small given p q (nat_eq given (length (element_of p).strides)) (nat_eq given 0 && nat_eq (length p.strides) 0)
-    (path_lies size small (strided 0 v.whole []) v.path p start e) f)
+    (path_lies size small (strided 0 d []) path p start e) f)

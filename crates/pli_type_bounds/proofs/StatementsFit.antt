@@ -8,6 +8,7 @@ use Rattle.pli_base.specs.Statements.{ExternalProcedure, Statement, Numbered, Bo
 use Rattle.pli_base.specs.Statements.{count, body_count, list_count, alternative_count}
 use Rattle.pli_base.specs.declared.token.Fault.{Fault}
 use Rattle.pli_map.specs.Description.{Description}
+use Rattle.pli_map.specs.ParameterTypes.{ParameterType}
 use Rattle.pli_parse_expression.specs.Expressions.{Deeper}
 use Rattle.pli_resolve.specs.TreeBlocks as blocks
 use Rattle.pli_type.specs.NamedUnits.{names_based}
@@ -38,7 +39,7 @@ use Rattle.pli_deck_laws.specs.WellFormed.{HasBlock, IsHead, IsExpression, IsIte
 -- what is to be known of a unit: names mean what is within the limits, blocks have few parameters and templates
 -- within the limits, and so many of them are those of the typed unit; and where BASED variables are named is known
 pub record UnitFits (t : TypedUnit) (is_based : ℕ → Bool) (based : (blocks : List ℕ) → (block : ℕ) → List Template)
-    (areas : (blocks : List ℕ) → (block : ℕ) → Option Beginning) (meaning : (blocks : List ℕ) → ℕ → NamedAs) (parameters : (block : ℕ) → List Description)
+    (areas : (blocks : List ℕ) → (block : ℕ) → Option Beginning) (meaning : (blocks : List ℕ) → ℕ → NamedAs) (parameters : (block : ℕ) → List ParameterType)
     (returned : (block : ℕ) → Option Description) (automatic : (block : ℕ) → List Template) (size : ℕ) : Type 0 where
   pub names : (blocks : List ℕ) (at : ℕ) → length blocks ≤ link_limit → AllByRecursion (λ b. b < size) blocks → IsMeaning t (meaning blocks at)
   pub few : (block : ℕ) → length (parameters block) ≤ parameter_limit
@@ -152,7 +153,7 @@ module _ (t : TypedUnit) where
   put_fits false x y m n none h k = ((h.0, k.0), omega (arith, h.1, k.1))
 
 module _ (t : TypedUnit) (program : ExternalProcedure) (is_based : ℕ → Bool) (based : List ℕ → ℕ → List Template) (areas : List ℕ → ℕ → Option Beginning)
-    (meaning : List ℕ → ℕ → NamedAs) (parameters : ℕ → List Description) (returned : ℕ → Option Description) (automatic : ℕ → List Template)
+    (meaning : List ℕ → ℕ → NamedAs) (parameters : ℕ → List ParameterType) (returned : ℕ → Option Description) (automatic : ℕ → List Template)
     (globals : List Global) (size : ℕ) (fits : UnitFits t is_based based areas meaning parameters returned automatic size) where
   abbrev U : NamedUnit
   U = unit_with program is_based based areas meaning parameters returned automatic globals

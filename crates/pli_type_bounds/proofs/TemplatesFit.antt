@@ -22,7 +22,7 @@ use Rattle.pli_map.specs.Parts.{PlacedPart, moved}
 use Rattle.pli_map.specs.Scalars.{is_scalar}
 use Rattle.pli_map.specs.Sizes.{alignment_of, count_of, size_of, stride_of}
 use Rattle.pli_map.specs.Values.{holds}
-use Rattle.pli_resolve.specs.Symbols.{Symbol, SymbolKind, Variable, Member, Label, Procedure, Entry, BuiltIn}
+use Rattle.pli_resolve.specs.Symbols.{Symbol, SymbolKind, Variable, OpenParameter, Member, Label, Procedure, Entry, BuiltIn}
 use Rattle.pli_resolve.specs.declared.symbol.StorageClass.{StorageClass}
 use Rattle.pli_type.specs.InitialScalars.{counted_from, scalars_on, scalars_in_member, as_held, each_with, values_written, InitialItem, initial_scalars, template_of}
 use Rattle.pli_type.specs.NamedUnits.{is_plain, all_plain, may_stand, is_stored, is_global, kind_of_class, member_items, template_at, templates_from}
@@ -41,7 +41,8 @@ use Rattle.pli_value.specs.Value.{Value, Number, Characters, Bits, Located}
 use Rattle.pli_type_name_laws.proofs.InitialHeld.{all_behind}
 use Rattle.pli_resolve_bounds.specs.SymbolBounds.{IsLimited}
 use Rattle.pli_initial_laws.specs.InitialCounts.{HasFewInitial, HaveFewInitial}
-use Rattle.pli_deck_laws.specs.Limits.{IsDescription, IsConstant, IsInitial, IsMade, IsTemplate, IsGlobal, word_limit}
+use Rattle.pli_type_bounds.proofs.TypesFit.{all_taken}
+use Rattle.pli_deck_laws.specs.Limits.{IsDescription, IsConstant, IsInitial, IsTemplate, IsGlobal, word_limit}
 
 not_true : false ≡ true → ⊥
 not_true e = absurd (cc)
@@ -300,6 +301,7 @@ module _ (is_such : StorageClass → Description → Bool) (stored : (class : St
       → AllByRecursion IsTemplate (template_at is_such all number kind)
   symbol_fits number (Variable d class scope values area) h few =
       one_fits class d (record { path = []; values = values } ∷ member_items number all) (is_such class d) refl h.0 (omega (arith, few.0, few.1))
+  symbol_fits number (OpenParameter type slot area) h few = tt
   symbol_fits number (Member root path values area) h few = tt
   symbol_fits number (Label statement) h few = tt
   symbol_fits number (Procedure block returned area) h few = tt
@@ -315,11 +317,6 @@ module _ (is_such : StorageClass → Description → Bool) (stored : (class : St
 
 -- ---- globals
 
--- what may be made is described
-pub all_described : (ds : List Description) → AllByRecursion IsMade ds → AllByRecursion IsDescription ds
-all_described [] h = tt
-all_described (d ∷ ds) h = (h.0.0, all_described ds h.1)
-
 scoped_fit : (scope : ScopeAttribute) (kind : VariableKind) (name : Name) (ts : List Template) → AllByRecursion IsTemplate ts
     → AllByRecursion IsGlobal (map (global_of scope kind name) ts)
 scoped_fit scope kind name [] h = tt
@@ -332,10 +329,11 @@ module _ (all : List Symbol) where
   global_fits number name (Variable d class scope values area) h few =
       scoped_fit scope (kind_of_class class) name (template_at (is_global 63) all number (Variable d class scope values area))
       (symbol_fits (is_global 63) (global_stored 63) all number (Variable d class scope values area) h few)
+  global_fits number name (OpenParameter type slot area) h few = tt
   global_fits number name (Member root path values area) h few = tt
   global_fits number name (Label statement) h few = tt
   global_fits number name (Procedure block returned area) h few = tt
-  global_fits number name (Entry parameters returned area) h few = ((h.0, all_described parameters h.1, h.2), tt)
+  global_fits number name (Entry parameters returned area) h few = ((h.0, all_taken parameters h.1, h.2), tt)
   global_fits number name BuiltIn h few = tt
 
   -- with their tokens

@@ -1,23 +1,21 @@
 -- Calls of built-in functions.
-use Rattle.std.proofs.Common.{◌≡◌, ℕ, ◌<◌, ◌-◌, Bool, true, List, [], ◌∷◌, length, Option, Some, None, refl, ap, ◌∙◌, sym}
-use Rattle.std.proofs.Common.{arith, option_map, if◌then◌else◌, take, ℤ, ◌++◌, map}
+use Rattle.std.proofs.Common.{◌≡◌, ◌⊎◌, inl, inr, ℕ, ◌<◌, ◌≤◌, ◌-◌, nat_le, ◌&&◌, Bool, true, false, List, [], ◌∷◌, length, Option, Some, None, refl, ap, ◌∙◌, sym}
+use Rattle.std.proofs.Common.{arith, option_map, if◌then◌else◌, take, ◌++◌, map}
 use Rattle.std.proofs.lemmas.List.{length-append, length-map}
 use Rattle.std.specs.Prelude.{option_and_then}
 use Rattle.std.specs.Prelude.{slice_get}
-use Rattle.std.proofs.lemmas.Bool.{le-leb, false≢true}
-use Rattle.pli_map.specs.Description as described
-use Rattle.pli_map.specs.Description.{Description, Array}
+use Rattle.std.proofs.lemmas.Bool.{cases_lt, le-leb, leb-true, false≢true}
+use Rattle.pli_map.specs.Dimensions.{bound_of}
 use Rattle.pli_map.specs.declared.description.Bounds.{Bounds}
+use Rattle.pli_map.specs.declared.dimension.WhichBound.{WhichBound}
 use Rattle.pli_type.specs.ExpressionTypes.{TypedValue}
 use Rattle.pli_resolve.specs.declared.built_in.BuiltInFunction.{BuiltInFunction}
 use Rattle.pli_resolve.specs.declared.built_in.BuiltInFunction.TheVariants as functions
-use Rattle.pli_type.specs.FunctionCalls.{Meant, OneValue, WholeAggregate, meant_by, meant_as, bound_value, bound_in}
+use Rattle.pli_type.specs.FunctionCalls.{Meant, OneValue, WholeAggregate, meant_as, bound_value, bound_among}
 use Rattle.pli_type.specs.FunctionCalls.{address_of, area_of, the_bound, value_in, divided, Argument, located_within, of_values, of_arguments}
 use Rattle.pli_type.specs.FunctionCalls.{values_in}
 use Rattle.pli_type.specs.declared.beginning.Beginning.{Beginning}
-use Rattle.pli_type.specs.References.{Referent}
-use Rattle.pli_type_tree.specs.TypedTree.{TypedReference}
-use Rattle.pli_type_expression.specs.Bounded.{is_bound}
+use Rattle.pli_type_expression.specs.Bounded.{bound_given, dimension_given, if_dimension, is_bound, which_bound}
 use Rattle.pli_type_expression.specs.declared.argument.Argument.{Argument as Code}
 use Rattle.pli_type_expression.specs.views.TypingView.{argument_view, denoted_view}
 use Rattle.pli_type_expression.specs.Quotients.{precision_written, quotient_of}
@@ -26,34 +24,41 @@ use Rattle.pli_type_expression.specs.declared.within.LocatorFunction.{LocatorFun
 use Rattle.pli_type_expression.specs.declared.within.LocatorFunction.TheVariants as locators
 
 -- the bounds of a dimension, counted from 1
-pub bound_found : (which : Bounds → ℤ) (number : ℕ) (bounds : List Bounds) (element : Description)
-    (b : Option Bounds) → 0 < number → b ≡ slice_get bounds (number - 1)
-    → option_map (λ b. bound_value (which b)) b ≡ bound_in which number (Array bounds element)
-bound_found which number bounds element b stands e =
-    let given : Option TypedValue = option_map (λ b. bound_value (which b)) (slice_get bounds (number - 1)) in
-    ap (option_map (λ b. bound_value (which b))) e
-    ∙ ap (λ t. if t then given else None) (sym (le-leb 1 number (omega arith)))
+pub bound_found : (which : WhichBound) (number : ℕ) (bounds : List Bounds) (b : Option Bounds) → (number ≡ 0 → ⊥) → b ≡ slice_get bounds (number - 1)
+    → option_map (λ b. bound_value (bound_of which b)) b ≡ bound_among which number bounds
+bound_found which number bounds b stands e =
+    let given : Option TypedValue = option_map (λ b. bound_value (bound_of which b)) (slice_get bounds (number - 1)) in
+    let some : 1 ≤ number = elim (cases_lt 0 number) [
+      | inl lt ↦ omega (arith, lt)
+      | inr past ↦ absurd (stands (omega (arith, past)))
+    ] in
+    ap (option_map (λ b. bound_value (bound_of which b))) e
+    ∙ ap (λ t. if t then given else None) (sym (le-leb 1 number some))
 
--- only an aggregate has bounds
-pub bound_of_variable : (which : Bounds → ℤ) (number : ℕ) (r : Referent)
-    → the_bound which (meant_by r) (Some number) ≡ bound_in which number r.description
-bound_of_variable which number r = by_description r.reference r.description r.is_parameter r.area
+pub no_dimension : (which : WhichBound) (number : ℕ) (bounds : List Bounds) → number ≡ 0 → None ≡ bound_among which number bounds
+no_dimension which number bounds e = ap (λ n. bound_among which n bounds) (sym e)
+
+-- a dimension that is known where it runs
+pub known_there : (v : TypedValue) (number dimensions : ℕ) → (number ≡ 0 → ⊥) → number ≤ dimensions → Some v ≡ if_dimension number dimensions v
+known_there v number dimensions stands within =
+    let some : 1 ≤ number = elim (cases_lt 0 number) [
+      | inl lt ↦ omega (arith, lt)
+      | inr past ↦ absurd (stands (omega (arith, past)))
+    ] in
+    ap (λ t. if t && true then Some v else None) (sym (le-leb 1 number some))
+    ∙ ap (λ t. if nat_le 1 number && t then Some v else None) (sym (le-leb number dimensions within))
+
+pub known_nowhere : (v : TypedValue) (number dimensions : ℕ) → (number ≡ 0) ⊎ (dimensions < number) → None ≡ if_dimension number dimensions v
+known_nowhere v number dimensions (inl none) = ap (λ n. if_dimension n dimensions v) (sym none)
+known_nowhere v number dimensions (inr over) = by (nat_le 1 number) (nat_le number dimensions) refl
   where
-    by_description : (reference : TypedReference) (d : Description) (passed : Bool) (area : Option Beginning)
-        → the_bound which (meant_by (record { reference = reference; description = d; is_parameter = passed; area = area })) (Some number)
-        ≡ bound_in which number d
-    by_description reference (described.FixedBinary p) passed area = refl
-    by_description reference (described.Character n) passed area = refl
-    by_description reference (described.Varying n) passed area = refl
-    by_description reference (described.Bit n) passed area = refl
-    by_description reference described.Pointer passed area = refl
-    by_description reference described.Offset passed area = refl
-    by_description reference (described.Area n) passed area = refl
-    by_description reference (described.Array bounds d) passed area = refl
-    by_description reference (described.Structure _) passed area = refl
+    by : (a b : Bool) → nat_le number dimensions ≡ b → None ≡ (if a && b then Some v else None)
+    by false b e = refl
+    by true false e = refl
+    by true true e = absurd (omega (arith, over, leb-true number dimensions e))
 
--- and no number says which one
-pub bound_unwritten : (which : Bounds → ℤ) (m : Meant) → the_bound which m None ≡ None
+-- no number says which one
+pub bound_unwritten : (which : WhichBound) (m : Meant) → the_bound which m None ≡ None
 bound_unwritten which (OneValue v) = refl
 bound_unwritten which (WholeAggregate r) = refl
 
@@ -108,6 +113,48 @@ no_bound greatest functions.Null p gs h = absurd (false≢true p)
 no_bound greatest functions.Empty p gs h = absurd (false≢true p)
 no_bound greatest functions.Pointer p gs h = absurd (false≢true p)
 no_bound greatest functions.Offset p gs h = absurd (false≢true p)
+
+-- as the two arguments say
+pub none_bounded : (greatest : ℕ) (f : BuiltInFunction) → is_bound f ≡ true → (gs : List Argument) → dimension_given gs ≡ None
+    → None ≡ of_arguments greatest f gs
+none_bounded greatest f p gs h = no_bound greatest f p gs (two gs h)
+  where
+    two : (gs : List Argument) → dimension_given gs ≡ None → length gs ≡ 2 → ⊥
+    two [] h e = omega (arith, e)
+    two (a ∷ []) h e = omega (arith, e)
+    two (a ∷ b ∷ []) h e = cc
+    two (a ∷ b ∷ c ∷ gs) h e = omega (arith, e)
+
+bound_by : (greatest : ℕ) (f : BuiltInFunction) → is_bound f ≡ true → (a n : Argument)
+    → the_bound (which_bound f) (meant_as a.denoted) n.written ≡ of_arguments greatest f (a ∷ n ∷ [])
+bound_by greatest functions.LowBound p a n = refl
+bound_by greatest functions.HighBound p a n = refl
+bound_by greatest functions.Abs p a n = absurd (false≢true p)
+bound_by greatest functions.Max p a n = absurd (false≢true p)
+bound_by greatest functions.Min p a n = absurd (false≢true p)
+bound_by greatest functions.Mod p a n = absurd (false≢true p)
+bound_by greatest functions.Divide p a n = absurd (false≢true p)
+bound_by greatest functions.Sign p a n = absurd (false≢true p)
+bound_by greatest functions.Length p a n = absurd (false≢true p)
+bound_by greatest functions.Index p a n = absurd (false≢true p)
+bound_by greatest functions.Allocation p a n = absurd (false≢true p)
+bound_by greatest functions.Substring p a n = absurd (false≢true p)
+bound_by greatest functions.Address p a n = absurd (false≢true p)
+bound_by greatest functions.Null p a n = absurd (false≢true p)
+bound_by greatest functions.Empty p a n = absurd (false≢true p)
+bound_by greatest functions.Pointer p a n = absurd (false≢true p)
+bound_by greatest functions.Offset p a n = absurd (false≢true p)
+
+pub bound_by_given : (greatest : ℕ) (f : BuiltInFunction) → is_bound f ≡ true → (gs : List Argument) (written : Option ℕ) → dimension_given gs ≡ Some written
+    → bound_given (which_bound f) gs written ≡ of_arguments greatest f gs
+bound_by_given greatest f p [] written h = cc
+bound_by_given greatest f p (a ∷ []) written h = cc
+bound_by_given greatest f p (a ∷ n ∷ []) written h =
+    ap (λ w. the_bound (which_bound f) (meant_as a.denoted) w) (some_same (sym h)) ∙ bound_by greatest f p a n
+  where
+    some_same : {v w : Option ℕ} → Some v ≡ Some w → v ≡ w
+    some_same e = cc
+bound_by_given greatest f p (a ∷ n ∷ m ∷ gs) written h = cc
 
 -- nor generations
 

@@ -4,6 +4,7 @@ pub mod WrittenCalls
 pub mod CallLemmas
 pub mod LoopLemmas
 pub mod MeaningLemmas
+pub mod OpenLemmas
 pub mod PassingLemmas
 pub mod ReferenceLemmas
 pub mod SizeLemmas

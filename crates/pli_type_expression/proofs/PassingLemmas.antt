@@ -1,6 +1,6 @@
 -- Arguments as they are handed over, one behind another.
 use Rattle.std.proofs.Common.{◌≡◌, ℕ, Option, Some, None, List, [], ◌∷◌, ◌++◌, refl, ap, ◌∙◌, sym, option_map}
-use Rattle.pli_map.specs.Description.{Description}
+use Rattle.pli_map.specs.ParameterTypes.{ParameterType}
 use Rattle.pli_type.specs.FunctionCalls.{Argument, meant_as}
 use Rattle.pli_type.specs.ProcedureCalls.{passed, passed_place, passed_value, passed_before}
 use Rattle.pli_type_tree.specs.TypedTree.{TypedArguments, NoArgument}
@@ -21,7 +21,7 @@ pub before_none : (gs : List TypedArgument) → arguments_before gs NoArgument �
 before_none [] = refl
 before_none (g ∷ gs) = ap (argument_before g) (before_none gs)
 
-module _ (greatest : ℕ) (d : Description) (a : Argument) where
+module _ (greatest : ℕ) (d : ParameterType) (a : Argument) where
   -- as the parameter takes it, before others
   abbrev given : TypedArguments → Option TypedArguments
   given more = passed d (passed_place d a.denoted) (passed_value greatest d (meant_as a.denoted)) more

@@ -1,12 +1,15 @@
 //! Calls of built-in functions.
-ghost use Rattle.std.specs.Prelude.{◌≡◌, ◌<◌, ◌-◌, ℕ, ℤ, true, map, option_map, slice_get, IfOk};
-ghost use Rattle.pli_map.specs.declared.description.Bounds.{Bounds};
+ghost use Rattle.std.specs.Prelude.{◌≡◌, ◌<◌, ◌-◌, ℕ, true, map, option_map, slice_get, IfOk};
+ghost use Rattle.pli_map.specs.ParameterTypes as types;
 ghost use Rattle.pli_map.specs.views.DescriptionView.{description_view};
+ghost use Rattle.pli_map.specs.views.ParameterView.{type_seen, type_view};
 ghost use Rattle.pli_type.specs.FunctionCalls as spec;
 ghost use Rattle.pli_type.specs.views.ValueView.{value_view};
-ghost use Rattle.pli_type_expression.specs.Bounded.{is_bound};
+ghost use Rattle.pli_type_expression.specs.Bounded.{bound_given, dimension_given, if_dimension, is_bound, which_bound};
 ghost use Rattle.pli_type_expression.specs.Quotients.{precision_written, quotient_of};
 ghost use Rattle.pli_base.specs.answers.FailureAnswers.{Gives};
+ghost use Rattle.pli_type_tree.specs.TypedTree as tree;
+ghost use Rattle.pli_type_tree.specs.views.TypedView.{reference_view};
 ghost use Rattle.pli_type_expression.specs.views.TypingView.{argument_view, denoted_view, meant_view, role_view};
 
 use crate::answer::TypeError;
@@ -15,12 +18,13 @@ use crate::meaning::{Denoted, ExpressionMeaning};
 use crate::role::Role;
 use crate::within::{LocatorFunction, located_called};
 use pli_base::{Code, fault};
-use pli_map::{Bounds, Description};
+use pli_map::{Bounds, Description, ParameterType, TypeRef, WhichBound};
 use pli_resolve::BuiltInFunction;
 use pli_type::{
-    ExpressionType, TypedValue, address, call, empty_value, generations, null_value, quotient,
+    ExpressionType, TypedValue, address, bound_there, call, empty_value, generations, null_value,
+    quotient,
 };
-use pli_type_tree::TypedExpression;
+use pli_type_tree::{TypedExpression, TypedReference};
 use pli_value::Value;
 use std::alloc::{AllocError, Global};
 
@@ -153,45 +157,161 @@ fn dimension(bounds: &[Bounds], number: u64) -> Option<Bounds>
     bounds.get(number as usize - 1).copied()
 }
 
-/// The bounds of the dimension of this number, from 1, of an array.
-fn bounds_in(description: &Description, number: u64) -> Option<Bounds>
-    ensures { (which : Bounds → ℤ) → option_map (λ b. spec.bound_value (which b)) result
-        ≡ spec.bound_in which number (description_view description.now) }
+/// A bound of the dimension of this number, from 1, of an array of these bounds.
+#[tactic(auto, using(crate::proofs::CallLemmas::bound_found, crate::proofs::CallLemmas::no_dimension))]
+fn bound_among(which: WhichBound, bounds: &[Bounds], number: u64) -> Option<TypedValue>
+    ensures { option_map value_view result ≡ spec.bound_among which number bounds.now }
+{
+    if number == 0 {
+        return None;
+    }
+    let own = dimension(bounds, number)?;
+    Some(bound_value(which.of(own)))
+}
+
+/// A bound of the dimension of this number, from 1, of an array of a description.
+fn bound_described(which: WhichBound, description: &Description, number: u64) -> Option<TypedValue>
+    ensures { (reference : tree.TypedReference) → option_map value_view result
+        ≡ spec.bound_in which number reference (types.Stated (description_view description.now)) }
 {
     match description {
-        Description::Array { bounds, .. } if number > 0 => dimension(bounds, number),
+        Description::Array { bounds, .. } => bound_among(which, bounds, number),
         _ => None,
     }
 }
 
-/// The bounds of the dimension whose number is written, of an array that is meant as a whole.
-#[tactic(auto, using(crate::proofs::CallLemmas::bound_of_variable))]
-fn bounds_of(denoted: &Denoted<'_>, written: Option<u64>) -> Option<Bounds>
-    ensures { (which : Bounds → ℤ) → option_map (λ b. spec.bound_value (which b)) result
-        ≡ spec.the_bound which (spec.meant_as (denoted_view denoted.now)) written }
+/// A bound of the dimension of this number, from 1, of an array of so many dimensions that is known where it runs.
+#[tactic(auto, using(crate::proofs::CallLemmas::known_there, crate::proofs::CallLemmas::known_nowhere))]
+fn bound_known(
+    which: WhichBound,
+    dimensions: u8,
+    number: u64,
+    reference: TypedReference,
+) -> Option<TypedValue>
+    ensures { option_map value_view result ≡ if_dimension number dimensions
+        (spec.bound_there which number (reference_view reference)) }
 {
-    match (denoted, written) {
-        (Denoted::Variable(referent), Some(number)) => bounds_in(referent.description, number),
-        _ => None,
+    if number == 0 || number > u64::from(dimensions) {
+        drop(reference);
+        return None;
+    }
+    Some(bound_there(which, number as u8, reference))
+}
+
+/// A bound of the dimension of this number, from 1, of an array of this type, to which a reference leads.
+fn bound_of_type(
+    which: WhichBound,
+    taken: &ParameterType,
+    number: u64,
+    reference: TypedReference,
+) -> Option<TypedValue>
+    ensures { option_map value_view result ≡ spec.bound_in which number (reference_view reference)
+        (type_view taken.now) }
+{
+    match taken {
+        ParameterType::AnyArray { dimensions, .. } => {
+            bound_known(which, *dimensions, number, reference)
+        }
+        ParameterType::ArrayOf { bounds, .. } => {
+            drop(reference);
+            bound_among(which, bounds, number)
+        }
+        ParameterType::Stated(description) => {
+            drop(reference);
+            bound_described(which, description, number)
+        }
+        _ => {
+            drop(reference);
+            None
+        }
+    }
+}
+
+/// A bound of the dimension of this number, from 1, of an array that is meant as a whole, to which a reference leads: a
+/// constant where it is stated.
+fn bound_in(
+    which: WhichBound,
+    taken: TypeRef<'_>,
+    number: u64,
+    reference: TypedReference,
+) -> Option<TypedValue>
+    ensures { option_map value_view result ≡ spec.bound_in which number (reference_view reference) (type_seen taken.entry) }
+{
+    match taken {
+        TypeRef::Stated(description) => {
+            drop(reference);
+            bound_described(which, description, number)
+        }
+        TypeRef::Open(taken) => bound_of_type(which, taken, number, reference),
+    }
+}
+
+/// A bound of an array that is denoted, in the dimension whose number is written.
+#[tactic(auto, using(crate::proofs::CallLemmas::bound_unwritten))]
+fn bound_of(which: WhichBound, denoted: Denoted<'_>, written: Option<u64>) -> Option<TypedValue>
+    ensures { option_map value_view result
+        ≡ spec.the_bound which (spec.meant_as (denoted_view denoted.entry)) written }
+{
+    let Some(number) = written else {
+        drop(denoted);
+        return None;
+    };
+    match denoted.as_expression() {
+        ExpressionMeaning::Aggregate(referent) => {
+            bound_in(which, referent.description, number, referent.reference)
+        }
+        ExpressionMeaning::Value(value) => {
+            drop(value);
+            None
+        }
+    }
+}
+
+/// The number of a dimension that the second of two arguments is, if it is one.
+fn dimension_given(arguments: &[Argument<'_>]) -> Option<Option<u64>>
+    ensures { result ≡ dimension_given (map argument_view arguments.now) }
+{
+    let [_array, number] = arguments else {
+        return None;
+    };
+    Some(number.written)
+}
+
+/// A bound of the first of these arguments.
+fn bound_given(
+    which: WhichBound,
+    arguments: Vec<Argument<'_>>,
+    written: Option<u64>,
+) -> Option<TypedValue>
+    ensures { option_map value_view result ≡ bound_given which (map argument_view arguments.entry.items) written }
+{
+    let mut arguments = arguments.into_iter();
+    let Some(array) = arguments.next() else {
+        return None;
+    };
+    bound_of(which, array.denoted, written)
+}
+
+/// Which bound a function gives.
+fn which_bound(function: BuiltInFunction) -> WhichBound
+    ensures { result ≡ which_bound function }
+{
+    match function {
+        BuiltInFunction::HighBound => WhichBound::High,
+        _ => WhichBound::Low,
     }
 }
 
 /// What LBOUND or HBOUND gives of an array and the number of a dimension.
-fn bound_called(function: BuiltInFunction, arguments: &[Argument<'_>]) -> Option<TypedValue>
+fn bound_called(function: BuiltInFunction, arguments: Vec<Argument<'_>>) -> Option<TypedValue>
     requires { is_bound function ≡ true }
     ensures { (greatest : ℕ) → option_map value_view result
-        ≡ spec.of_arguments greatest function (map argument_view arguments.now) }
+        ≡ spec.of_arguments greatest function (map argument_view arguments.entry.items) }
 {
-    let [array, number] = arguments else {
+    let Some(written) = dimension_given(arguments.as_slice()) else {
         return None;
     };
-    let bounds = bounds_of(&array.denoted, number.written)?;
-    let bound = if function == BuiltInFunction::LowBound {
-        bounds.low
-    } else {
-        bounds.high
-    };
-    Some(bound_value(bound))
+    bound_given(which_bound(function), arguments, written)
 }
 
 /// How many generations a whole CONTROLLED variable has that is denoted; none of anything else.
@@ -303,7 +423,7 @@ fn of_arguments(
     match function {
         BuiltInFunction::Divide => divide_called(alloc, greatest, arguments),
         BuiltInFunction::LowBound | BuiltInFunction::HighBound => {
-            Ok(bound_called(function, arguments.as_slice()))
+            Ok(bound_called(function, arguments))
         }
         BuiltInFunction::Allocation => Ok(allocation_called(arguments.as_slice())),
         BuiltInFunction::Address => Ok(address_called(arguments)),

@@ -1,9 +1,11 @@
 //! What stands in front of names.
 ghost use Rattle.std.specs.Prelude.{◌≡◌, ℕ, Some, IfOk, option_map};
+ghost use Rattle.pli_map.specs.ParameterTypes as types;
 ghost use Rattle.pli_map.specs.views.DescriptionView.{description_view};
+ghost use Rattle.pli_map.specs.views.ParameterView.{type_seen};
 ghost use Rattle.pli_type.specs.Beginnings.{root_at};
 ghost use Rattle.pli_type.specs.Names.{IsBased};
-ghost use Rattle.pli_type.specs.References.{NotLocated, locator_at, pointer_of, root_by};
+ghost use Rattle.pli_type.specs.References.{NotLocated, locator_at, passed_root, pointer_of, root_by};
 ghost use Rattle.pli_type.specs.Typing.{as_locator};
 ghost use Rattle.pli_type_expression.specs.views.TypingView.{denoted_view, locator_view, variable_view};
 ghost use Rattle.pli_type_names.specs.views.StorageView.{locator_view as named_view, storage_view};
@@ -13,7 +15,7 @@ ghost use Rattle.pli_type_tree.specs.views.TypedView.{expression_view, reference
 use crate::meaning::{Denoted, Referent};
 use pli_map::Description;
 use pli_type::{Beginning, pointer_into};
-use pli_type_names::{NamedLocator, NamedStorage, NamedVariable};
+use pli_type_names::{NamedLocator, NamedStorage};
 use pli_type_tree::{Root, TypedExpression, TypedReference};
 use std::alloc::{AllocError, Global};
 
@@ -48,22 +50,42 @@ impl LocatorVariable {
     }
 }
 
+/// What leads to BASED variables of what is of this description; none of what is no POINTER, and no OFFSET that names
+/// an area.
+fn described_locator(
+    reference: TypedReference,
+    description: &Description,
+    area: Option<Beginning>,
+) -> Option<LocatorVariable>
+    ensures { option_map variable_view result
+        ≡ locator_at (reference_view reference) (types.Stated (description_view description.now)) area }
+{
+    match (description, area) {
+        (Description::Pointer, _) => Some(LocatorVariable {
+            reference,
+            area: None,
+        }),
+        (Description::Offset, Some(area)) => Some(LocatorVariable {
+            reference,
+            area: Some(area),
+        }),
+        _ => {
+            drop(reference);
+            None
+        }
+    }
+}
+
 /// A variable or a part of one that leads to BASED ones; none of what is no POINTER, and no OFFSET that names an area.
 pub fn locator_at(referent: Referent<'_>) -> Option<LocatorVariable>
     ensures { option_map variable_view result
         ≡ locator_at (reference_view referent.entry.reference)
-        (description_view referent.entry.description.now) referent.entry.area }
+        (type_seen referent.entry.description) referent.entry.area }
 {
-    match (referent.description, referent.area) {
-        (Description::Pointer, _) => Some(LocatorVariable {
-            reference: referent.reference,
-            area: None,
-        }),
-        (Description::Offset, Some(area)) => Some(LocatorVariable {
-            reference: referent.reference,
-            area: Some(area),
-        }),
-        _ => {
+    let area = referent.area;
+    match referent.description.stated() {
+        Some(description) => described_locator(referent.reference, description, area),
+        None => {
             drop(referent);
             None
         }
@@ -148,23 +170,43 @@ fn implied_root(
 /// leads to, a written one in the place of the one that BASED names; any other where it is, without a locator (X3.74).
 pub(crate) fn root_by(
     alloc: Global,
-    variable: NamedVariable<'_, '_>,
+    storage: NamedStorage,
+    whole: &Description,
     locator: LocatorBefore,
 ) -> Result<Option<Box<Root>>, AllocError>
     ensures { IfOk result (λ made. option_map (λ r. root_view r.value) made
-        ≡ root_by (storage_view variable.entry.storage) (description_view variable.entry.whole.now)
-        (locator_view locator)) }
+        ≡ root_by (storage_view storage) (description_view whole.now) (locator_view locator)) }
 {
-    match (variable.storage, locator) {
+    match (storage, locator) {
         (NamedStorage::Begins { begins, .. }, LocatorBefore::NotLocated) => begun_root(
             alloc, begins,
         ),
         (NamedStorage::Based { implied, .. }, LocatorBefore::NotLocated) => {
-            implied_root(alloc, implied, variable.whole)
+            implied_root(alloc, implied, whole)
         }
         (NamedStorage::Based { .. }, LocatorBefore::LocatedBy(locator)) => {
-            located(alloc, locator, variable.whole)
+            located(alloc, locator, whole)
         }
+        (_, locator) => {
+            drop(locator);
+            Ok(None)
+        }
+    }
+}
+
+/// Where a reference to a parameter begins in which a `*` stands: no locator stands in front of its name.
+pub(crate) fn passed_root(
+    alloc: Global,
+    storage: NamedStorage,
+    locator: LocatorBefore,
+) -> Result<Option<Box<Root>>, AllocError>
+    ensures { IfOk result (λ made. option_map (λ r. root_view r.value) made
+        ≡ passed_root (storage_view storage) (locator_view locator)) }
+{
+    match (storage, locator) {
+        (NamedStorage::Begins { begins, .. }, LocatorBefore::NotLocated) => begun_root(
+            alloc, begins,
+        ),
         (_, locator) => {
             drop(locator);
             Ok(None)

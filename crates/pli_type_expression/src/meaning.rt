@@ -11,15 +11,15 @@ use crate::answer::TypeError;
 use crate::token::first_token;
 use pli_base::syntax::Expression;
 use pli_base::{Code, fault};
-use pli_map::Description;
+use pli_map::TypeRef;
 use pli_type::{Beginning, ExpressionType, TypedValue, area_meant, empty_value};
 use pli_type_tree::{TypedExpression, TypedReference};
 
-/// A variable or a part of one, a scalar, an area or an aggregate, with its description.
+/// A variable or a part of one, a scalar, an area or an aggregate, with its type.
 #[derive(Drop)]
 pub struct Referent<'a> {
     pub reference: TypedReference,
-    pub description: &'a Description,
+    pub description: TypeRef<'a>,
     /// Whether it is, or is in, a parameter.
     pub is_parameter: bool,
     /// The area that OFFSET in its declaration names, seen from where it is used.
@@ -51,7 +51,7 @@ impl<'a> Referent<'a> {
     pub(crate) fn as_expression(self) -> ExpressionMeaning<'a>
         ensures { meant_view result ≡ meant_by (referent_view self.entry) }
     {
-        match ExpressionType::of(self.description, self.area) {
+        match ExpressionType::held(self.description, self.area) {
             None => ExpressionMeaning::Aggregate(self),
             Some(kind) => ExpressionMeaning::Value(TypedValue {
                 expression: TypedExpression::Held(self.reference),

@@ -1,6 +1,8 @@
 //! Calls of procedures and of functions of the program.
-ghost use Rattle.std.specs.Prelude.{◌≡◌, length, map, option_map, None, IfOk};
+ghost use Rattle.std.specs.Prelude.{◌≡◌, ℕ, length, map, option_map, None, IfOk};
+ghost use Rattle.pli_map.specs.ParameterTypes as types;
 ghost use Rattle.pli_map.specs.views.DescriptionView.{description_view};
+ghost use Rattle.pli_map.specs.views.ParameterView.{type_seen, type_view};
 ghost use Rattle.pli_type.specs.FunctionCalls.{meant_as, meant_by};
 ghost use Rattle.pli_type.specs.Names as names;
 ghost use Rattle.pli_type.specs.ProcedureCalls as spec;
@@ -20,8 +22,11 @@ use crate::meaning::{Denoted, ExpressionMeaning, Referent};
 use crate::names::greatest;
 use crate::segment::Segment;
 use pli_base::{Code, fault};
-use pli_map::{Description, is_area};
-use pli_type::{Beginning, ExpressionType, TypedValue, area_meant, converted, empty_value};
+use pli_map::{Description, ParameterType, StringForm, TypeRef, agrees};
+use pli_type::{
+    Beginning, ExpressionType, TypedValue, area_meant, converted, empty_value, is_area_type,
+    suited_to_form,
+};
 use pli_type_names::{NamedProcedure, Naming};
 use pli_type_tree::{Callee, TypedArgument, TypedExpression};
 use std::alloc::{AllocError, Global};
@@ -34,8 +39,8 @@ fn dummy(
     meant: ExpressionMeaning<'_>,
 ) -> Result<Option<TypedArgument>, AllocError>
     ensures { IfOk result (λ passed. (more : tree.TypedArguments) → option_map (λ a. argument_before a more) passed
-        ≡ spec.passed (description_view description.now) None
-        (spec.passed_value greatest (description_view description.now) (meant_view meant.entry)) more) }
+        ≡ spec.passed (types.Stated (description_view description.now)) None
+        (spec.passed_value greatest (types.Stated (description_view description.now)) (meant_view meant.entry)) more) }
 {
     let ExpressionMeaning::Value(value) = meant else {
         return Ok(None);
@@ -55,21 +60,79 @@ fn dummy(
     }
 }
 
-/// What denotes a variable of the parameter's very description is handed over as its place, an area where it is a whole
-/// one; anything else is none that suits, or a dummy argument.
+/// A value as a dummy argument of its own length, for a parameter that is a string of any length; none where it does
+/// not suit.
+fn string_dummy(
+    alloc: Global,
+    form: StringForm,
+    meant: ExpressionMeaning<'_>,
+) -> Result<Option<TypedArgument>, AllocError>
+    ensures { IfOk result (λ passed. (greatest : ℕ) (more : tree.TypedArguments) →
+        option_map (λ a. argument_before a more) passed
+        ≡ spec.passed (types.AnyString form) None
+        (spec.passed_value greatest (types.AnyString form) (meant_view meant.entry)) more) }
+{
+    let ExpressionMeaning::Value(value) = meant else {
+        return Ok(None);
+    };
+    match suited_to_form(alloc, form, value)? {
+        Some(value) => Ok(Some(TypedArgument::ByString { form, value })),
+        None => Ok(None),
+    }
+}
+
+/// A value as a dummy argument for a parameter of this type; an array takes none.
+fn dummy_of_type(
+    alloc: Global,
+    greatest: u8,
+    taken: &ParameterType,
+    meant: ExpressionMeaning<'_>,
+) -> Result<Option<TypedArgument>, AllocError>
+    ensures { IfOk result (λ passed. (more : tree.TypedArguments) → option_map (λ a. argument_before a more) passed
+        ≡ spec.passed (type_view taken.now) None
+        (spec.passed_value greatest (type_view taken.now) (meant_view meant.entry)) more) }
+{
+    match taken {
+        ParameterType::Stated(description) => dummy(alloc, greatest, description, meant),
+        ParameterType::AnyString(form) => string_dummy(alloc, *form, meant),
+        _ => {
+            drop(meant);
+            Ok(None)
+        }
+    }
+}
+
+/// A value as a dummy argument for a parameter, to whose type it is converted; none where it does not suit.
+fn dummy_for(
+    alloc: Global,
+    greatest: u8,
+    taken: TypeRef<'_>,
+    meant: ExpressionMeaning<'_>,
+) -> Result<Option<TypedArgument>, AllocError>
+    ensures { IfOk result (λ passed. (more : tree.TypedArguments) → option_map (λ a. argument_before a more) passed
+        ≡ spec.passed (type_seen taken.entry) None (spec.passed_value greatest (type_seen taken.entry) (meant_view meant.entry))
+        more) }
+{
+    match taken {
+        TypeRef::Stated(description) => dummy(alloc, greatest, description, meant),
+        TypeRef::Open(taken) => dummy_of_type(alloc, greatest, taken, meant),
+    }
+}
+
+/// What denotes a variable that agrees with the parameter is handed over as its place, an area where it is a whole one;
+/// anything else is none that suits, or a dummy argument.
 fn handed(
     alloc: Global,
     greatest: u8,
-    description: &Description,
+    taken: TypeRef<'_>,
     referent: Referent<'_>,
 ) -> Result<Option<TypedArgument>, AllocError>
     ensures { IfOk result (λ passed. (more : tree.TypedArguments) → option_map (λ a. argument_before a more) passed
-        ≡ spec.passed (description_view description.now)
-        (spec.place_of (reference_view referent.entry.reference) (description_view referent.entry.description.now))
-        (spec.passed_value greatest (description_view description.now) (meant_by (referent_view referent.entry)))
-        more) }
+        ≡ spec.passed (type_seen taken.entry)
+        (spec.place_of (reference_view referent.entry.reference) (type_seen referent.entry.description))
+        (spec.passed_value greatest (type_seen taken.entry) (meant_by (referent_view referent.entry))) more) }
 {
-    if !is_area(referent.description) {
+    if !is_area_type(referent.description) {
         return Ok(Some(TypedArgument::ByPlace(referent.reference)));
     }
     match area_meant(&referent.reference, referent.description) {
@@ -77,40 +140,37 @@ fn handed(
             drop(referent);
             Ok(Some(TypedArgument::ByPlace(area.whole())))
         }
-        None => dummy(alloc, greatest, description, referent.as_expression()),
+        None => dummy_for(alloc, greatest, taken, referent.as_expression()),
     }
 }
 
-/// What denotes a variable of the parameter's very description is handed over as its place, anything else as a dummy
+/// What denotes a variable that agrees with the parameter is handed over as its place, anything else as a dummy
 /// argument; none where it does not suit (X3.74).
 fn passed(
     alloc: Global,
     greatest: u8,
-    description: &Description,
+    taken: TypeRef<'_>,
     denoted: Denoted<'_>,
 ) -> Result<Option<TypedArgument>, AllocError>
     ensures { IfOk result (λ passed. (more : tree.TypedArguments) → option_map (λ a. argument_before a more) passed
-        ≡ spec.passed (description_view description.now)
-        (spec.passed_place (description_view description.now) (denoted_view denoted.entry))
-        (spec.passed_value greatest (description_view description.now) (meant_as (denoted_view denoted.entry))) more) }
+        ≡ spec.passed (type_seen taken.entry)
+        (spec.passed_place (type_seen taken.entry) (denoted_view denoted.entry))
+        (spec.passed_value greatest (type_seen taken.entry) (meant_as (denoted_view denoted.entry))) more) }
 {
     match denoted {
         Denoted::Variable(referent) => {
-            if *referent.description == *description {
-                return handed(alloc, greatest, description, referent);
+            if agrees(taken, referent.description) {
+                return handed(alloc, greatest, taken, referent);
             }
-            dummy(alloc, greatest, description, referent.as_expression())
+            dummy_for(alloc, greatest, taken, referent.as_expression())
         }
-        Denoted::Result(value) => dummy(
+        Denoted::Result(value) => {
+            dummy_for(alloc, greatest, taken, ExpressionMeaning::Value(value))
+        }
+        Denoted::Empty => dummy_for(
             alloc,
             greatest,
-            description,
-            ExpressionMeaning::Value(value),
-        ),
-        Denoted::Empty => dummy(
-            alloc,
-            greatest,
-            description,
+            taken,
             ExpressionMeaning::Value(empty_value()),
         ),
     }
@@ -120,17 +180,16 @@ fn passed(
 fn all_passed(
     alloc: Global,
     greatest: u8,
-    parameters: &[&Description],
+    parameters: &[TypeRef<'_>],
     arguments: Vec<Argument<'_>>,
 ) -> Result<Option<Vec<TypedArgument>>, AllocError>
     requires { length arguments.items ≡ length parameters.now }
     ensures { IfOk result (λ all. option_map (λ v. arguments_view v.items) all
-        ≡ spec.all_passed greatest (map (λ d. description_view d.now) parameters.now)
-        (map argument_view arguments.entry.items)) }
+        ≡ spec.all_passed greatest (map type_seen parameters.now) (map argument_view arguments.entry.items)) }
 {
     let mut made = Vec::new(alloc);
-    for (description, argument) in parameters.iter().zip(arguments) {
-        let Some(one) = passed(alloc, greatest, description, argument.denoted)? else {
+    for (taken, argument) in parameters.iter().zip(arguments) {
+        let Some(one) = passed(alloc, greatest, *taken, argument.denoted)? else {
             return Ok(None);
         };
         made.push(one)?;

@@ -5,53 +5,63 @@ ghost use Rattle.std.specs.Cmp.{on_per, on_equiv, partial_equiv_from_equiv};
 ghost use Rattle.std.specs.Ordering.{on};
 ghost use Rattle.std.specs.Hash as fed;
 ghost use Rattle.std.proofs.Common.{ap};
-ghost use Rattle.pli_map.specs.Same.{same};
-ghost use Rattle.pli_map.specs.laws.SameLaws.{same_equivalence, same_decides};
+ghost use Rattle.pli_map.specs.ParameterTypes.{same_type};
+ghost use Rattle.pli_map.specs.laws.ParameterLaws.{same_type_equivalence, same_type_decides};
+ghost use Rattle.pli_map.specs.views.ParameterView.{type_seen};
 ghost use Rattle.pli_value.specs.Value.{value_view};
 ghost use Rattle.pli_type_tree.specs.views.TemplateView.{initial_view};
 ghost use Rattle.std.specs.Cmp.Lexicographic.{pointwise};
 ghost use Rattle.pli_type_keys.specs.Same.{same_value, same_initial, same_template};
 ghost use Rattle.pli_type_keys.specs.laws.KeyLaws.{value_decides, template_decides};
 ghost use Rattle.pli_type_keys.specs.laws.KeyLaws.{same_value_equivalence, same_template_equivalence};
-ghost use Rattle.pli_map.specs.Digests.{digest_of};
+ghost use Rattle.pli_map.specs.Digests.{digest_of_type};
 ghost use Rattle.pli_type_keys.specs.answers.Digests.{digest_of_template, digest_of_value};
 ghost use Rattle.pli_type_keys.specs.views.KeyView.{described, templated, valued};
 
 use crate::digest::{digest_of_initial, digest_of_value};
-use pli_map::Description;
-use pli_map::digest::digest_of;
+use pli_map::digest::{digest_of, digest_of_type};
+use pli_map::{Description, TypeRef};
 use pli_type_tree::InitialScalar;
 use pli_value::Value;
 use pli_value::bit::Bits;
 use std::hash::{Hash, Hasher};
 
-/// A description as a key of a table: equal descriptions are one key (own).
+/// A description, or a type with a `*`, as a key of a table: equal types are one key, and a `*` equals a `*` only
+/// (own).
 #[derive(Clone, Copy)]
 pub struct DescriptionKey<'a> {
-    pub description: &'a Description,
+    pub of: TypeRef<'a>,
+}
+
+/// Whether types are equal.
+fn are_same_types(left: TypeRef<'_>, right: TypeRef<'_>) -> bool
+    ensures { result ≡ same_type (type_seen left.entry) (type_seen right.entry) }
+{
+    left.equals(right)
 }
 
 impl PartialEq for DescriptionKey<'_> {
-    ghost eq = { on described same };
+    ghost eq = { on described same_type };
 
-    ghost laws = { on_per described (partial_equiv_from_equiv same_equivalence) };
+    ghost laws = { on_per described (partial_equiv_from_equiv same_type_equivalence) };
 
     fn eq(&self, other: &Self) -> bool {
-        *self.description == *other.description
+        are_same_types(self.of, other.of)
     }
 }
 
 impl Eq for DescriptionKey<'_> {
-    ghost laws = { on_equiv described same_equivalence };
+    ghost laws = { on_equiv described same_type_equivalence };
 }
 
 impl Hash for DescriptionKey<'_> {
-    ghost hash_input = { λ k. fed.u64 (digest_of (described k)) };
+    ghost hash_input = { λ k. fed.u64 (digest_of_type (described k)) };
 
-    ghost respects_eq = { λ x y e. ap (λ d. fed.u64 (digest_of d)) ((same_decides (described x) (described y)).0 e) };
+    ghost respects_eq = { λ x y e. ap (λ t. fed.u64 (digest_of_type t))
+        ((same_type_decides (described x) (described y)).0 e) };
 
     fn hash<H: Hasher>(&self, state: &mut H) {
-        state.write_u64(digest_of(self.description));
+        state.write_u64(digest_of_type(self.of));
     }
 }
 

@@ -1,4 +1,4 @@
-//! Keys of tables: descriptions, templates and values, which are found again by what they say.
+//! Keys of tables: descriptions and types with a `*`, templates and values, which are found again by what they say.
 #![tactic(auto)]
 
 mod digest;

@@ -4,7 +4,8 @@ use Rattle.std.specs.List.{AllByRecursion}
 use Rattle.pli_base.specs.Statements.{Allocation}
 use Rattle.pli_base.specs.Syntax.{Reference}
 use Rattle.pli_base.specs.declared.code.Code.TheVariants.{CannotAllocateOrFree}
-use Rattle.pli_map.specs.Description.{Description, Pointer, Offset}
+use Rattle.pli_map.specs.Description.{Pointer, Offset}
+use Rattle.pli_map.specs.ParameterTypes.{ParameterType}
 use Rattle.pli_program.specs.declared.kind.VariableKind.TheVariants.{Controlled}
 use Rattle.pli_type.specs.AllocationTyping.{in_turn, only_variable, place_given, locator_set, placed_within, placed_freely, placed_in, placed_by, taken_in, taken, allocated, all_allocated, released, freed}
 use Rattle.pli_type.specs.Beginnings.{area_meant, whole_at}
@@ -73,11 +74,11 @@ module _ (s : TypingContext) where
   based_placed temporary area g None locator h k = tt
 
   module _ (n : Naming) (made : (block : ℕ) → AllByRecursion IsBasedTemplate (n.based block)) where
-    stored_taken : (temporary : ℕ) (storage : NamedStorage) (path : List ℕ) (whole : Description) → IsStoredIn 63 s storage whole
+    stored_taken : (temporary : ℕ) (storage : NamedStorage) (path : List ℕ) (whole : ParameterType) → IsStoredIn 63 s storage whole
         → (area target : Option Referent) → IsGiven s area → IsGiven s target
         → OnGiven (IsAllocated 63 s) (taken_in n temporary storage path area target)
     stored_taken temporary (Begins (NewestOf number) is_parameter) [] whole h None None g k =
-        (described_parts Controlled (slice_get s.globals number) whole h.0).0
+        (described_parts Controlled (slice_get s.globals number) h.0.0 h.0.2).0
     stored_taken temporary (IsBased block number implied) [] whole h area target g k =
         based_placed temporary area g (slice_get (n.based block) number) (locator_set target implied)
         (made_at (n.based block) number (made block)) (locator_typed target implied k h)
@@ -89,10 +90,11 @@ module _ (s : TypingContext) where
     one_taken temporary a h area target g k = tt
 
   -- FREE
-  one_released : (r : TypedReference) (d : Description) → IsPlaced 63 s r d → OnGiven (IsFreed 63 s) (released r)
-  one_released (Whole (NewestOf number)) d placed = (described_parts Controlled (slice_get s.globals number) d placed).0
-  one_released (Whole (Located locator whole)) d placed = placed.1
-  one_released r d placed = tt
+  one_released : (r : TypedReference) (type : ParameterType) → IsPlaced 63 s r type → OnGiven (IsFreed 63 s) (released r)
+  one_released (Whole (NewestOf number)) type placed =
+      (described_parts Controlled (slice_get s.globals number) placed.0 placed.2).0
+  one_released (Whole (Located locator whole)) type placed = placed.1
+  one_released r type placed = tt
 
   only_typed : (at : ℕ) (d : Denoted) → IsDenoted s d → OnRead (IsReferent s) (only_variable at d)
   only_typed at (DenotesVariable r) h = h

@@ -5,6 +5,7 @@ use Rattle.pli_gen.specs.WellNumbered.{IsWellNumbered}
 use Rattle.pli_meaning_typed.specs.TypedPrograms.{IsTypedUnit}
 use Rattle.pli_resolve.specs.ResolvedUnits.{ResolvedUnit, all_symbols, meaning_at, resolved_unit_of}
 use Rattle.pli_map.specs.Description.{Description}
+use Rattle.pli_map.specs.ParameterTypes.{ParameterType}
 use Rattle.pli_type.specs.Checked.{checked, is_main, is_nothing, unit_of}
 use Rattle.pli_type.specs.Names.{NamedUnit}
 use Rattle.pli_type.specs.StatementTyping.{WithProcedures}
@@ -41,11 +42,11 @@ module _ (r : ResolvedUnit) (t : TypedUnit) (nests : ListNests true 63 r.tree.st
   unfolding checked_unit
   resolved_is_numbered from h e = units_are_numbered (named_unit 63 r) t from h nests (based_known r) e
 
-nothing_there : (ds : List Description) (o : Option Description) → is_nothing ds o ≡ true
-    → record { parameters = ds; result = o } ≡ nothing_given
+nothing_there : (types : List ParameterType) (o : Option Description) → is_nothing types o ≡ true
+    → record { parameters = types; result = o } ≡ nothing_given
 nothing_there [] None e = refl
 nothing_there [] (Some d) e = absurd (false≢true e)
-nothing_there (d ∷ ds) o e = absurd (false≢true e)
+nothing_there (t ∷ ts) o e = absurd (false≢true e)
 
 unit_takes_nothing : (u : NamedUnit) (y : WithProcedures TypedStatements) → MainTakesNothing (unit_of u y)
 unit_takes_nothing u y is =

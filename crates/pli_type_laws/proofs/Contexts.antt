@@ -232,6 +232,8 @@ module _ (u : NamedUnit) where
         record {
           begins = own.begins 63 s knows.globals (slots_known here.blocks s.blocks knows.blocks);
           area = own.area 63 s knows.globals (slots_known here.blocks s.blocks knows.blocks);
+          plain = own.plain;
+          own = own.own;
           leads = own.leads;
           whole = own.whole;
         }

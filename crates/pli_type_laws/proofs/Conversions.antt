@@ -3,8 +3,10 @@ use Rattle.std.specs.Prelude.{◌≡◌, ℕ, Bool, true, false, if◌then◌els
 use Rattle.std.proofs.Common.{arith, subst}
 use Rattle.pli_map.specs.Description as described
 use Rattle.pli_map.specs.Description.{Description}
+use Rattle.pli_map.specs.declared.parameter.StringForm.{StringForm}
+use Rattle.pli_map.specs.declared.parameter.StringForm.TheVariants as forms
 use Rattle.pli_operation.specs.declared.operation.Operation.TheVariants.{ToCharacters}
-use Rattle.pli_type.specs.ExpressionTypes.{TypedValue, null_offset, with_one, suited, as_pointer, as_offset, converted, printed, printed_from, as_characters, columns, decimal_digits}
+use Rattle.pli_type.specs.ExpressionTypes.{TypedValue, null_offset, with_one, suited, suited_to_form, only_bits, as_pointer, as_offset, converted, printed, printed_from, as_characters, columns, decimal_digits}
 use Rattle.pli_type.specs.declared.beginning.Beginning.{Beginning}
 use Rattle.pli_type.specs.declared.expression_type.ExpressionType.{ExpressionType}
 use Rattle.pli_type.specs.declared.expression_type.ExpressionType.TheVariants as types
@@ -12,7 +14,7 @@ use Rattle.pli_type_laws.specs.ExpressionTyping.{HasType, IsShort, ConvertedIsHe
 use Rattle.pli_type_laws.proofs.Widths.{near_has_columns}
 use Rattle.pli_type_name_laws.specs.NameFacts.{IsAreaNamed}
 use Rattle.pli_type_tree.specs.TypedTree.{Fit, Operate, TypedExpression}
-use Rattle.pli_type_tree.specs.ValueTypes.{ValueType, Numbers, Strings, Pointers, Offsets, StringKind, OfCharacters, OfBits, type_held, IsFitted, IsWithin, HaveColumns}
+use Rattle.pli_type_tree.specs.ValueTypes.{ValueType, Numbers, Strings, Pointers, Offsets, StringKind, OfCharacters, OfBits, kind_of_form, type_held, IsFitted, IsWithin, HaveColumns}
 use Rattle.pli_type_tree.specs.WellTyped.{TypingContext, IsTyped, IsValueFor}
 use Rattle.pli_value.specs.declared.locator.Locator.TheVariants as locators
 
@@ -91,6 +93,35 @@ module _ (s : TypingContext) where
   characters_fit d t held fits e types.Null h = tt
   characters_fit d t held fits e (types.Offset area) h = tt
   characters_fit d t held fits e types.Area h = tt
+
+  -- strings of any length
+  characters_suit : (e : TypedExpression) (kind : ExpressionType) → HasType s e kind → OnGiven (IsShort s OfCharacters) (as_characters e kind)
+  characters_suit e (types.FixedDecimal digits) h =
+      (columns digits, columns digits, made_string e (columns digits) h.0 h.1 h.3, omega arith)
+  characters_suit e (types.FixedBinary q) h =
+      let width : ℕ = columns (decimal_digits q) in
+      (width, width, made_string e width h.0 h.1 (near_has_columns h.0 q h.2), omega arith)
+  characters_suit e types.Characters h = h
+  characters_suit e types.Bits h = (
+    h.0,
+    h.1,
+    (Strings OfBits h.0 h.1 ∷ [], (Strings OfBits h.0 h.1, [], refl, h.2, refl), (OfBits, h.0, h.1, refl, (refl, refl))),
+    h.3,
+  )
+  characters_suit e types.Pointer h = tt
+  characters_suit e types.Null h = tt
+  characters_suit e (types.Offset area) h = tt
+  characters_suit e types.Area h = tt
+
+  bits_suit : (e : TypedExpression) (kind : ExpressionType) → HasType s e kind → OnGiven (IsShort s OfBits) (only_bits e kind)
+  bits_suit e types.Bits h = h
+  bits_suit e kind h = tt
+
+  pub string_suits : (form : StringForm) (e : TypedExpression) (kind : ExpressionType) → HasType s e kind
+      → OnGiven (IsShort s (kind_of_form form)) (suited_to_form form e kind)
+  string_suits forms.Character e kind h = characters_suit e kind h
+  string_suits forms.Varying e kind h = characters_suit e kind h
+  string_suits forms.Bit e kind h = bits_suit e kind h
 
   all_fit : (d : Description) (e : TypedExpression) (kind : ExpressionType) → HasType s e kind
       → OnGiven (Fits d) (suited 63 d e kind)

@@ -11,42 +11,45 @@ use Rattle.pli_base.specs.declared.code.Code.TheVariants.{WrongOperandType, Cann
 use Rattle.pli_base.specs.declared.syntax.Identifier.{Identifier}
 use Rattle.pli_base.specs.declared.token.Fault.{Fault}
 use Rattle.pli_map.specs.Description.{Description, Array, Structure}
+use Rattle.pli_map.specs.ParameterTypes.{ParameterType, Stated, AnyString, is_aggregate_type}
 use Rattle.pli_map.specs.Same.{same}
+use Rattle.pli_map.specs.declared.parameter.StringForm.{StringForm}
 use Rattle.pli_map.specs.laws.SameLaws.{same_decides}
 use Rattle.pli_map.specs.Scalars.{is_aggregate, is_area}
 use Rattle.pli_type.specs.Beginnings.{area_meant, whole_at}
-use Rattle.pli_type.specs.ExpressionTypes.{TypedValue, precision_of, converted, conversion, unconverted, printed}
+use Rattle.pli_type.specs.ExpressionTypes.{TypedValue, precision_of, converted, conversion_to, suited_to_form, unconverted, printed}
 use Rattle.pli_type.specs.FunctionCalls.{Denoted, DenotesVariable, DenotesResult, DenotesEmpty, area_of, Meant, OneValue, WholeAggregate, Argument}
 use Rattle.pli_type.specs.Names.{NamedAs, AProcedure, ALabel, NamedProcedure, Naming}
 use Rattle.pli_type.specs.ProcedureCalls.{arguments_passed}
 use Rattle.pli_type.specs.References.{AsArgument, AsLocator, AsTarget, AsValue, Referent}
-use Rattle.pli_type.specs.StatementTyping.{aggregate_assigned, scalar_assigned, area_put, area_assigned, variable_assigned, assigned, assignment, truth_of, condition, item, items}
+use Rattle.pli_type.specs.StatementTyping.{are_alike, aggregate_assigned, scalar_assigned, string_assigned, area_put, area_assigned, one_assigned, variable_assigned, assigned, assignment, truth_of, condition, item, items}
 use Rattle.pli_type.specs.StatementTyping.{Enclosing, Surroundings, label_found, jump_to, jump, goto_typed, arguments_typed, no_function, call_of}
 use Rattle.pli_type.specs.StatementTyping.{call_typed, area_here, returned_value, return_typed, number_of, limit, possible_limit, limits}
-use Rattle.pli_type.specs.StatementTyping.{without_subscripts, has_locator, suits_range, controls, possible_condition, next_value, with_repeat}
+use Rattle.pli_type.specs.StatementTyping.{without_subscripts, has_locator, suits_range, controls, possible_condition, turned, next_value, with_repeat}
 use Rattle.pli_type.specs.StatementTyping.{iteration}
 use Rattle.pli_type.specs.Typing.{first_token, own_token, or_fault, denoted, meant, referred, value_of}
 use Rattle.pli_type.specs.declared.beginning.Beginning.{Beginning}
 use Rattle.pli_type.specs.declared.expression_type.ExpressionType.{ExpressionType}
 use Rattle.pli_type.specs.declared.expression_type.ExpressionType.TheVariants as types
 use Rattle.pli_type_laws.proofs.Calls.{IsCallable, arguments_fit, gives}
-use Rattle.pli_type_laws.proofs.Conversions.{OnGiven, IsItem, conversion_held, printing_held}
+use Rattle.pli_type_laws.proofs.Conversions.{OnGiven, IsItem, conversion_held, string_suits, printing_held}
 use Rattle.pli_type_laws.proofs.Denotations.{OnRead, IsReferent, IsMeant, IsDenoted, AreArguments}
 use Rattle.pli_type_laws.proofs.Expressions.{IsMeaning, N, read_option, denoted_typed, meant_typed, referred_typed, value_typed}
 use Rattle.pli_type_laws.proofs.Expressions.{list_typed}
 use Rattle.pli_type_laws.proofs.Functions.{area_typed, area_given}
-use Rattle.pli_type_laws.proofs.Iterations.{Converts, conversions_hold, AreLimits, limits_range}
+use Rattle.pli_type_laws.proofs.Iterations.{ConvertsFor, converts_so, conversions_hold, AreLimits, limits_range}
 use Rattle.pli_type_laws.proofs.Operators.{HasValue, has_precision}
 use Rattle.pli_type_laws.proofs.References.{read_then}
 use Rattle.pli_type_laws.specs.ExpressionTyping as Near
-use Rattle.pli_type_laws.specs.ExpressionTyping.{HasType}
+use Rattle.pli_type_laws.specs.ExpressionTyping.{HasType, IsShort}
 use Rattle.pli_type_name_laws.specs.NameFacts.{IsAreaNamed}
 use Rattle.pli_type_tree.specs.Templates.{Template}
 use Rattle.pli_type_tree.specs.TypedTree as typed
 use Rattle.pli_type_tree.specs.TypedTree.{TypedExpression, TypedArguments, Conversion, TypedRange, Form}
-use Rattle.pli_type_tree.specs.ValueTypes.{StringKind, OfBits}
+use Rattle.pli_type_tree.specs.ValueTypes.{StringKind, OfBits, kind_of_form}
 use Rattle.pli_type_tree.specs.WellTyped.{TypingContext, IsPlaced, IsAreaReference, ArePassed, IsValueFor, IsString, AreItems, IsNumber}
-use Rattle.pli_type_tree.specs.WellTyped.{IsPossibleNumber, IsRange, IsPossibleCondition, IsIteration, knows_label, IsTypedForm}
+use Rattle.pli_type_tree.specs.WellTyped.{IsPossibleNumber, IsRange, IsOpenRange, IsRangeFor, IsPossibleCondition, IsIteration, knows_label, IsTypedForm}
+use Rattle.pli_type_tree.specs.WellTyped.{is_area_type}
 
 module _ (s : TypingContext) where
   truth_typed : (e : TypedExpression) (kind : ExpressionType) → HasType s e kind
@@ -66,23 +69,51 @@ module _ (s : TypingContext) where
   no_area (Structure ds) e = refl
   no_area d e = absurd (false≢true e)
 
-  aggregate_typed : (equals : ℕ) (target : Referent) → is_aggregate target.description ≡ true → IsReferent s target → (m : Meant) → IsMeant s m
-      → OnRead (IsTypedForm 63 s) (aggregate_assigned equals target m)
-  aggregate_typed equals target aggregate h (OneValue v) k = tt
-  aggregate_typed equals target aggregate h (WholeAggregate source) k = by (same target.description source.description) refl
+  -- aggregates of one type, in which no `*` stands
+  alike_typed : (equals : ℕ) (target source : Referent) (one other : ParameterType) → is_aggregate_type one ≡ true
+      → IsPlaced 63 s target.reference one → IsPlaced 63 s source.reference other
+      → OnRead (IsTypedForm 63 s)
+      (if are_alike one other then Ok (typed.AssignAggregate target.reference source.reference)
+      else Err (record { code = CannotAssign; at = equals }))
+  alike_typed equals target source (Stated d) (Stated e) aggregate there here = by (same d e) refl
     where
-      by : (b : Bool) → same target.description source.description ≡ b
+      by : (b : Bool) → same d e ≡ b
           → OnRead (IsTypedForm 63 s)
           (if b then Ok (typed.AssignAggregate target.reference source.reference)
           else Err (record { code = CannotAssign; at = equals }))
-      by true e = (
-        target.description,
-        h.0,
-        subst (IsPlaced 63 s source.reference)
-            (sym ((same_decides target.description source.description).0 e)) k.0,
-        no_area target.description aggregate,
+      by true is = (
+        d,
+        there,
+        subst (λ x. IsPlaced 63 s source.reference (Stated x)) (sym ((same_decides d e).0 is)) here,
+        no_area d aggregate,
       )
-      by false e = tt
+      by false is = tt
+  alike_typed equals target source (Stated d) other aggregate there here = tt
+  alike_typed equals target source one other aggregate there here = tt
+
+  aggregate_typed : (equals : ℕ) (target : Referent) → is_aggregate_type target.description ≡ true → IsReferent s target → (m : Meant)
+      → IsMeant s m → OnRead (IsTypedForm 63 s) (aggregate_assigned equals target m)
+  aggregate_typed equals target aggregate h (OneValue v) k = tt
+  aggregate_typed equals target aggregate h (WholeAggregate source) k =
+      alike_typed equals target source target.description source.description aggregate h.0 k.0
+
+  -- what REPEAT gives
+  repeated : (d : Description) (c : Conversion) (o : Option TypedExpression) → OnGiven (IsValueFor 63 s d) o
+      → OnGiven (IsRange 63 s c d) (option_map typed.Repeated o)
+  repeated d c (Some x) h = h
+  repeated d c None h = tt
+
+  repeated_string : (kind : StringKind) (o : Option TypedExpression) → OnGiven (IsShort s kind) o
+      → OnGiven (IsOpenRange 63 s kind) (option_map typed.RepeatedString o)
+  repeated_string kind (Some x) h = (h.0, h.1, h.2)
+  repeated_string kind None h = tt
+
+  turned_typed : (area : Option Beginning) → IsAreaNamed 63 s area → (v : TypedValue) → HasValue s v → (type : ParameterType)
+      (c : Conversion) → OnGiven (IsRangeFor 63 s c type) (turned 63 area v type)
+  turned_typed area there v h (Stated d) c = repeated d c (converted 63 area d v) (conversion_held s area there d v h)
+  turned_typed area there v h (AnyString form) c =
+      repeated_string (kind_of_form form) (suited_to_form form v.expression v.kind) (string_suits s form v.expression v.kind h)
+  turned_typed area there v h type c = tt
 
   -- to an area another one, or EMPTY
   source_put : (target : Beginning) → IsAreaReference 63 s (whole_at target) → (o : Option Beginning) → IsAreaNamed 63 s o
@@ -122,14 +153,23 @@ module _ (based : ℕ → List Template) (areas : ℕ → Option Beginning) (mea
       read_then (IsPrinted s) (AreItems 63 s) (item M e) _ (item_typed e)
       (λ x h. read_then (AreItems 63 s) (AreItems 63 s) (items M es) _ (items_typed es) (λ xs k. (h, k)))
 
-  scalar_typed : (equals : ℕ) (target : Referent) → IsReferent s target → (e : Expression)
-      → OnRead (IsTypedForm 63 s) (scalar_assigned M equals target e)
-  scalar_typed equals target placed e =
-      let d : Description = target.description in
+  scalar_typed : (equals : ℕ) (target : Referent) (d : Description) → IsPlaced 63 s target.reference (Stated d)
+      → IsAreaNamed 63 s target.area → (e : Expression) → OnRead (IsTypedForm 63 s) (scalar_assigned M equals target d e)
+  scalar_typed equals target d placed there e =
       read_then (HasValue s) (IsTypedForm 63 s) (value_of M e) _ (value_typed based areas meaning s known e)
       (λ v h. read_then (IsValueFor 63 s d) (IsTypedForm 63 s) (or_fault CannotAssign equals (converted 63 target.area d v)) _
-      (read_option (IsValueFor 63 s d) CannotAssign equals (converted 63 target.area d v) (conversion_held s target.area placed.3 d v h))
-      (λ x k. (d, placed.0, k)))
+      (read_option (IsValueFor 63 s d) CannotAssign equals (converted 63 target.area d v) (conversion_held s target.area there d v h))
+      (λ x k. (d, placed, k)))
+
+  string_typed : (equals : ℕ) (target : Referent) (form : StringForm) → IsPlaced 63 s target.reference (AnyString form) → (e : Expression)
+      → OnRead (IsTypedForm 63 s) (string_assigned M equals target form e)
+  string_typed equals target form placed e =
+      let kind : StringKind = kind_of_form form in
+      read_then (HasValue s) (IsTypedForm 63 s) (value_of M e) _ (value_typed based areas meaning s known e)
+      (λ v h. read_then (IsShort s kind) (IsTypedForm 63 s) (or_fault CannotAssign equals (suited_to_form form v.expression v.kind)) _
+      (read_option (IsShort s kind) CannotAssign equals (suited_to_form form v.expression v.kind)
+      (string_suits s form v.expression v.kind h))
+      (λ x k. (form, placed, (k.0, k.1, k.2))))
 
   area_assigned_typed : (equals : ℕ) (target : Option Beginning) → IsAreaNamed 63 s target → (e : Expression)
       → OnRead (IsTypedForm 63 s) (area_assigned M equals target e)
@@ -142,16 +182,22 @@ module _ (based : ℕ → List Template) (areas : ℕ → Option Beginning) (mea
   choice true r q a b = a refl
   choice false r q a b = b
 
+  one_typed : (equals : ℕ) (target : Referent) (type : ParameterType) → IsPlaced 63 s target.reference type
+      → IsAreaNamed 63 s target.area → (e : Expression) → OnRead (IsTypedForm 63 s) (one_assigned M equals target type e)
+  one_typed equals target (Stated d) placed there e =
+      choice (is_area d) _ _
+      (λ area. area_assigned_typed equals (area_meant target.reference (Stated d)) (area_typed s target.reference (Stated d) placed) e)
+      (scalar_typed equals target d placed there e)
+  one_typed equals target (AnyString form) placed there e = string_typed equals target form placed e
+  one_typed equals target type placed there e = tt
+
   variable_assigned_typed : (equals : ℕ) (target : Referent) → IsReferent s target → (e : Expression)
       → OnRead (IsTypedForm 63 s) (variable_assigned M equals target e)
   variable_assigned_typed equals target h e =
-      choice (is_aggregate target.description) _ _
+      choice (is_aggregate_type target.description) _ _
       (λ aggregate. read_then (IsMeant s) (IsTypedForm 63 s) (meant M AsArgument e) (aggregate_assigned equals target)
       (meant_typed based areas meaning s known AsArgument e) (aggregate_typed s equals target aggregate h))
-      (choice (is_area target.description) _ _
-      (λ area. area_assigned_typed equals (area_meant target.reference target.description)
-      (area_typed s target.reference target.description h.0) e)
-      (scalar_typed equals target h e))
+      (one_typed equals target target.description h.0 h.3 e)
 
   assigned_typed : (at equals : ℕ) (d : Denoted) → IsDenoted s d → (e : Expression)
       → OnRead (IsTypedForm 63 s) (assigned M at equals d e)
@@ -270,7 +316,7 @@ module _ (based : ℕ → List Template) (areas : ℕ → Option Beginning) (mea
   Suits range r = IsReferent s r × (suits_range r.description range ≡ true)
 
   suited : (at : ℕ) (is_located : Bool) (range : TypedRange) (r : Referent) → IsReferent s r → (b : Bool)
-      → (without_subscripts r.reference && not is_located && not (is_area r.description)) ≡ b → (c : Bool)
+      → (without_subscripts r.reference && not is_located && not (is_area_type r.description)) ≡ b → (c : Bool)
       → suits_range r.description range ≡ c
       → OnRead (Suits range) (controls at is_located range (DenotesVariable r))
   suited at is_located range r h true e true f = rw (e, f) (h, f)
@@ -290,18 +336,16 @@ module _ (based : ℕ → List Template) (areas : ℕ → Option Beginning) (mea
       read_then (IsString 63 s OfBits) (IsPossibleCondition 63 s) (condition M e) _ (condition_typed e) (λ x h. h)
 
   next_typed : (r : Referent) → IsReferent s r → (c : Conversion) (e : Expression)
-      → OnRead (IsRange 63 s c r.description) (next_value M r e)
+      → OnRead (IsRangeFor 63 s c r.description) (next_value M r e)
   next_typed r placed c e =
-      let d : Description = r.description in
-      read_then (HasValue s) (IsRange 63 s c d) (value_of M e) _ (value_typed based areas meaning s known e)
-      (λ v h. read_then (IsValueFor 63 s d) (IsRange 63 s c d)
-      (or_fault CannotAssign (first_token e) (converted 63 r.area d v)) _
-      (read_option (IsValueFor 63 s d) CannotAssign (first_token e) (converted 63 r.area d v) (conversion_held s r.area placed.3 d v h))
-      (λ x k. k))
+      let type : ParameterType = r.description in
+      read_then (HasValue s) (IsRangeFor 63 s c type) (value_of M e) _ (value_typed based areas meaning s known e)
+      (λ v h. read_option (IsRangeFor 63 s c type) CannotAssign (first_token e) (turned 63 r.area v type)
+      (turned_typed s r.area placed.3 v h type c))
 
   turns_typed : (r : Referent) → IsReferent s r → (c : Conversion) (kept : TypedRange) (range : Option Range)
-      → IsRange 63 s c r.description kept
-      → OnRead (IsRange 63 s c r.description) (with_repeat M r kept range)
+      → IsRangeFor 63 s c r.description kept
+      → OnRead (IsRangeFor 63 s c r.description) (with_repeat M r kept range)
   turns_typed r placed c kept (Some (tree.Repeat next)) h = next_typed r placed c next
   turns_typed r placed c kept (Some (tree.To to by)) h = h
   turns_typed r placed c kept (Some (tree.By by to)) h = h
@@ -317,14 +361,21 @@ module _ (based : ℕ → List Template) (areas : ℕ → Option Beginning) (mea
       (referred_typed based areas meaning s known AsLocator variable)
       (λ d g. read_then (Suits kept) (IsIteration 63 s) (controls (own_token variable) (has_locator variable) kept d) _
       (controls_typed (own_token variable) (has_locator variable) kept d g)
-      (λ r m. read_then (Converts s r.description (unconverted r.description v)) (IsIteration 63 s)
-      (or_fault CannotAssign equals (conversion 63 r.area r.description v.kind)) _
-      (read_option (Converts s r.description (unconverted r.description v)) CannotAssign equals (conversion 63 r.area r.description v.kind)
+      (λ r m. read_then (ConvertsFor s r.description (unconverted r.description v)) (IsIteration 63 s)
+      (or_fault CannotAssign equals (conversion_to 63 r.area r.description v.kind)) _
+      (read_option (ConvertsFor s r.description (unconverted r.description v)) CannotAssign equals
+      (conversion_to 63 r.area r.description v.kind)
       (conversions_hold s r.area m.0.3 r.description v h))
       (λ converts c. read_then (IsPossibleCondition 63 s) (IsIteration 63 s) (possible_condition M tested) _
       (possible_condition_typed tested)
-      (λ x w. read_then (IsRange 63 s converts r.description) (IsIteration 63 s)
+      (λ x w. read_then (IsRangeFor 63 s converts r.description) (IsIteration 63 s)
       (with_repeat M r kept range) _
       (turns_typed r m.0 converts kept range
-      (limits_range s r.description converts kept c.1 m.1 k))
-      (λ turns t. (r.description, m.0.0, c.0, t, w))))))))
+      (limits_range s r.description (unconverted r.description v) converts kept c m.1 k))
+      (λ turns t. (
+        r.description,
+        m.0.0,
+        converts_so s r.description (unconverted r.description v) converts c,
+        t,
+        w,
+      ))))))))

@@ -3,8 +3,12 @@ use Rattle.std.specs.Prelude.{◌≡◌, ℕ, zero, suc, ◌-◌, ◌≤◌, max
 use Rattle.std.specs.Prelude.{Option, Some, None, option_map, option_and_then, List, [], ◌∷◌, slice_get, refl, if◌then◌else◌}
 use Rattle.std.proofs.Common.{arith}
 use Rattle.std.proofs.lemmas.Bool.{and_parts, leb-true, false≢true}
-use Rattle.pli_map.specs.Description.{Description, Area, Array}
+use Rattle.pli_map.specs.Description.{Area, Array}
+use Rattle.pli_map.specs.Dimensions.{bound_of}
+use Rattle.pli_map.specs.ParameterTypes.{ParameterType, Stated, AnyArray, ArrayOf}
 use Rattle.pli_map.specs.declared.description.Bounds.{Bounds}
+use Rattle.pli_map.specs.declared.dimension.WhichBound.{WhichBound}
+use Rattle.pli_map.specs.declared.dimension.WhichBound.TheVariants.{Low, High}
 use Rattle.pli_operation.specs.declared.operation.Operation.{Operation}
 use Rattle.pli_operation.specs.declared.operation.Operation.TheVariants.{Absolute, Sign, LengthOf, Greatest, Least, Modulo, Divide, Index, Rest, Substring}
 use Rattle.pli_resolve.specs.declared.built_in.BuiltInFunction.{BuiltInFunction}
@@ -12,9 +16,9 @@ use Rattle.pli_resolve.specs.declared.built_in.BuiltInFunction.TheVariants as fu
 use Rattle.pli_type.specs.ExpressionTypes.{TypedValue, precision_of, precisions, all_operands}
 use Rattle.pli_type.specs.FunctionCalls.{Meant, OneValue, WholeAggregate, meant_as, Argument, calculation, of_values, string_kind, with_number, of_one_kind}
 use Rattle.pli_type.specs.Beginnings.{area_meant, whole_at}
-use Rattle.pli_type.specs.FunctionCalls.{Denoted, DenotesVariable, DenotesResult, DenotesEmpty, a_count, number_type, bound_value, bound_in, the_bound, generations_in, generations_of, address_in, address_of, value_in, values_in}
+use Rattle.pli_type.specs.FunctionCalls.{Denoted, DenotesVariable, DenotesResult, DenotesEmpty, a_count, number_type, bound_value, bound_among, bound_there, bound_in, the_bound, generations_in, generations_of, address_in, address_of, value_in, values_in}
 use Rattle.pli_type.specs.FunctionCalls.{area_of, offset_within, pointer_within, located_within, divided, of_arguments, or_bad_argument, function_called}
-use Rattle.pli_type.specs.NamedUnits.{may_stand, are_bounds}
+use Rattle.pli_type.specs.NamedUnits.{are_bounds, may_be}
 use Rattle.pli_type.specs.References.{Role}
 use Rattle.pli_type.specs.declared.beginning.Beginning.{Beginning}
 use Rattle.pli_type.specs.declared.expression_type.ExpressionType.{ExpressionType}
@@ -25,11 +29,12 @@ use Rattle.pli_type_laws.proofs.Operators.{HasValue, has_precision, have_precisi
 use Rattle.pli_type_laws.specs.ExpressionTyping.{HasType, IsNumber}
 use Rattle.pli_type_name_laws.specs.NameFacts.{IsAreaNamed}
 use Rattle.pli_type_name_laws.proofs.AreasNamed.{root_named}
+use Rattle.pli_type_name_laws.proofs.PlainDescriptions.{bounds_near}
 use Rattle.pli_program.specs.declared.kind.VariableKind.TheVariants.{Controlled}
 use Rattle.pli_type_tree.specs.laws.GlobalLaws.{described_parts}
 use Rattle.pli_type_tree.specs.TypedTree.{NewestOf, Operate, TypedExpression, Calculated, TypedReference, Whole}
 use Rattle.pli_type_tree.specs.ValueTypes.{ValueType, Numbers, OfCharacters, OfBits, Computes}
-use Rattle.pli_type_tree.specs.WellTyped.{TypingContext, IsTyped, IsPlaced, IsAreaReference}
+use Rattle.pli_type_tree.specs.WellTyped.{TypingContext, IsTyped, IsPlaced, IsAreaReference, AreNear}
 use Rattle.pli_value.specs.declared.locator.Locator.TheVariants as locators
 
 abbrev pub AreValues : TypingContext → List TypedValue → Type 0
@@ -192,49 +197,58 @@ module _ (s : TypingContext) where
   bound_typed x small =
       (16, (x, refl, omega (arith, small)), (omega arith, omega arith, omega arith))
 
-  abbrev BoundsAreSmall : (Bounds → ℤ) → List Bounds → Type 0
-  BoundsAreSmall which [] = Unit {0}
-  BoundsAreSmall which (b ∷ bs) = IsSmall (which b) × BoundsAreSmall which bs
+  bound_near : (which : WhichBound) (b : Bounds) → IsSmall b.low → IsSmall b.high → IsSmall (bound_of which b)
+  bound_near Low b low high = low
+  bound_near High b low high = high
 
-  bound_at : (which : Bounds → ℤ) (bs : List Bounds) (k : ℕ) → BoundsAreSmall which bs
-      → OnGiven (HasValue s) (option_map (λ b. bound_value (which b)) (slice_get bs k))
+  bound_at : (which : WhichBound) (bs : List Bounds) (k : ℕ) → AreNear bs
+      → OnGiven (HasValue s) (option_map (λ b. bound_value (bound_of which b)) (slice_get bs k))
   bound_at which [] k h = tt
-  bound_at which (b ∷ bs) zero h = bound_typed (which b) h.0
-  bound_at which (b ∷ bs) (suc k) h = bound_at which bs k h.1
+  bound_at which (b ∷ bs) zero h = bound_typed (bound_of which b) (bound_near which b h.0 h.1)
+  bound_at which (b ∷ bs) (suc k) h = bound_at which bs k h.2
 
-  bounds_small : (bs : List Bounds) → are_bounds bs ≡ true → BoundsAreSmall (λ b. b.low) bs × BoundsAreSmall (λ b. b.high) bs
-  bounds_small [] e = (tt, tt)
-  bounds_small (b ∷ bs) e =
-      let both : ((nat_le (unsigned_abs b.low) 32768 && nat_le (unsigned_abs b.high) 32768) ≡ true)
-      × (are_bounds bs ≡ true) = and_parts _ _ e in
-      let here : (nat_le (unsigned_abs b.low) 32768 ≡ true) × (nat_le (unsigned_abs b.high) 32768 ≡ true) = and_parts _ _ both.0 in
-      let rest = bounds_small bs both.1 in
-      ((leb-true _ _ here.0, rest.0), (leb-true _ _ here.1, rest.1))
+  -- one that is stated
+  among_typed : (which : WhichBound) (number : ℕ) (bs : List Bounds) → are_bounds bs ≡ true
+      → OnGiven (HasValue s) (bound_among which number bs)
+  among_typed which number bs near =
+      given_if (HasValue s) (nat_le 1 number) _ (bound_at which bs (number - 1) (bounds_near bs near))
 
-  -- a way to bounds, and that those of plain descriptions are small that way
-  abbrev GivesSmall : (Bounds → ℤ) → Type 0
-  GivesSmall which = (bs : List Bounds) → are_bounds bs ≡ true → BoundsAreSmall which bs
+  -- one that is the argument's
+  there_typed : (which : WhichBound) (number : ℕ) (r : TypedReference) (dimensions : ℕ) (element : ParameterType)
+      → IsPlaced 63 s r (AnyArray dimensions element) → (b : Bool) → (nat_le 1 number && nat_le number dimensions) ≡ b
+      → OnGiven (HasValue s) (if b then Some (bound_there which number r) else None)
+  there_typed which number r dimensions element placed true e =
+      let both = and_parts (nat_le 1 number) (nat_le number dimensions) e in (
+        16,
+        ((dimensions, element, placed, leb-true 1 number both.0, leb-true number dimensions both.1), refl),
+        (omega arith, omega arith, omega arith),
+      )
+  there_typed which number r dimensions element placed false e = tt
 
-  bound_within : (which : Bounds → ℤ) → GivesSmall which → (number : ℕ) (d : Description) → IsTrue (may_stand 63 d)
-      → OnGiven (HasValue s) (bound_in which number d)
-  bound_within which small number (Array [] element) plain = absurd (false≢true plain)
-  bound_within which small number (Array (b ∷ bs) element) plain =
-      given_if (HasValue s) (nat_le 1 number) _
-      (bound_at which (b ∷ bs) (number - 1)
-      (small (b ∷ bs) ((and_parts _ _ ((and_parts _ _ plain).0)).1)))
-  bound_within which small number other plain = tt
+  bound_within : (which : WhichBound) (number : ℕ) (r : TypedReference) (type : ParameterType) → IsPlaced 63 s r type
+      → IsTrue (may_be 63 type) → OnGiven (HasValue s) (bound_in which number r type)
+  bound_within which number r (Stated (Array [] element)) placed may = absurd (false≢true may)
+  bound_within which number r (Stated (Array (b ∷ bs) element)) placed may =
+      among_typed which number (b ∷ bs) ((and_parts _ _ ((and_parts _ _ may).0)).1)
+  bound_within which number r (ArrayOf bounds element) placed may =
+      among_typed which number bounds ((and_parts _ _ ((and_parts _ _ may).0)).1)
+  bound_within which number r (AnyArray dimensions element) placed may =
+      there_typed which number r dimensions element placed (nat_le 1 number && nat_le number dimensions) refl
+  bound_within which number r type placed may = tt
 
-  bound_of : (which : Bounds → ℤ) → GivesSmall which → (m : Meant) (written : Option ℕ) → IsMeant s m
-      → OnGiven (HasValue s) (the_bound which m written)
-  bound_of which small (OneValue v) written h = tt
-  bound_of which small (WholeAggregate r) None h = tt
-  bound_of which small (WholeAggregate r) (Some number) h = bound_within which small number (r.description) h.1
+  whole_bound : (which : WhichBound) (m : Meant) (written : Option ℕ) → IsMeant s m → OnGiven (HasValue s) (the_bound which m written)
+  whole_bound which (OneValue v) written h = tt
+  whole_bound which (WholeAggregate r) None h = tt
+  whole_bound which (WholeAggregate r) (Some number) h = bound_within which number r.reference r.description h.0 h.1
 
   -- numbers of generations
-  generations_typed : (r : TypedReference) (d : Description) → IsPlaced 63 s r d → OnGiven (HasValue s) (generations_in r)
-  generations_typed (Whole (NewestOf number)) d placed =
-      (15, ((described_parts Controlled (slice_get s.globals number) d placed).0, refl), (omega arith, omega arith, omega arith))
-  generations_typed r d placed = tt
+  generations_typed : (r : TypedReference) (type : ParameterType) → IsPlaced 63 s r type → OnGiven (HasValue s) (generations_in r)
+  generations_typed (Whole (NewestOf number)) type placed = (
+    15,
+    ((described_parts Controlled (slice_get s.globals number) placed.0 placed.2).0, refl),
+    (omega arith, omega arith, omega arith),
+  )
+  generations_typed r type placed = tt
 
   generations_given : (d : Denoted) → IsDenoted s d → OnGiven (HasValue s) (generations_of d)
   generations_given (DenotesVariable r) h = generations_typed r.reference r.description h.0
@@ -242,20 +256,20 @@ module _ (s : TypingContext) where
   generations_given DenotesEmpty h = tt
 
   -- pointers to variables
-  address_typed : (passed : Bool) (r : TypedReference) (d : Description) → IsPlaced 63 s r d → (passed ≡ false → IsOfWhole s r)
+  address_typed : (passed : Bool) (r : TypedReference) → (passed ≡ false → IsOfWhole s r)
       → OnGiven (HasValue s) (address_in passed r)
-  address_typed false (Whole root) d placed own = ((own refl, (d, placed)), refl)
-  address_typed passed r d placed own = tt
+  address_typed false (Whole root) own = (own refl, refl)
+  address_typed passed r own = tt
 
   address_given : (d : Denoted) → IsDenoted s d → OnGiven (HasValue s) (address_of d)
-  address_given (DenotesVariable r) h = address_typed r.is_parameter r.reference r.description h.0 h.2
+  address_given (DenotesVariable r) h = address_typed r.is_parameter r.reference h.2
   address_given (DenotesResult v) h = tt
   address_given DenotesEmpty h = tt
 
   -- locators in areas
-  pub area_typed : (r : TypedReference) (d : Description) → IsPlaced 63 s r d → IsAreaNamed 63 s (area_meant r d)
-  area_typed (Whole root) (Area bytes) placed = root_named 63 s root (Area bytes) refl placed
-  area_typed r d placed = tt
+  pub area_typed : (r : TypedReference) (type : ParameterType) → IsPlaced 63 s r type → IsAreaNamed 63 s (area_meant r type)
+  area_typed (Whole root) (Stated (Area bytes)) placed = root_named 63 s root (Area bytes) refl placed
+  area_typed r type placed = tt
 
   pub area_given : (d : Denoted) → IsDenoted s d → IsAreaNamed 63 s (area_of d)
   area_given (DenotesVariable r) h = area_typed r.reference r.description h.0
@@ -315,9 +329,9 @@ module _ (s : TypingContext) where
       division (meant_as x.denoted) (meant_as y.denoted) p.written (denoted_meant s x.denoted h.0)
       (denoted_meant s y.denoted h.1.0)
   arguments_give functions.LowBound (a ∷ n ∷ []) h =
-      bound_of (λ b. b.low) (λ bs e. (bounds_small bs e).0) (meant_as a.denoted) n.written (denoted_meant s a.denoted h.0)
+      whole_bound Low (meant_as a.denoted) n.written (denoted_meant s a.denoted h.0)
   arguments_give functions.HighBound (a ∷ n ∷ []) h =
-      bound_of (λ b. b.high) (λ bs e. (bounds_small bs e).1) (meant_as a.denoted) n.written (denoted_meant s a.denoted h.0)
+      whole_bound High (meant_as a.denoted) n.written (denoted_meant s a.denoted h.0)
   arguments_give functions.Allocation (a ∷ []) h = generations_given a.denoted h.0
   arguments_give functions.Address (a ∷ []) h = address_given a.denoted h.0
   arguments_give functions.Null [] h = (locators.Null, refl, refl)

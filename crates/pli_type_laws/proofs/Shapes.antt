@@ -12,19 +12,20 @@ use Rattle.pli_base.specs.declared.code.Code.TheVariants.{CannotAllocateOrFree, 
 use Rattle.pli_base.specs.declared.syntax.Identifier.{Identifier}
 use Rattle.pli_base.specs.declared.token.Fault.{Fault}
 use Rattle.pli_map.specs.Description.{Description}
-use Rattle.pli_map.specs.Same.{same}
-use Rattle.pli_map.specs.Scalars.{is_aggregate, is_area}
+use Rattle.pli_map.specs.ParameterTypes.{ParameterType, Stated, AnyString, is_aggregate_type}
+use Rattle.pli_map.specs.Scalars.{is_area}
+use Rattle.pli_map.specs.declared.parameter.StringForm.{StringForm}
 use Rattle.pli_type.specs.AllocationTyping.{in_turn, place_given, locator_set, placed_within, placed_freely, placed_in, placed_by, taken_in, taken, allocated, all_allocated, freed}
 use Rattle.pli_type.specs.Beginnings.{area_meant, whole_at}
-use Rattle.pli_type.specs.ExpressionTypes.{TypedValue, converted, conversion}
+use Rattle.pli_type.specs.ExpressionTypes.{TypedValue, converted, conversion_to, suited_to_form}
 use Rattle.pli_type.specs.FunctionCalls.{Denoted, DenotesVariable, DenotesResult, DenotesEmpty, area_of, Meant, OneValue, WholeAggregate, Argument}
 use Rattle.pli_type.specs.NamedUnits.{is_based_whole, names_based}
 use Rattle.pli_type.specs.Names.{LocatorVariable, OfPointer, OfOffset, NamedStorage, Begins, IsBased, NamedAs, AVariable, AFunction, AProcedure, ALabel, Untyped, Naming}
 use Rattle.pli_type.specs.ProcedureCalls.{arguments_passed}
 use Rattle.pli_type.specs.References.{AsArgument, AsLocator, AsTarget, AsValue, Referent}
-use Rattle.pli_type.specs.StatementTyping.{aggregate_assigned, area_put, area_assigned, scalar_assigned, variable_assigned, assigned, assignment, Surroundings, label_found, jump_to, jump, goto_typed}
+use Rattle.pli_type.specs.StatementTyping.{are_alike, aggregate_assigned, area_put, area_assigned, scalar_assigned, string_assigned, one_assigned, variable_assigned, assigned, assignment, Surroundings, label_found, jump_to, jump, goto_typed}
 use Rattle.pli_type.specs.StatementTyping.{arguments_typed, no_function, call_of, call_typed, area_here, returned_value, return_typed, allocate_typed, free_typed}
-use Rattle.pli_type.specs.StatementTyping.{limit, limits, controls, possible_condition, with_repeat, has_locator, iteration}
+use Rattle.pli_type.specs.StatementTyping.{limit, limits, controls, possible_condition, turned, with_repeat, has_locator, iteration}
 use Rattle.pli_type.specs.Temporaries.{limits_kept, based_among}
 use Rattle.pli_type.specs.Typing.{first_token, own_token, or_fault, denoted, meant, referred, value_of}
 use Rattle.pli_type.specs.declared.beginning.Beginning.{Beginning}
@@ -37,7 +38,7 @@ use Rattle.pli_type_tree.specs.TypedTree as typed
 use Rattle.pli_gen.specs.WellNumbered.{KeepsTemporary}
 use Rattle.pli_type_tree.specs.Allocations.{kept_for, all_kept_for}
 use Rattle.pli_type_tree.specs.Templates.{Template}
-use Rattle.pli_type_tree.specs.TypedTree.{NewestOf, AllocatedItem, AllocatesControlled, AllocatesBased, AllocatesInArea, Form, TypedRange, Iteration, ToBy, ByTo}
+use Rattle.pli_type_tree.specs.TypedTree.{NewestOf, AllocatedItem, AllocatesControlled, AllocatesBased, AllocatesInArea, Form, TypedRange, Iteration, ToBy, ByTo, TypedExpression}
 
 -- whatever was read
 read_any : {A B : Type 0} (Q : B → Type 0) (r : Result A Fault) (f : A → Result B Fault) → ((x : A) → OnRead Q (f x))
@@ -74,12 +75,19 @@ IsAllocation t count form = ⊥
 
 simple_aggregate : (equals : ℕ) (target : Referent) (m : Meant) → OnRead IsSimple (aggregate_assigned equals target m)
 simple_aggregate equals target (OneValue v) = tt
-simple_aggregate equals target (WholeAggregate r) = read_if IsSimple (same target.description r.description) _ _ tt tt
+simple_aggregate equals target (WholeAggregate r) = read_if IsSimple (are_alike target.description r.description) _ _ tt tt
 
-simple_scalar : (n : Naming) (equals : ℕ) (target : Referent) (e : Expression) → OnRead IsSimple (scalar_assigned n equals target e)
-simple_scalar n equals target e =
+simple_scalar : (n : Naming) (equals : ℕ) (target : Referent) (d : Description) (e : Expression)
+    → OnRead IsSimple (scalar_assigned n equals target d e)
+simple_scalar n equals target d e =
     read_any IsSimple (value_of n e) _
-    (λ v. read_any IsSimple (or_fault CannotAssign equals (converted n.greatest target.area target.description v)) _ (λ x. tt))
+    (λ v. read_any IsSimple (or_fault CannotAssign equals (converted n.greatest target.area d v)) _ (λ x. tt))
+
+simple_string : (n : Naming) (equals : ℕ) (target : Referent) (form : StringForm) (e : Expression)
+    → OnRead IsSimple (string_assigned n equals target form e)
+simple_string n equals target form e =
+    read_any IsSimple (value_of n e) _
+    (λ v. read_any IsSimple (or_fault CannotAssign equals (suited_to_form form v.expression v.kind)) _ (λ x. tt))
 
 simple_source : (target : Beginning) (o : Option Beginning)
     → OnGiven IsSimple (option_map (λ source. typed.AssignArea (whole_at target) (whole_at source)) o)
@@ -96,12 +104,19 @@ simple_area : (n : Naming) (equals : ℕ) (target : Option Beginning) (e : Expre
 simple_area n equals target e =
     read_any IsSimple (denoted n AsValue e) _ (λ d. read_option IsSimple CannotAssign equals (area_put target d) (simple_put target d))
 
+simple_one : (n : Naming) (equals : ℕ) (target : Referent) (type : ParameterType) (e : Expression)
+    → OnRead IsSimple (one_assigned n equals target type e)
+simple_one n equals target (Stated d) e =
+    read_if IsSimple (is_area d) _ _
+    (simple_area n equals (area_meant target.reference (Stated d)) e) (simple_scalar n equals target d e)
+simple_one n equals target (AnyString form) e = simple_string n equals target form e
+simple_one n equals target type e = tt
+
 simple_variable : (n : Naming) (equals : ℕ) (target : Referent) (e : Expression) → OnRead IsSimple (variable_assigned n equals target e)
 simple_variable n equals target e =
-    read_if IsSimple (is_aggregate target.description) _ _
+    read_if IsSimple (is_aggregate_type target.description) _ _
     (read_any IsSimple (meant n AsArgument e) _ (λ m. simple_aggregate equals target m))
-    (read_if IsSimple (is_area target.description) _ _
-    (simple_area n equals (area_meant target.reference target.description) e) (simple_scalar n equals target e))
+    (simple_one n equals target target.description e)
 
 simple_assigned : (n : Naming) (at equals : ℕ) (d : Denoted) (e : Expression) → OnRead IsSimple (assigned n at equals d e)
 simple_assigned n at equals (DenotesVariable target) e = simple_variable n equals target e
@@ -276,12 +291,25 @@ limits_keep n (Some (tree.By by (Some to))) =
     read_any (Keeps (Some (tree.By by (Some to)))) (limit n by) _
     (λ x. read_some (Keeps (Some (tree.By by (Some to)))) (ByTo x) (limit n to) (λ y. refl))
 
+-- REPEAT keeps no limit
+repeated_keeps : (next : Expression) (make : TypedExpression → TypedRange) (o : Option TypedExpression)
+    → ((x : TypedExpression) → Keeps (Some (tree.Repeat next)) (make x)) → OnGiven (Keeps (Some (tree.Repeat next))) (option_map make o)
+repeated_keeps next make (Some x) h = h x
+repeated_keeps next make None h = tt
+
+turned_keeps : (greatest : ℕ) (area : Option Beginning) (v : TypedValue) (type : ParameterType) (next : Expression)
+    → OnGiven (Keeps (Some (tree.Repeat next))) (turned greatest area v type)
+turned_keeps greatest area v (Stated d) next = repeated_keeps next typed.Repeated (converted greatest area d v) (λ x. refl)
+turned_keeps greatest area v (AnyString form) next =
+    repeated_keeps next typed.RepeatedString (suited_to_form form v.expression v.kind) (λ x. refl)
+turned_keeps greatest area v type next = tt
+
 repeat_keeps : (n : Naming) (r : Referent) (kept : TypedRange) (range : Option Range) → Keeps range kept
     → OnRead (Keeps range) (with_repeat n r kept range)
 repeat_keeps n r kept (Some (tree.Repeat next)) h =
     read_any (Keeps (Some (tree.Repeat next))) (value_of n next) _
-    (λ v. read_any (Keeps (Some (tree.Repeat next))) (or_fault CannotAssign (first_token next) (converted n.greatest r.area r.description v)) _
-    (λ x. refl))
+    (λ v. read_option (Keeps (Some (tree.Repeat next))) CannotAssign (first_token next) (turned n.greatest r.area v r.description)
+    (turned_keeps n.greatest r.area v r.description next))
 repeat_keeps n r kept (Some (tree.To to by)) h = h
 repeat_keeps n r kept (Some (tree.By by to)) h = h
 repeat_keeps n r kept None h = h
@@ -297,7 +325,7 @@ iteration_keeps n temporary variable equals first range tested =
     (λ v. read_so (Keeps range) (HasOwn temporary range) (limits n range) _ (limits_keep n range)
     (λ kept h. read_any (HasOwn temporary range) (referred n AsLocator variable) _
     (λ d. read_any (HasOwn temporary range) (controls (own_token variable) (has_locator variable) kept d) _
-    (λ r. read_any (HasOwn temporary range) (or_fault CannotAssign equals (conversion n.greatest r.area r.description v.kind)) _
+    (λ r. read_any (HasOwn temporary range) (or_fault CannotAssign equals (conversion_to n.greatest r.area r.description v.kind)) _
     (λ converts. read_any (HasOwn temporary range) (possible_condition n tested) _
     (λ x. read_so (Keeps range) (HasOwn temporary range) (with_repeat n r kept range) _
     (repeat_keeps n r kept range h) (λ turns k. (refl, k))))))))

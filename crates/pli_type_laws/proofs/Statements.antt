@@ -6,6 +6,7 @@ use Rattle.pli_base.specs.Statements as tree
 use Rattle.pli_base.specs.Statements.{ExternalProcedure, Statement, Numbered, Body, Statements, Ended, Before, Alternative}
 use Rattle.pli_base.specs.declared.token.Fault.{Fault}
 use Rattle.pli_map.specs.Description.{Description}
+use Rattle.pli_map.specs.ParameterTypes.{ParameterType, Stated}
 use Rattle.pli_meaning_typed.specs.TypedPrograms.{HasEnd, context_in}
 use Rattle.pli_resolve.specs.declared.block_numbers.ResolvedBlockKind.TheVariants as kinds
 use Rattle.pli_type.specs.Names.{NamedUnit, NamedAs}
@@ -97,7 +98,7 @@ put_typed t true x y h k = k
 put_typed t false x y h k = (h, k)
 
 module _ (program : ExternalProcedure) (is_based : ℕ → Bool) (based : List ℕ → ℕ → List Template) (areas : List ℕ → ℕ → Option Beginning)
-    (meaning : List ℕ → ℕ → NamedAs) (parameters : ℕ → List Description) (returned : ℕ → Option Description) (automatic : ℕ → List Template)
+    (meaning : List ℕ → ℕ → NamedAs) (parameters : ℕ → List ParameterType) (returned : ℕ → Option Description) (automatic : ℕ → List Template)
     (globals : List Global) where
   abbrev pub U : NamedUnit
   U = unit_with program is_based based areas meaning parameters returned automatic globals
@@ -141,7 +142,7 @@ module _ (program : ExternalProcedure) (is_based : ℕ → Bool) (based : List �
             refl,
             (
               ap length (sym (none kind)),
-              ap (λ ds. ds ++ map (λ v. v.description) (automatic number)) (sym (none kind)),
+              ap (λ types. types ++ map (λ v. Stated v.description) (automatic number)) (sym (none kind)),
             ),
             f,
             f,
@@ -211,7 +212,7 @@ module _ (program : ExternalProcedure) (is_based : ℕ → Bool) (based : List �
           refl,
           (
             ap length (sym takes_nothing),
-            ap (λ ds. ds ++ map (λ v. v.description) (automatic number)) (sym takes_nothing),
+            ap (λ types. types ++ map (λ v. Stated v.description) (automatic number)) (sym takes_nothing),
           ),
           f,
           f,

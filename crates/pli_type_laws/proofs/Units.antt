@@ -6,6 +6,7 @@ use Rattle.std.proofs.lemmas.Option.{same_Some, none-some}
 use Rattle.pli_base.specs.Statements.{ExternalProcedure}
 use Rattle.pli_base.specs.declared.token.Fault.{Fault}
 use Rattle.pli_map.specs.Description.{Description}
+use Rattle.pli_map.specs.ParameterTypes.{ParameterType}
 use Rattle.pli_meaning_tree.specs.TreeMeaning.{procedure_in}
 use Rattle.pli_meaning_typed.specs.TypedPrograms.{IsTypedProcedure, IsTypedUnit, context_in}
 use Rattle.pli_resolve.specs.declared.block_numbers.ResolvedBlockKind.{ResolvedBlockKind}
@@ -36,7 +37,7 @@ unit_no_begin : kinds.OnUnit ≡ kinds.Begin → ⊥
 unit_no_begin e = absurd (cc)
 
 module _ (program : ExternalProcedure) (is_based : ℕ → Bool) (based : List ℕ → ℕ → List Template) (areas : List ℕ → ℕ → Option Beginning)
-    (meaning : List ℕ → ℕ → NamedAs) (parameters : ℕ → List Description) (returned : ℕ → Option Description) (automatic : ℕ → List Template)
+    (meaning : List ℕ → ℕ → NamedAs) (parameters : ℕ → List ParameterType) (returned : ℕ → Option Description) (automatic : ℕ → List Template)
     (globals : List Global) where
   abbrev V : NamedUnit
   V = unit_with program is_based based areas meaning parameters returned automatic globals

@@ -4,6 +4,7 @@ use Rattle.pli_base.specs.Statements.{ExternalProcedure}
 use Rattle.pli_base.specs.Words.{Tokens}
 use Rattle.pli_gen.specs.WellNumbered.{IsWellNumbered}
 use Rattle.pli_map.specs.Description.{Description}
+use Rattle.pli_map.specs.ParameterTypes.{ParameterType}
 use Rattle.pli_meaning_typed.specs.TypedPrograms.{IsTypedUnit}
 use Rattle.pli_parse_expression.specs.Expressions.{Deeper}
 use Rattle.pli_parse_expression.specs.Operators.{nesting_limit}
@@ -32,7 +33,7 @@ abbrev pub unit_with : ExternalProcedure → (is_based : ℕ → Bool)
     → (based : (blocks : List ℕ) → (block : ℕ) → List Template)
     → (areas : (blocks : List ℕ) → (block : ℕ) → Option Beginning)
     → (meaning : (blocks : List ℕ) → ℕ → NamedAs)
-    → (parameters : (block : ℕ) → List Description) → (returned : (block : ℕ) → Option Description)
+    → (parameters : (block : ℕ) → List ParameterType) → (returned : (block : ℕ) → Option Description)
     → (automatic : (block : ℕ) → List Template) → (globals : List Global) → NamedUnit
 unit_with tree is_based based areas meaning parameters returned automatic globals = record {
   tree = tree;
@@ -56,7 +57,7 @@ TypedUnitsAreTyped =
     (tree : ExternalProcedure) (is_based : ℕ → Bool)
     (based : (blocks : List ℕ) → (block : ℕ) → List Template)
     (areas : (blocks : List ℕ) → (block : ℕ) → Option Beginning) (meaning : (blocks : List ℕ) → ℕ → NamedAs)
-    (parameters : (block : ℕ) → List Description) (returned : (block : ℕ) → Option Description)
+    (parameters : (block : ℕ) → List ParameterType) (returned : (block : ℕ) → Option Description)
     (automatic : (block : ℕ) → List Template) (globals : List Global)
     → NameFacts (unit_with tree is_based based areas meaning parameters returned automatic globals)
     → Deeper (λ m. ListNests true m tree.statements) nesting_limit → (t : TypedUnit)

@@ -2,9 +2,10 @@
 use Rattle.std.specs.Prelude.{◌≡◌, ℕ, true, Option, Some, None, List, [], slice_get, refl}
 use Rattle.std.proofs.Common.{sym, subst}
 use Rattle.pli_map.specs.Description.{Description, Area}
+use Rattle.pli_map.specs.ParameterTypes.{Stated}
 use Rattle.pli_map.specs.Scalars.{is_area}
 use Rattle.pli_resolve.specs.ResolvedUnits.{ResolvedUnit, symbol_at}
-use Rattle.pli_resolve.specs.Symbols.{Symbol, SymbolKind, Variable, Member, Label, Procedure, Entry, BuiltIn}
+use Rattle.pli_resolve.specs.Symbols.{Symbol, SymbolKind, Variable, OpenParameter, Member, Label, Procedure, Entry, BuiltIn}
 use Rattle.pli_resolve.specs.declared.symbol.StorageClass.{StorageClass}
 use Rattle.pli_resolve.specs.declared.symbol.SymbolKey.{SymbolKey}
 use Rattle.pli_type.specs.Beginnings.{beginning_of}
@@ -18,13 +19,13 @@ use Rattle.pli_type_name_laws.proofs.RootsStand.{IsOf, root_begins}
 
 module _ (n : ℕ) (s : TypingContext) where
   -- what begins somewhere and is an area is one that may be named
-  pub root_named : (root : Root) (d : Description) → is_area d ≡ true → IsRooted n s root d → IsAreaNamed n s (beginning_of root)
+  pub root_named : (root : Root) (d : Description) → is_area d ≡ true → IsRooted n s root (Stated d) → IsAreaNamed n s (beginning_of root)
   root_named (InSlot outward slot) d area rooted = (tt, (d, rooted, area))
   root_named (OfProgram number) d area rooted = (tt, (d, rooted, area))
   root_named (NewestOf number) d area rooted = (tt, (d, rooted, area))
   root_named (Located locator whole) d area rooted = tt
 
-  on_named : (path : List ℕ) (whole : Description) (o : Option Root) → ((root : Root) → o ≡ Some root → IsRooted n s root whole)
+  on_named : (path : List ℕ) (whole : Description) (o : Option Root) → ((root : Root) → o ≡ Some root → IsRooted n s root (Stated whole))
       → IsAreaNamed n s (area_on path whole o)
   on_named [] (Area bytes) None h = tt
   on_named [] (Area bytes) (Some root) h = root_named root (Area bytes) refl (h root refl)
@@ -37,10 +38,10 @@ module _ (r : ResolvedUnit) (blocks : List ℕ) (n : ℕ) (s : TypingContext) wh
   module _ (globals : s.globals ≡ U.globals) (slots : HaveSlots U blocks s.blocks) where
     begun_rooted : (key : SymbolKey) (class : StorageClass) (d : Description) (t : Symbol)
         → slice_get (block_symbols r key.block) key.number ≡ Some t → IsOf class d t.kind → (root : Root)
-        → root_of 63 r blocks key class d ≡ Some root → IsRooted n s root d
+        → root_of 63 r blocks key class d ≡ Some root → IsRooted n s root (Stated d)
     begun_rooted key class d t there of root is =
         let begun = root_begins 63 r blocks key d root t there class of is in
-        (in_context r blocks n s (is_passed_class class) root d globals slots begun.0).0
+        (in_context r blocks n s (is_passed_class class) root (Stated d) globals slots begun.0).0
 
     kind_named : (key : SymbolKey) (path : List ℕ) (t : Symbol) (kind : SymbolKind)
         → slice_get (block_symbols r key.block) key.number ≡ Some t → t.kind ≡ kind
@@ -48,6 +49,7 @@ module _ (r : ResolvedUnit) (blocks : List ℕ) (n : ℕ) (s : TypingContext) wh
     kind_named key path t (Variable d class scope initial area) there is =
         on_named n s path d (root_of 63 r blocks key class d)
         (λ root e. begun_rooted key class d t there (subst (IsOf class d) (sym is) (refl, refl)) root e)
+    kind_named key path t (OpenParameter type slot area) there is = tt
     kind_named key path t (Member root p initial area) there is = tt
     kind_named key path t (Label statement) there is = tt
     kind_named key path t (Procedure block returned area) there is = tt
@@ -67,6 +69,7 @@ module _ (r : ResolvedUnit) (blocks : List ℕ) (n : ℕ) (s : TypingContext) wh
         by : (kind : SymbolKind) → t.kind ≡ kind
             → IsAreaNamed n s (area_at 63 r blocks key (Some (record { identifier = t.identifier; kind = kind })))
         by (Variable d class scope initial area) is = kind_named key [] t (Variable d class scope initial area) there is
+        by (OpenParameter type slot area) is = tt
         by (Member root path initial area) is =
             symbol_named (record { block = key.block; number = root }) path (slice_get (block_symbols r key.block) root) refl
         by (Label statement) is = tt

@@ -18,7 +18,7 @@ use Rattle.pli_map.specs.Scalars.{scalars_of}
 use Rattle.pli_map.specs.Sizes.{size_of}
 use Rattle.pli_map.specs.Values.{holds, are_held, first_values}
 use Rattle.pli_map.proofs.FirstHeld.{firsts_held}
-use Rattle.pli_resolve.specs.Symbols.{Symbol, SymbolKind, Variable, Member, Label, Procedure, Entry, BuiltIn}
+use Rattle.pli_resolve.specs.Symbols.{Symbol, SymbolKind, Variable, OpenParameter, Member, Label, Procedure, Entry, BuiltIn}
 use Rattle.pli_resolve.specs.declared.symbol.StorageClass.{StorageClass}
 use Rattle.pli_type.specs.InitialScalars.{InitialItem, initial_scalars, template_of}
 use Rattle.pli_type.specs.NamedUnits.{may_stand, is_stored, is_global, kind_of_class, member_items, template_at, templates_from}
@@ -87,6 +87,7 @@ module _ (Holds : Template → Type 0) (is_such : StorageClass → Description �
   symbol_holds : (number : ℕ) (kind : SymbolKind) → AllByRecursion Holds (template_at is_such all number kind)
   symbol_holds number (Variable d class scope initial area) =
       class_holds class d (record { path = []; values = initial } ∷ member_items number all) (is_such class d) refl
+  symbol_holds number (OpenParameter type slot area) = tt
   symbol_holds number (Member root path initial area) = tt
   symbol_holds number (Label statement) = tt
   symbol_holds number (Procedure block returned area) = tt
@@ -170,6 +171,7 @@ module _ (n : ℕ) (stored : (class : StorageClass) (d : Description) → is_glo
       let ts : List Template = template_at (is_global n) all number (Variable d class scope initial area) in
       scoped_made scope (kind_of_class class) name ts rest
       (symbol_made n (is_global n) stored all number (Variable d class scope initial area)) h
+  global_made all number name (OpenParameter type slot area) rest h = h
   global_made all number name (Member root path initial area) rest h = h
   global_made all number name (Label statement) rest h = h
   global_made all number name (Procedure block returned area) rest h = h

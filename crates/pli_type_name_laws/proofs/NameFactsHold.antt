@@ -5,12 +5,13 @@ use Rattle.std.proofs.Common.{sym, ◌∙◌, ap, subst}
 use Rattle.std.proofs.lemmas.Bool.{and_parts, false≢true}
 use Rattle.std.proofs.lemmas.Option.{same_Some, none-some}
 use Rattle.pli_map.specs.Description.{Description}
+use Rattle.pli_map.specs.ParameterTypes.{ParameterType, Stated}
 use Rattle.pli_resolve.specs.ResolvedUnits.{ResolvedUnit, ResolvedBlock, all_symbols, meaning_at}
 use Rattle.pli_resolve.specs.declared.block_numbers.ResolvedBlockKind.{ResolvedBlockKind}
 use Rattle.pli_resolve.specs.declared.block_numbers.ResolvedBlockKind.TheVariants as kinds
 use Rattle.pli_resolve.specs.declared.symbol.StorageClass.{StorageClass}
 use Rattle.pli_resolve.specs.declared.symbol.StorageClass.TheVariants as classes
-use Rattle.pli_type.specs.NamedUnits.{is_plain, is_valued, may_stand, is_automatic, is_based, block_symbols, parameter_numbers, parameters_of}
+use Rattle.pli_type.specs.NamedUnits.{is_plain, is_valued, may_stand, may_be, is_automatic, is_based, block_symbols, parameter_numbers, parameters_of}
 use Rattle.pli_type.specs.NamedUnits.{is_reached, is_procedure, stands_around, gives_stored}
 use Rattle.pli_type.specs.NamedUnits.{named_procedure, named_unit, returned_area_of, templates_of}
 use Rattle.pli_type.specs.InitialScalars.{InitialItem, template_of}
@@ -25,9 +26,9 @@ use Rattle.pli_type_name_laws.specs.UnitBlocks.{in_unit, in_tree, BlocksAreOfTre
 use Rattle.pli_type_name_laws.proofs.AreasNamed.{area_there}
 use Rattle.pli_type_name_laws.proofs.InitialHeld.{all_hold, template_made, all_made, globals_behind}
 use Rattle.pli_type_name_laws.proofs.LocatorsNamed.{locator_there}
-use Rattle.pli_type_name_laws.proofs.NamesMean.{StandsIn, IsStored, IsNamedArea, IsThere, IsNamed, variable_begins, procedure_named_so, is_a_procedure, around, same_place}
+use Rattle.pli_type_name_laws.proofs.NamesMean.{StandsIn, may_so, IsStored, IsNamedArea, IsThere, IsNamed, variable_begins, procedure_named_so, is_a_procedure, around, same_place}
 use Rattle.pli_type_name_laws.proofs.PartsOfNames.{part_stands, subscripts_lead, whole_is}
-use Rattle.pli_type_name_laws.proofs.PlainDescriptions.{plain_no_area, stored_stands, valued_plain, valued_stored}
+use Rattle.pli_type_name_laws.proofs.PlainDescriptions.{plain_no_area, valued_plain, valued_stored}
 use Rattle.pli_type_name_laws.proofs.RootsInContext.{in_context}
 use Rattle.pli_type_name_laws.proofs.RootsStand.{automatic_stored, global_stored, entry_stands}
 
@@ -35,10 +36,10 @@ module _ (r : ResolvedUnit) where
   abbrev U : NamedUnit
   U = named_unit 63 r
 
-  stored_in : (blocks : List ℕ) (n : ℕ) (s : TypingContext) (storage : NamedStorage) (d : Description)
-      → s.globals ≡ U.globals → HaveSlots U blocks s.blocks → StandsIn 63 r blocks storage d → IsStoredIn n s storage d
-  stored_in blocks n s (Begins root is_parameter) d globals slots h = in_context r blocks n s is_parameter root d globals slots h
-  stored_in blocks n s (IsBased block number implied) d globals slots h =
+  stored_in : (blocks : List ℕ) (n : ℕ) (s : TypingContext) (storage : NamedStorage) (type : ParameterType)
+      → s.globals ≡ U.globals → HaveSlots U blocks s.blocks → StandsIn 63 r blocks storage type → IsStoredIn n s storage type
+  stored_in blocks n s (Begins root is_parameter) type globals slots h = in_context r blocks n s is_parameter root type globals slots h
+  stored_in blocks n s (IsBased block number implied) type globals slots h =
       subst (IsImplied n s) (sym h.3) (locator_there r blocks n s globals slots h.0)
 
   named_there : (blocks : List ℕ) (n : ℕ) (s : TypingContext) → s.globals ≡ U.globals → HaveSlots U blocks s.blocks
@@ -47,13 +48,15 @@ module _ (r : ResolvedUnit) where
 
   variable_facts : (blocks : List ℕ) (v : NamedVariable) → IsStored 63 r blocks v → VariableFacts U blocks v
   variable_facts blocks v b =
-      let plain : may_stand 63 v.whole ≡ true = stored_stands 63 v.whole b.1 in
+      let plain : may_be 63 v.whole ≡ true = may_so 63 v.whole b.1 in
+      let stands : (d : Description) → v.whole ≡ Stated d → may_stand 63 d ≡ true = λ d is. ap (may_be 63) (sym is) ∙ plain in
       record {
         begins = λ n s globals slots. stored_in blocks n s v.storage v.whole globals slots b.0;
         area = λ n s globals slots. named_there blocks n s globals slots v.area b.2;
         plain = plain;
-        leads = λ p q xs e f. subscripts_lead 63 v.whole p q xs (part_stands 63 v.whole v p refl plain e) f;
-        whole = λ p q none e f. whole_is 63 v p q plain none e f;
+        own = b.3;
+        leads = λ d p q xs is e f. subscripts_lead 63 d p q xs (part_stands 63 d v p is (stands d is) e) f;
+        whole = λ d p q is none e f. whole_is 63 d v p q is (stands d is) none e f;
       }
 
   -- ---- procedures

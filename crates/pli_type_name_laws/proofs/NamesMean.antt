@@ -5,8 +5,9 @@ use Rattle.std.proofs.Common.{sym, ◌∙◌, ap, subst}
 use Rattle.std.proofs.lemmas.Bool.{and_parts}
 use Rattle.std.proofs.lemmas.Option.{same_Some, none-some}
 use Rattle.pli_map.specs.Description.{Description}
+use Rattle.pli_map.specs.ParameterTypes.{ParameterType, Stated}
 use Rattle.pli_resolve.specs.ResolvedUnits.{ResolvedUnit, ResolvedBlock, symbol_at}
-use Rattle.pli_resolve.specs.Symbols.{Symbol, SymbolKind, Variable, Member, Label, Procedure, Entry, BuiltIn}
+use Rattle.pli_resolve.specs.Symbols.{Symbol, SymbolKind, Variable, OpenParameter, Member, Label, Procedure, Entry, BuiltIn}
 use Rattle.pli_resolve.specs.declared.block_numbers.ResolvedBlockKind.{ResolvedBlockKind}
 use Rattle.pli_resolve.specs.declared.block_numbers.ResolvedBlockKind.TheVariants as kinds
 use Rattle.pli_resolve.specs.declared.symbol.NameMeaning.{NameMeaning}
@@ -14,17 +15,19 @@ use Rattle.pli_resolve.specs.declared.symbol.NameMeaning.TheVariants as meanings
 use Rattle.pli_resolve.specs.declared.symbol.StorageClass.{StorageClass}
 use Rattle.pli_resolve.specs.declared.symbol.StorageClass.TheVariants as classes
 use Rattle.pli_resolve.specs.declared.symbol.SymbolKey.{SymbolKey}
+use Rattle.pli_type.specs.NamedUnits.{is_open_parameter, may_be, open_root, open_storage}
 use Rattle.pli_type.specs.NamedUnits.{is_stored, is_valued, is_based, is_passed_class, such_before, block_symbols, outward_to, root_of, area_named, locator_named, storage_of, variable_from, variable_at, is_procedure}
 use Rattle.pli_type.specs.NamedUnits.{global_number, stands_around, is_reached, gives_stored, returned_of, returned_area_of, named_procedure}
 use Rattle.pli_type.specs.NamedUnits.{symbol_meant, declared_as, named_as}
 use Rattle.pli_type.specs.Names.{NamedStorage, Begins, IsBased, NamedVariable, NamedProcedure, AVariable, AProcedure, ALabel, Untyped}
+use Rattle.pli_type.specs.References.{is_passed}
 use Rattle.pli_type.specs.declared.beginning.Beginning.{Beginning}
 use Rattle.pli_type_tree.specs.TypedTree.{Callee, OfBlock, OfEntry, Root}
 use Rattle.pli_type_name_laws.specs.NameFacts.{StandsAround}
 use Rattle.pli_type_name_laws.specs.SourceBlocks.{SourceBlock}
 use Rattle.pli_type_name_laws.specs.UnitBlocks.{in_unit, in_tree}
-use Rattle.pli_type_name_laws.proofs.PlainDescriptions.{valued_stored}
-use Rattle.pli_type_name_laws.proofs.RootsStand.{IsOf, IsEntry, Standing, root_begins}
+use Rattle.pli_type_name_laws.proofs.PlainDescriptions.{stored_stands, valued_stored}
+use Rattle.pli_type_name_laws.proofs.RootsStand.{IsOf, IsEntry, Standing, root_begins, open_begins}
 
 not_true : false ≡ true → ⊥
 not_true e = absurd (cc)
@@ -34,6 +37,19 @@ same_variable v w e = cc
 
 same_procedure : (p q : NamedProcedure) → AProcedure p ≡ AProcedure q → p ≡ q
 same_procedure p q e = cc
+
+-- a variable of this type is stored, or it is a parameter in which a `*` stands
+abbrev pub MayBe : (greatest : ℕ) → ParameterType → Type 0
+MayBe n (Stated d) = is_stored n d ≡ true
+MayBe n type = is_open_parameter n type ≡ true
+
+open_may : (n : ℕ) (type : ParameterType) → is_open_parameter n type ≡ true → MayBe n type
+open_may n (Stated d) h = absurd (not_true h)
+open_may n type h = h
+
+pub may_so : (n : ℕ) (type : ParameterType) → MayBe n type → may_be n type ≡ true
+may_so n (Stated d) h = stored_stands n d h
+may_so n type h = h
 
 module _ (n : ℕ) (r : ResolvedUnit) (blocks : List ℕ) where
   pub none_there : (key : SymbolKey) → symbol_at r key ≡ None → declared_as n r blocks key ≡ Untyped
@@ -45,14 +61,15 @@ module _ (n : ℕ) (r : ResolvedUnit) (blocks : List ℕ) where
   -- ---- variables
 
   -- storage stands: where a variable begins, or, of a symbol that is BASED, wherever the locator leads that BASED names
-  abbrev pub StandsIn : NamedStorage → Description → Type 0
-  StandsIn (Begins root is_parameter) d = Standing n r blocks is_parameter root d
-  StandsIn (IsBased block number implied) d =
+  abbrev pub StandsIn : NamedStorage → ParameterType → Type 0
+  StandsIn (Begins root is_parameter) type = Standing n r blocks is_parameter root type
+  StandsIn (IsBased block number implied) type =
       (locator : Option SymbolKey) × (key : SymbolKey) × (s : Symbol) × (implied ≡ locator_named n r blocks locator)
-      × (slice_get (block_symbols r key.block) key.number ≡ Some s) × IsOf (classes.Based locator) d s.kind
+      × (slice_get (block_symbols r key.block) key.number ≡ Some s)
+      × (d : Description) × (type ≡ Stated d) × IsOf (classes.Based locator) d s.kind
 
   abbrev pub HasStorage : NamedStorage → Description → Type 0
-  HasStorage storage d = StandsIn storage d × (is_stored n d ≡ true)
+  HasStorage storage d = StandsIn storage (Stated d) × (is_stored n d ≡ true)
 
   module _ (key : SymbolKey) (d : Description) (storage : NamedStorage) (s : Symbol) (there : slice_get (block_symbols r key.block) key.number ≡ Some s) where
     begun : (class : StorageClass) → IsOf class d s.kind → (o : Option Root) → root_of n r blocks key class d ≡ o
@@ -65,7 +82,7 @@ module _ (n : ℕ) (r : ResolvedUnit) (blocks : List ℕ) where
         → (if b then Some (IsBased key.block (such_before (is_based n) (block_symbols r key.block) key.number) (locator_named n r blocks locator)) else None) ≡ Some storage
         → HasStorage storage d
     based locator of true valued e =
-        subst (λ t. HasStorage t d) (same_Some _ storage e) ((locator, key, s, refl, there, of), valued_stored n d valued)
+        subst (λ t. HasStorage t d) (same_Some _ storage e) ((locator, key, s, refl, there, d, refl, of), valued_stored n d valued)
     based locator of false valued e = absurd (none-some storage e)
 
     storage_stands : (class : StorageClass) → IsOf class d s.kind → storage_of n r blocks key class d ≡ Some storage → HasStorage storage d
@@ -80,7 +97,7 @@ module _ (n : ℕ) (r : ResolvedUnit) (blocks : List ℕ) where
   IsNamedArea area = (named : Option SymbolKey) × (area ≡ area_named n r blocks named)
 
   -- the procedure of an entry
-  abbrev entry_procedure : SymbolKey → List Description → Option Description → (area : Option SymbolKey) → NamedProcedure
+  abbrev entry_procedure : SymbolKey → List ParameterType → Option Description → (area : Option SymbolKey) → NamedProcedure
   entry_procedure key parameters returned area = record {
     callee = OfEntry (global_number n r key);
     parameters = parameters;
@@ -88,9 +105,16 @@ module _ (n : ℕ) (r : ResolvedUnit) (blocks : List ℕ) where
     area = area_named n r blocks area;
   }
 
+  -- a `*` stands in parameters alone
+  abbrev pub IsOwn : NamedVariable → Type 0
+  IsOwn v = is_passed v.storage ≡ false → (d : Description) × (v.whole ≡ Stated d)
+
+  abbrev pub IsStoredSo : NamedVariable → Type 0
+  IsStoredSo v = StandsIn v.storage v.whole × MayBe n v.whole × IsNamedArea v.area × IsOwn v
+
   module _ (v : NamedVariable) where
     abbrev pub IsStored : Type 0
-    IsStored = StandsIn v.storage v.whole × (is_stored n v.whole ≡ true) × IsNamedArea v.area
+    IsStored = IsStoredSo v
 
     untyped : Untyped ≡ AVariable v → ⊥
     untyped e = absurd (cc)
@@ -103,13 +127,24 @@ module _ (n : ℕ) (r : ResolvedUnit) (blocks : List ℕ) where
 
     from_storage : (key : SymbolKey) (class : StorageClass) (d : Description) (path : List ℕ) (named : Option SymbolKey) (s : Symbol)
         → slice_get (block_symbols r key.block) key.number ≡ Some s → IsOf class d s.kind → (o : Option NamedStorage)
-        → storage_of n r blocks key class d ≡ o → variable_from o d path (area_named n r blocks named) ≡ AVariable v → IsStored
+        → storage_of n r blocks key class d ≡ o → variable_from o (Stated d) path (area_named n r blocks named) ≡ AVariable v → IsStored
     from_storage key class d path named s there of None is e = absurd (untyped e)
     from_storage key class d path named s there of (Some storage) is e =
         let stands = storage_stands key d storage s there class of is in
-        subst (λ (w : NamedVariable). StandsIn w.storage w.whole × (is_stored n w.whole ≡ true) × IsNamedArea w.area)
-        (same_variable (record { storage = storage; whole = d; path = path; area = area_named n r blocks named }) v e)
-        (stands.0, stands.1, (named, refl))
+        subst IsStoredSo
+        (same_variable (record { storage = storage; whole = Stated d; path = path; area = area_named n r blocks named }) v e)
+        (stands.0, stands.1, (named, refl), λ own. (d, refl))
+
+    of_open : (key : SymbolKey) (type : ParameterType) (slot : ℕ) (named : Option SymbolKey) (s : Symbol)
+        → slice_get (block_symbols r key.block) key.number ≡ Some s → s.kind ≡ OpenParameter type slot named → (o : Option Root)
+        → open_root n r blocks key slot type ≡ o
+        → variable_from (open_storage o) type [] (area_named n r blocks named) ≡ AVariable v → IsStored
+    of_open key type slot named s there kind None is e = absurd (untyped e)
+    of_open key type slot named s there kind (Some root) is e =
+        let stands = open_begins n r blocks key type slot named root s there kind is in
+        subst IsStoredSo
+        (same_variable (record { storage = Begins root true; whole = type; path = []; area = area_named n r blocks named }) v e)
+        (stands.0, open_may n type stands.1, (named, refl), λ own. absurd (not_true (sym own)))
 
     of_variable : (key : SymbolKey) (path : List ℕ) (named : Option SymbolKey) (s : Symbol) (kind : SymbolKind)
         → slice_get (block_symbols r key.block) key.number ≡ Some s → s.kind ≡ kind
@@ -117,6 +152,7 @@ module _ (n : ℕ) (r : ResolvedUnit) (blocks : List ℕ) where
         → IsStored
     of_variable key path named s (Variable d class scope initial area) there is e =
         from_storage key class d path named s there (subst (IsOf class d) (sym is) (refl, refl)) _ refl e
+    of_variable key path named s (OpenParameter type slot area) there is e = absurd (untyped e)
     of_variable key path named s (Member root p initial area) there is e = absurd (untyped e)
     of_variable key path named s (Label statement) there is e = absurd (untyped e)
     of_variable key path named s (Procedure block returned area) there is e = absurd (untyped e)
@@ -137,6 +173,7 @@ module _ (n : ℕ) (r : ResolvedUnit) (blocks : List ℕ) where
         → s.kind ≡ kind → symbol_meant n r blocks key kind ≡ AVariable v → IsStored
     of_symbol key s (Variable d class scope initial area) there is e =
         from_storage key class d [] area s there (subst (IsOf class d) (sym is) (refl, refl)) _ refl e
+    of_symbol key s (OpenParameter type slot area) there is e = of_open key type slot area s there is _ refl e
     of_symbol key s (Member root path initial area) there is e =
         of_member (record { block = key.block; number = root }) path area _ refl e
     of_symbol key s (Label statement) there is e = absurd (no_label statement e)
@@ -180,10 +217,10 @@ module _ (n : ℕ) (r : ResolvedUnit) (blocks : List ℕ) where
     nothing : Untyped ≡ AProcedure p → ⊥
     nothing e = absurd (cc)
 
-    from_variable : (o : Option NamedStorage) (d : Description) (path : List ℕ) (area : Option Beginning)
-        → variable_from o d path area ≡ AProcedure p → ⊥
-    from_variable None d path area e = nothing e
-    from_variable (Some storage) d path area e = absurd (cc)
+    from_variable : (o : Option NamedStorage) (type : ParameterType) (path : List ℕ) (area : Option Beginning)
+        → variable_from o type path area ≡ AProcedure p → ⊥
+    from_variable None type path area e = nothing e
+    from_variable (Some storage) type path area e = absurd (cc)
 
     member_means : (key : SymbolKey) (path : List ℕ) (area : Option Beginning) (o : Option Symbol)
         → variable_at n r blocks key path area o ≡ AProcedure p → ⊥
@@ -192,7 +229,9 @@ module _ (n : ℕ) (r : ResolvedUnit) (blocks : List ℕ) where
       where
         by : (kind : SymbolKind) → s.kind ≡ kind
             → variable_at n r blocks key path area (Some (record { identifier = s.identifier; kind = kind })) ≡ AProcedure p → ⊥
-        by (Variable d class scope initial named) is e = from_variable (storage_of n r blocks key class d) d path area e
+        by (Variable d class scope initial named) is e =
+            from_variable (storage_of n r blocks key class d) (Stated d) path area e
+        by (OpenParameter type slot named) is e = nothing e
         by (Member root p initial area) is e = nothing e
         by (Label statement) is e = nothing e
         by (Procedure block returned area) is e = nothing e
@@ -213,7 +252,7 @@ module _ (n : ℕ) (r : ResolvedUnit) (blocks : List ℕ) where
     of_block block false h e = absurd (nothing e)
 
     of_entry : (key : SymbolKey) (s : Symbol) → slice_get (block_symbols r key.block) key.number ≡ Some s
-        → (parameters : List Description) (returned : Option Description) (area : Option SymbolKey) → s.kind ≡ Entry parameters returned area
+        → (parameters : List ParameterType) (returned : Option Description) (area : Option SymbolKey) → s.kind ≡ Entry parameters returned area
         → (b : Bool) → gives_stored n returned ≡ b
         → (if b then AProcedure (entry_procedure key parameters returned area) else Untyped) ≡ AProcedure p → IsNamed
     of_entry key s there parameters returned area is true h e =
@@ -239,7 +278,9 @@ module _ (n : ℕ) (r : ResolvedUnit) (blocks : List ℕ) where
     symbol_named : (key : SymbolKey) (s : Symbol) → slice_get (block_symbols r key.block) key.number ≡ Some s → (kind : SymbolKind)
         → s.kind ≡ kind → symbol_meant n r blocks key kind ≡ AProcedure p → IsNamed
     symbol_named key s there (Variable d class scope initial area) is e =
-        absurd (from_variable (storage_of n r blocks key class d) d [] (area_named n r blocks area) e)
+        absurd (from_variable (storage_of n r blocks key class d) (Stated d) [] (area_named n r blocks area) e)
+    symbol_named key s there (OpenParameter type slot area) is e =
+        absurd (from_variable (open_storage (open_root n r blocks key slot type)) type [] (area_named n r blocks area) e)
     symbol_named key s there (Member root path initial area) is e =
         absurd (member_means (record { block = key.block; number = root }) path (area_named n r blocks area) (slice_get (block_symbols r key.block) root) e)
     symbol_named key s there (Label statement) is e = absurd (cc)

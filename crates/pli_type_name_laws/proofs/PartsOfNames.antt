@@ -5,6 +5,7 @@ use Rattle.std.proofs.Common.{sym, ◌∙◌, ap, subst, arith}
 use Rattle.std.proofs.lemmas.Bool.{and_parts, eqb-true}
 use Rattle.std.proofs.lemmas.Option.{same_Some, none-some}
 use Rattle.pli_map.specs.Description.{Description, Array, Structure, Members}
+use Rattle.pli_map.specs.ParameterTypes.{Stated, stated}
 use Rattle.pli_map.specs.Parts.{PlacedPart, member_behind}
 use Rattle.pli_map.proofs.ScalarLawsHold.{whole_found}
 use Rattle.pli_type.specs.NamedUnits.{may_stand}
@@ -85,9 +86,10 @@ module _ (n : ℕ) (w : Description) where
   pub start : may_stand n w ≡ true → Stands n w (strided 0 w [])
   start plain = record { plain = plain; leads = (0, whole_found w) }
 
-  pub part_stands : (v : NamedVariable) (p : StridedPart) → v.whole ≡ w → may_stand n w ≡ true → part_of v ≡ Some p → Stands n w p
+  pub part_stands : (v : NamedVariable) (p : StridedPart) → v.whole ≡ Stated w → may_stand n w ≡ true → part_of v ≡ Some p → Stands n w p
   part_stands v p is plain e =
-      path_stands (strided 0 w []) v.path p (start plain) (ap (λ d. part_on (strided 0 d []) v.path) (sym is) ∙ e)
+      path_stands (strided 0 w []) v.path p (start plain)
+      (ap (λ type. option_and_then (λ d. part_on (strided 0 d []) v.path) (stated type)) (sym is) ∙ e)
 
 -- without members and subscripts it is the whole variable
 whole_element : (n : ℕ) (d : Description) → may_stand n d ≡ true → length (element_of (strided 0 d [])).strides ≡ 0
@@ -104,9 +106,11 @@ whole_cases n d q true b plain is e =
 whole_cases n d q false true plain is e = sym (ap (λ (r : StridedPart). r.description) (same_Some _ q e))
 whole_cases n d q false false plain is e = absurd (none-some q e)
 
-pub whole_is : (n : ℕ) (v : NamedVariable) (p q : StridedPart) → may_stand n v.whole ≡ true → v.path ≡ [] → part_of v ≡ Some p
-    → with_subscripts 0 p ≡ Some q → q.description ≡ v.whole
-whole_is n v p q plain none e f =
-    let is : strided 0 v.whole [] ≡ p = same_Some _ p (sym (ap (part_on (strided 0 v.whole [])) none) ∙ e) in
-    whole_cases n v.whole q (nat_eq 0 (length (element_of (strided 0 v.whole [])).strides)) (nat_eq 0 0 && nat_eq 0 0) plain refl
+pub whole_is : (n : ℕ) (w : Description) (v : NamedVariable) (p q : StridedPart) → v.whole ≡ Stated w → may_stand n w ≡ true
+    → v.path ≡ [] → part_of v ≡ Some p → with_subscripts 0 p ≡ Some q → q.description ≡ w
+whole_is n w v p q same plain none e f =
+    let part : part_on (strided 0 w []) v.path ≡ Some p =
+    ap (λ type. option_and_then (λ d. part_on (strided 0 d []) v.path) (stated type)) (sym same) ∙ e in
+    let is : strided 0 w [] ≡ p = same_Some _ p (sym (ap (part_on (strided 0 w [])) none) ∙ part) in
+    whole_cases n w q (nat_eq 0 (length (element_of (strided 0 w [])).strides)) (nat_eq 0 0 && nat_eq 0 0) plain refl
     (ap (with_subscripts 0) is ∙ f)

@@ -1,17 +1,19 @@
 -- What plain descriptions have: each takes bytes, and its members and elements are plain. A variable may be an area too.
-use Rattle.std.specs.Prelude.{◌≡◌, ℕ, zero, suc, ◌+◌, ◌<◌, nat_lt, nat_le, Bool, true, false, ◌&&◌, Some, List, [], ◌∷◌, refl}
+use Rattle.std.specs.Prelude.{◌≡◌, ℕ, zero, suc, ◌+◌, ◌<◌, nat_lt, nat_le, unsigned_abs, Bool, true, false, ◌&&◌, Some, List, [], ◌∷◌, refl}
 use Rattle.std.proofs.Common.{sym, ◌∙◌, ap, arith}
 use Rattle.std.specs.Int.{next_multiple_of}
-use Rattle.std.proofs.lemmas.Bool.{and_parts, and_from, or_right, ltb-true}
+use Rattle.std.proofs.lemmas.Bool.{and_parts, and_from, or_right, leb-true, ltb-true}
 use Rattle.std.proofs.lemmas.Option.{same_Some, none-some}
 use Rattle.pli_map.specs.Description.{Description, FixedBinary, Character, Varying, Bit, Pointer, Offset, Area, Array, Structure, Members, NoMembers, MemberThen}
+use Rattle.pli_map.specs.ParameterTypes.{ParameterType, Stated}
 use Rattle.pli_map.specs.Parts.{PlacedPart, member_behind}
 use Rattle.pli_map.specs.ScalarPaths.{is_filled, are_filled}
 use Rattle.pli_map.specs.Scalars.{is_area}
 use Rattle.pli_map.specs.Sizes.{count_of, alignment_of, size_of}
 use Rattle.pli_map.specs.declared.description.Bounds.{Bounds}
 use Rattle.pli_map.proofs.ScalarLawsHold.{takes_bytes}
-use Rattle.pli_type.specs.NamedUnits.{is_plain, all_plain, is_valued, may_stand, is_stored}
+use Rattle.pli_type.specs.NamedUnits.{is_plain, all_plain, are_bounds, is_valued, may_stand, may_be, is_stored}
+use Rattle.pli_type_tree.specs.WellTyped.{AreNear, IsNarrowDescription, IsNarrow}
 
 not_true : false ≡ true → ⊥
 not_true e = absurd (cc)
@@ -100,3 +102,32 @@ pub valued_stored : (n : ℕ) (d : Description) → is_valued n d ≡ true → i
 valued_stored n d h =
     let both = and_parts (is_plain n d) (nat_le (size_of d) 1000000) h in
     and_from (may_stand n d) (nat_le (size_of d) 1000000) (plain_stands n d both.0) both.1
+
+-- ---- lengths and bounds
+
+pub bounds_near : (bs : List Bounds) → are_bounds bs ≡ true → AreNear bs
+bounds_near [] h = tt
+bounds_near (b ∷ bs) h =
+    let both = and_parts (nat_le (unsigned_abs b.low) 32768 && nat_le (unsigned_abs b.high) 32768) (are_bounds bs) h in
+    let here = and_parts (nat_le (unsigned_abs b.low) 32768) (nat_le (unsigned_abs b.high) 32768) both.0 in
+    (leb-true (unsigned_abs b.low) 32768 here.0, leb-true (unsigned_abs b.high) 32768 here.1, bounds_near bs both.1)
+
+plain_narrow : (n : ℕ) (d : Description) → is_plain n d ≡ true → IsNarrowDescription d
+plain_narrow n (Character k) h = leb-true k 32767 (and_parts (nat_lt 0 k) (nat_le k 32767) h).1
+plain_narrow n (Varying k) h = leb-true k 32767 (and_parts (nat_lt 0 k) (nat_le k 32767) h).1
+plain_narrow n (Bit k) h = leb-true k 32767 (and_parts (nat_lt 0 k) (nat_le k 32767) h).1
+plain_narrow n (Array [] e) h = absurd (not_true h)
+plain_narrow n (Array (b ∷ bs) e) h =
+    let all = and_parts (nat_lt 0 (count_of (b ∷ bs)) && are_bounds (b ∷ bs)) (is_plain n e) h in
+    let both = and_parts (nat_lt 0 (count_of (b ∷ bs))) (are_bounds (b ∷ bs)) all.0 in
+    (bounds_near (b ∷ bs) both.1, plain_narrow n e all.1)
+plain_narrow n d h = tt
+
+stands_narrow : (n : ℕ) (d : Description) → may_stand n d ≡ true → IsNarrowDescription d
+stands_narrow n (Area k) h = tt
+stands_narrow n d h = plain_narrow n d h
+
+-- what a variable may be is no longer, and no bound farther, than so
+pub may_narrow : (n : ℕ) (type : ParameterType) → may_be n type ≡ true → IsNarrow type
+may_narrow n (Stated d) h = stands_narrow n d h
+may_narrow n type h = tt

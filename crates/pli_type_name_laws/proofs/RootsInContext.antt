@@ -4,7 +4,7 @@ use Rattle.std.specs.Prelude.{List, [], ◌∷◌, length, slice_get, if◌then�
 use Rattle.std.proofs.Common.{sym, ◌∙◌, ap, subst}
 use Rattle.std.proofs.lemmas.Bool.{eqb-true}
 use Rattle.std.proofs.lemmas.Option.{same_Some, none-some}
-use Rattle.pli_map.specs.Description.{Description}
+use Rattle.pli_map.specs.ParameterTypes.{ParameterType}
 use Rattle.pli_program.specs.declared.kind.VariableKind.TheVariants.{Static, Controlled}
 use Rattle.pli_resolve.specs.ResolvedUnits.{ResolvedUnit}
 use Rattle.pli_type.specs.NamedUnits.{outward_to, named_unit}
@@ -45,16 +45,16 @@ module _ (r : ResolvedUnit) where
   abbrev U : NamedUnit
   U = named_unit 63 r
 
-  pub in_context : (blocks : List ℕ) (n : ℕ) (s : TypingContext) (is_parameter : Bool) (root : Root) (d : Description)
-      → s.globals ≡ U.globals → HaveSlots U blocks s.blocks → Standing 63 r blocks is_parameter root d
-      → IsRooted n s root d × (is_parameter ≡ false → BeginsWhole s root)
-  in_context blocks n s is_parameter (InSlot outward slot) d globals slots h =
+  pub in_context : (blocks : List ℕ) (n : ℕ) (s : TypingContext) (is_parameter : Bool) (root : Root) (type : ParameterType)
+      → s.globals ≡ U.globals → HaveSlots U blocks s.blocks → Standing 63 r blocks is_parameter root type
+      → IsRooted n s root type × (is_parameter ≡ false → BeginsWhole s root)
+  in_context blocks n s is_parameter (InSlot outward slot) type globals slots h =
       let b = block_there U blocks s.blocks h.0 outward slots h.1 in (
         ap (λ o. slot_of o slot) b.1 ∙ ap (λ ds. slice_get ds slot) b.3 ∙ h.2,
         λ own. subst (λ o. parameters_in o ≤ slot) (sym b.1) (subst (λ k. k ≤ slot) (sym b.2) (h.3 own)),
       )
-  in_context blocks n s is_parameter (OfProgram number) d globals slots h =
-      (ap (λ gs. described_as Static (slice_get gs number)) globals ∙ h, λ own. tt)
-  in_context blocks n s is_parameter (NewestOf number) d globals slots h =
-      (ap (λ gs. described_as Controlled (slice_get gs number)) globals ∙ h, λ own. tt)
-  in_context blocks n s is_parameter (Located locator whole) d globals slots h = absurd h
+  in_context blocks n s is_parameter (OfProgram number) type globals slots h =
+      ((h.0, h.1, ap (λ gs. described_as Static (slice_get gs number)) globals ∙ h.2), λ own. tt)
+  in_context blocks n s is_parameter (NewestOf number) type globals slots h =
+      ((h.0, h.1, ap (λ gs. described_as Controlled (slice_get gs number)) globals ∙ h.2), λ own. tt)
+  in_context blocks n s is_parameter (Located locator whole) type globals slots h = absurd h

@@ -1,4 +1,4 @@
--- A variable's root leads to its description: a block's slots are its parameters and then what its AUTOMATIC
+-- A variable's root leads to its type: a block's slots are its parameters and then what its AUTOMATIC
 -- variables are made from, in the order of the symbols; globals stand in the order of the text.
 use Rattle.std.specs.Prelude.{◌≡◌, ℕ, zero, suc, ◌+◌, ◌≤◌, Bool, true, false, ◌&&◌, nat_eq, Option, Some, None, List, [], ◌∷◌, ◌++◌}
 use Rattle.std.specs.Prelude.{length, map, replicate, take, get_or, slice_get, if◌then◌else◌, refl}
@@ -10,15 +10,16 @@ use Rattle.pli_base.specs.Name.{Name}
 use Rattle.pli_declare_attributes.specs.declared.completed.ScopeAttribute.{ScopeAttribute}
 use Rattle.pli_declare_attributes.specs.declared.completed.ScopeAttribute.TheVariants as scopes
 use Rattle.pli_map.specs.Description.{Description}
+use Rattle.pli_map.specs.ParameterTypes.{ParameterType, Stated}
 use Rattle.pli_resolve.specs.ResolvedUnits.{ResolvedUnit, all_symbols}
-use Rattle.pli_resolve.specs.Symbols.{Symbol, SymbolKind, Variable, Member, Label, Procedure, Entry, BuiltIn}
+use Rattle.pli_resolve.specs.Symbols.{Symbol, SymbolKind, Variable, OpenParameter, Member, Label, Procedure, Entry, BuiltIn}
 use Rattle.pli_resolve.specs.declared.symbol.StorageClass.{StorageClass}
 use Rattle.pli_resolve.specs.declared.symbol.StorageClass.TheVariants as classes
 use Rattle.pli_resolve.specs.declared.symbol.SymbolKey.{SymbolKey}
 use Rattle.pli_type.specs.InitialScalars.{template_of}
 use Rattle.pli_type.specs.NamedUnits.{is_stored, is_automatic, is_global, is_based, is_passed_class, kind_of_class, one_such, such_before, one_global, globals_before, globals_in}
-use Rattle.pli_type.specs.NamedUnits.{parameter_numbers, description_in, parameters_of, outward_to, in_slot, is_parameter}
-use Rattle.pli_type.specs.NamedUnits.{root_of, member_items, template_at, templates_from, templates_of}
+use Rattle.pli_type.specs.NamedUnits.{parameter_numbers, type_in, parameters_of, outward_to, in_slot, is_parameter, is_open_parameter}
+use Rattle.pli_type.specs.NamedUnits.{root_of, open_root, member_items, template_at, templates_from, templates_of}
 use Rattle.pli_type.specs.NamedUnits.{block_symbols, global_number, global_of, global_with, globals_from, globals_of, all_globals}
 use Rattle.pli_type.specs.NamedUnits.{PlacedGlobal, placed, global_at, global_tokens, all_tokens, block_globals}
 use Rattle.pli_type.specs.TextOrder.{in_order, text_places}
@@ -30,8 +31,8 @@ use Rattle.pli_program.specs.declared.kind.VariableKind.TheVariants.{Static, Con
 use Rattle.pli_type_tree.specs.Globals.{described_as, signature_of}
 use Rattle.pli_type_tree.specs.TypedTree.{Global, EntryPoint, Root, InSlot, OfProgram, NewestOf, Located}
 
-abbrev pub descriptions : List Template → List Description
-descriptions ts = map (λ t. t.description) ts
+abbrev pub descriptions : List Template → List ParameterType
+descriptions ts = map (λ t. Stated t.description) ts
 
 -- ---- the description of a symbol's template stands behind those of the symbols before it
 
@@ -47,7 +48,7 @@ none_passed xs j =
 
 passed : (b : Bool) (t : Template) (rest : List Template) (j : ℕ)
     → slice_get (descriptions ((if b then t ∷ [] else []) ++ rest)) ((if b then 1 else 0) + j) ≡ slice_get (descriptions rest) j
-passed true t rest j = one_passed t.description (descriptions rest) j
+passed true t rest j = one_passed (Stated t.description) (descriptions rest) j
 passed false t rest j = none_passed (descriptions rest) j
 
 not_true : false ≡ true → ⊥
@@ -57,6 +58,7 @@ module _ (is_such : StorageClass → Description → Bool) (all : List Symbol) w
   symbol_passed : (number : ℕ) (kind : SymbolKind) (rest : List Template) (j : ℕ)
       → slice_get (descriptions (template_at is_such all number kind ++ rest)) (one_such is_such kind + j) ≡ slice_get (descriptions rest) j
   symbol_passed number (Variable d class scope initial area) rest j = passed (is_such class d) (template_of d (record { path = []; values = initial } ∷ member_items number all)) rest j
+  symbol_passed number (OpenParameter type slot area) rest j = none_passed (descriptions rest) j
   symbol_passed number (Member root path initial area) rest j = none_passed (descriptions rest) j
   symbol_passed number (Label statement) rest j = none_passed (descriptions rest) j
   symbol_passed number (Procedure block returned area) rest j = none_passed (descriptions rest) j
@@ -69,8 +71,9 @@ module _ (is_such : StorageClass → Description → Bool) (all : List Symbol) w
   IsSuch d kind = ⊥
 
   here : (number : ℕ) (d : Description) (kind : SymbolKind) (rest : List Template) → IsSuch d kind
-      → slice_get (descriptions (template_at is_such all number kind ++ rest)) 0 ≡ Some d
-  here number d (Variable description class scope initial area) rest h = rw h.1 (ap Some h.0)
+      → slice_get (descriptions (template_at is_such all number kind ++ rest)) 0 ≡ Some (Stated d)
+  here number d (Variable description class scope initial area) rest h = rw h.1 (ap (λ x. Some (Stated x)) h.0)
+  here number d (OpenParameter type slot area) rest h = absurd h
   here number d (Member root path initial area) rest h = absurd h
   here number d (Label statement) rest h = absurd h
   here number d (Procedure block returned area) rest h = absurd h
@@ -78,7 +81,7 @@ module _ (is_such : StorageClass → Description → Bool) (all : List Symbol) w
   here number d BuiltIn rest h = absurd h
 
   found : (ss : List Symbol) (number k : ℕ) (s : Symbol) (d : Description) → slice_get ss k ≡ Some s → IsSuch d s.kind
-      → slice_get (descriptions (templates_from is_such all number ss)) (such_before is_such ss k) ≡ Some d
+      → slice_get (descriptions (templates_from is_such all number ss)) (such_before is_such ss k) ≡ Some (Stated d)
   found [] number k s d e h = absurd (none-some s e)
   found (t ∷ ss) number zero s d e h =
       here number d t.kind (templates_from is_such all (suc number) ss)
@@ -123,6 +126,7 @@ global_counted n all number name (Variable d class scope initial area) =
     if_counted (global_of scope (kind_of_class class) name) (is_global n class d)
     (template_of d (record { path = []; values = initial } ∷ member_items number all))
 global_counted n all number name (Entry parameters returned area) = length_one (EntryPoint name (record { parameters = parameters; result = returned })) []
+global_counted n all number name (OpenParameter type slot area) = refl
 global_counted n all number name (Member root path initial area) = refl
 global_counted n all number name (Label statement) = refl
 global_counted n all number name (Procedure block returned area) = refl
@@ -232,6 +236,7 @@ IsOf class d kind = ⊥
 such : (is_such : StorageClass → Description → Bool) (class : StorageClass) (d : Description) (kind : SymbolKind) → IsOf class d kind
     → is_such class d ≡ true → IsSuch is_such [] d kind
 such is_such class d (Variable description c scope initial area) h e = (h.0, ap (λ x. is_such c x) h.0 ∙ ap (λ x. is_such x d) h.1 ∙ e)
+such is_such class d (OpenParameter type slot area) h e = absurd h
 such is_such class d (Member root path initial area) h e = absurd h
 such is_such class d (Label statement) h e = absurd h
 such is_such class d (Procedure block returned area) h e = absurd h
@@ -254,6 +259,7 @@ one_global_of n all number name class d (Variable description c scope initial ar
       ap (λ b. map (global_of scope (kind_of_class c) name) (if b then t ∷ [] else [])) is,
       ap (λ x. described_as (kind_of_class x) (Some g)) (sym h.1) ∙ global_described scope (kind_of_class c) name t ∙ ap Some h.0,
     )
+one_global_of n all number name class d (OpenParameter type slot area) h e = absurd h
 one_global_of n all number name class d (Member root path initial area) h e = absurd h
 one_global_of n all number name class d (Label statement) h e = absurd h
 one_global_of n all number name class d (Procedure block returned area) h e = absurd h
@@ -261,13 +267,19 @@ one_global_of n all number name class d (Entry parameters returned area) h e = a
 one_global_of n all number name class d BuiltIn h e = absurd h
 
 described : (class : StorageClass) (d : Description) (s : Symbol) (kind : SymbolKind) → s.kind ≡ kind → IsOf class d kind
-    → description_in (Some s) ≡ d
-described class d s (Variable description c scope initial area) e h = rw e h.0
+    → type_in (Some s) ≡ Stated d
+described class d s (Variable description c scope initial area) e h = rw e (ap Stated h.0)
+described class d s (OpenParameter type slot area) e h = absurd h
 described class d s (Member root path initial area) e h = absurd h
 described class d s (Label statement) e h = absurd h
 described class d s (Procedure block returned area) e h = absurd h
 described class d s (Entry parameters returned area) e h = absurd h
 described class d s BuiltIn e h = absurd h
+
+-- a parameter in which a `*` stands is of its type
+open_described : (s : Symbol) (type : ParameterType) (slot : ℕ) (area : Option SymbolKey) → s.kind ≡ OpenParameter type slot area
+    → type_in (Some s) ≡ type
+open_described s type slot area e = rw e refl
 
 parameter_there : (numbers : List ℕ) (slot number : ℕ) (o : Option ℕ) → slice_get numbers slot ≡ o
     → is_parameter numbers slot number ≡ true → slice_get numbers slot ≡ Some number
@@ -295,38 +307,69 @@ based_stored n class d h = absurd (not_true h)
 
 module _ (n : ℕ) (r : ResolvedUnit) (blocks : List ℕ) where
   -- the slots of a block
-  abbrev pub slots : (block : ℕ) → List Description
+  abbrev pub slots : (block : ℕ) → List ParameterType
   slots block = parameters_of r block ++ descriptions (templates_of (is_automatic n) (block_symbols r block))
 
-  -- a root leads to this description; a slot that is no parameter's stands behind those that are
-  abbrev pub Standing : (is_parameter : Bool) → Root → Description → Type 0
-  Standing is_parameter (InSlot outward slot) d =
-      (block : ℕ) × (outward_to blocks block ≡ Some outward) × (slice_get (slots block) slot ≡ Some d)
+  -- a root leads to this type; a slot that is no parameter's stands behind those that are
+  abbrev pub Standing : (is_parameter : Bool) → Root → ParameterType → Type 0
+  Standing is_parameter (InSlot outward slot) type =
+      (block : ℕ) × (outward_to blocks block ≡ Some outward) × (slice_get (slots block) slot ≡ Some type)
       × (is_parameter ≡ false → length (parameters_of r block) ≤ slot)
-  Standing is_parameter (OfProgram number) d = described_as Static (slice_get (all_globals n (all_symbols r)) number) ≡ Some d
-  Standing is_parameter (NewestOf number) d = described_as Controlled (slice_get (all_globals n (all_symbols r)) number) ≡ Some d
-  Standing is_parameter (Located locator whole) d = ⊥
+  Standing is_parameter (OfProgram number) type =
+      (d : Description) × (type ≡ Stated d) × (described_as Static (slice_get (all_globals n (all_symbols r)) number) ≡ Some d)
+  Standing is_parameter (NewestOf number) type =
+      (d : Description) × (type ≡ Stated d) × (described_as Controlled (slice_get (all_globals n (all_symbols r)) number) ≡ Some d)
+  Standing is_parameter (Located locator whole) type = ⊥
 
-  slot_stands : (is_parameter : Bool) (o : Option ℕ) (block slot : ℕ) (d : Description) (root : Root) → outward_to blocks block ≡ o
-      → slice_get (slots block) slot ≡ Some d → (is_parameter ≡ false → length (parameters_of r block) ≤ slot) → in_slot o slot ≡ Some root
-      → Standing is_parameter root d
-  slot_stands is_parameter None block slot d root at there own e = absurd (none-some root e)
-  slot_stands is_parameter (Some x) block slot d root at there own e =
-      subst (λ q. Standing is_parameter q d) (same_Some (InSlot x slot) root e) (block, at, there, own)
+  slot_stands : (is_parameter : Bool) (o : Option ℕ) (block slot : ℕ) (type : ParameterType) (root : Root) → outward_to blocks block ≡ o
+      → slice_get (slots block) slot ≡ Some type → (is_parameter ≡ false → length (parameters_of r block) ≤ slot) → in_slot o slot ≡ Some root
+      → Standing is_parameter root type
+  slot_stands is_parameter None block slot type root at there own e = absurd (none-some root e)
+  slot_stands is_parameter (Some x) block slot type root at there own e =
+      subst (λ q. Standing is_parameter q type) (same_Some (InSlot x slot) root e) (block, at, there, own)
+
+  -- the parameter of a number among the symbols of a block stands in its slot
+  passed_stands : (key : SymbolKey) (slot : ℕ) (type : ParameterType) (root : Root) (s : Symbol)
+      → slice_get (block_symbols r key.block) key.number ≡ Some s → type_in (Some s) ≡ type
+      → is_parameter (parameter_numbers r key.block) slot key.number ≡ true
+      → in_slot (outward_to blocks key.block) slot ≡ Some root → Standing true root type
+  passed_stands key slot type root s there is own e =
+      let number : slice_get (parameter_numbers r key.block) slot ≡ Some key.number =
+      parameter_there (parameter_numbers r key.block) slot key.number _ refl own in
+      slot_stands true (outward_to blocks key.block) key.block slot type root refl
+      (in_front (parameters_of r key.block) _ slot type
+      (mapped (λ number. type_in (slice_get (block_symbols r key.block) number)) (parameter_numbers r key.block) slot key.number number
+      ∙ ap (λ o. Some (type_in o)) there ∙ ap Some is))
+      (λ own. absurd (not_true (sym own))) e
+
+  -- so does one in which a `*` stands
+  pub open_begins : (key : SymbolKey) (type : ParameterType) (slot : ℕ) (area : Option SymbolKey) (root : Root) (s : Symbol)
+      → slice_get (block_symbols r key.block) key.number ≡ Some s → s.kind ≡ OpenParameter type slot area
+      → open_root n r blocks key slot type ≡ Some root → Standing true root type × (is_open_parameter n type ≡ true)
+  open_begins key type slot area root s there is e = by _ refl e
+    where
+      by : (b : Bool) → (is_open_parameter n type && is_parameter (parameter_numbers r key.block) slot key.number) ≡ b
+          → (if b then in_slot (outward_to blocks key.block) slot else None) ≡ Some root
+          → Standing true root type × (is_open_parameter n type ≡ true)
+      by true both e =
+          let parts : (is_open_parameter n type ≡ true) × (is_parameter (parameter_numbers r key.block) slot key.number ≡ true) =
+          and_parts _ _ both in
+          (passed_stands key slot type root s there (open_described s type slot area is) parts.1 e, parts.0)
+      by false both e = absurd (none-some root e)
 
   module _ (key : SymbolKey) (d : Description) (root : Root) (s : Symbol) (there : slice_get (block_symbols r key.block) key.number ≡ Some s) where
     abbrev Begun : (is_parameter : Bool) → Type 0
-    Begun is_parameter = Standing is_parameter root d × (is_stored n d ≡ true)
+    Begun is_parameter = Standing is_parameter root (Stated d) × (is_stored n d ≡ true)
 
     as_many : length (parameters_of r key.block) ≡ length (parameter_numbers r key.block)
-    as_many = length_mapped (λ number. description_in (slice_get (block_symbols r key.block) number)) (parameter_numbers r key.block)
+    as_many = length_mapped (λ number. type_in (slice_get (block_symbols r key.block) number)) (parameter_numbers r key.block)
 
     automatic_begins : IsOf classes.Automatic d s.kind → (b : Bool) → is_stored n d ≡ b
         → (if b then in_slot (outward_to blocks key.block)
         (length (parameter_numbers r key.block) + such_before (is_automatic n) (block_symbols r key.block) key.number)
         else None) ≡ Some root → Begun false
     automatic_begins of true stored e = (
-      slot_stands false (outward_to blocks key.block) key.block _ d root refl
+      slot_stands false (outward_to blocks key.block) key.block _ (Stated d) root refl
           (behind_front (parameters_of r key.block) (descriptions (templates_of (is_automatic n) (block_symbols r key.block)))
           (such_before (is_automatic n) (block_symbols r key.block) key.number) _
           (omega (arith, as_many))
@@ -342,15 +385,7 @@ module _ (n : ℕ) (r : ResolvedUnit) (blocks : List ℕ) where
         → (if b then in_slot (outward_to blocks key.block) slot else None) ≡ Some root → Begun true
     parameter_begins slot of true both e =
         let parts : (is_stored n d ≡ true) × (is_parameter (parameter_numbers r key.block) slot key.number ≡ true) = and_parts _ _ both in
-        let number : slice_get (parameter_numbers r key.block) slot ≡ Some key.number =
-        parameter_there (parameter_numbers r key.block) slot key.number _ refl parts.1 in (
-          slot_stands true (outward_to blocks key.block) key.block slot d root refl
-              (in_front (parameters_of r key.block) _ slot d
-              (mapped (λ number. description_in (slice_get (block_symbols r key.block) number)) (parameter_numbers r key.block) slot key.number number
-              ∙ ap (λ o. Some (description_in o)) there ∙ ap Some (described (classes.Parameter slot) d s s.kind refl of)))
-              (λ own. absurd (not_true (sym own))) e,
-          parts.0,
-        )
+        (passed_stands key slot (Stated d) root s there (described (classes.Parameter slot) d s s.kind refl of) parts.1 e, parts.0)
     parameter_begins slot of false both e = absurd (none-some root e)
 
     global_stands : (class : StorageClass) → IsOf class d s.kind → is_global n class d ≡ true
@@ -362,14 +397,20 @@ module _ (n : ℕ) (r : ResolvedUnit) (blocks : List ℕ) where
 
     static_begins : IsOf classes.Static d s.kind → (b : Bool) → is_stored n d ≡ b
         → (if b then Some (OfProgram (global_number n r key)) else None) ≡ Some root → Begun false
-    static_begins of true stored e =
-        (subst (λ q. Standing false q d) (same_Some (OfProgram (global_number n r key)) root e) (global_stands classes.Static of stored), stored)
+    static_begins of true stored e = (
+      subst (λ q. Standing false q (Stated d)) (same_Some (OfProgram (global_number n r key)) root e)
+          (d, refl, global_stands classes.Static of stored),
+      stored,
+    )
     static_begins of false stored e = absurd (none-some root e)
 
     controlled_begins : IsOf classes.Controlled d s.kind → (b : Bool) → is_stored n d ≡ b
         → (if b then Some (NewestOf (global_number n r key)) else None) ≡ Some root → Begun false
-    controlled_begins of true stored e =
-        (subst (λ q. Standing false q d) (same_Some (NewestOf (global_number n r key)) root e) (global_stands classes.Controlled of stored), stored)
+    controlled_begins of true stored e = (
+      subst (λ q. Standing false q (Stated d)) (same_Some (NewestOf (global_number n r key)) root e)
+          (d, refl, global_stands classes.Controlled of stored),
+      stored,
+    )
     controlled_begins of false stored e = absurd (none-some root e)
 
     pub root_begins : (class : StorageClass) → IsOf class d s.kind → root_of n r blocks key class d ≡ Some root → Begun (is_passed_class class)
@@ -380,23 +421,24 @@ module _ (n : ℕ) (r : ResolvedUnit) (blocks : List ℕ) where
     root_begins (classes.Based locator) of e = absurd (none-some root e)
 
 -- the entry that a symbol is stands where it is counted
-abbrev pub IsEntry : List Description → Option Description → SymbolKind → Type 0
+abbrev pub IsEntry : List ParameterType → Option Description → SymbolKind → Type 0
 IsEntry parameters returned (Entry ps o area) = (ps ≡ parameters) × (o ≡ returned)
 IsEntry parameters returned kind = ⊥
 
-entry_global : (n : ℕ) (all : List Symbol) (number : ℕ) (name : Name) (parameters : List Description) (returned : Option Description)
+entry_global : (n : ℕ) (all : List Symbol) (number : ℕ) (name : Name) (parameters : List ParameterType) (returned : Option Description)
     (kind : SymbolKind) → IsEntry parameters returned kind
     → global_with n all number name kind ≡ EntryPoint name (record { parameters = parameters; result = returned }) ∷ []
 entry_global n all number name parameters returned (Entry ps o area) h =
     ap (λ ds. EntryPoint name (record { parameters = ds; result = o }) ∷ []) h.0
     ∙ ap (λ d. EntryPoint name (record { parameters = parameters; result = d }) ∷ []) h.1
 entry_global n all number name parameters returned (Variable d class scope initial area) h = absurd h
+entry_global n all number name parameters returned (OpenParameter type slot at) h = absurd h
 entry_global n all number name parameters returned (Member root path initial area) h = absurd h
 entry_global n all number name parameters returned (Label statement) h = absurd h
 entry_global n all number name parameters returned (Procedure block o area) h = absurd h
 entry_global n all number name parameters returned BuiltIn h = absurd h
 
-pub entry_stands : (n : ℕ) (r : ResolvedUnit) (key : SymbolKey) (s : Symbol) (parameters : List Description) (returned : Option Description)
+pub entry_stands : (n : ℕ) (r : ResolvedUnit) (key : SymbolKey) (s : Symbol) (parameters : List ParameterType) (returned : Option Description)
     → slice_get (block_symbols r key.block) key.number ≡ Some s → IsEntry parameters returned s.kind
     → signature_of (slice_get (all_globals n (all_symbols r)) (global_number n r key))
     ≡ Some (record { parameters = parameters; result = returned })

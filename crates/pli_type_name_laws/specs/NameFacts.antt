@@ -4,14 +4,15 @@ use Rattle.std.specs.Prelude.{◌≡◌, ℕ, false, IsTrue, Option, Some, None,
 use Rattle.std.specs.Prelude.{slice_get}
 use Rattle.std.specs.List.{AllByRecursion}
 use Rattle.pli_map.specs.Description.{Description, Pointer, Offset}
+use Rattle.pli_map.specs.ParameterTypes.{ParameterType, Stated}
 use Rattle.pli_map.specs.Scalars.{is_area}
 use Rattle.pli_resolve.specs.declared.block_numbers.ResolvedBlockKind.TheVariants as kinds
 use Rattle.pli_type.specs.Beginnings.{whole_at}
-use Rattle.pli_type.specs.NamedUnits.{is_plain, may_stand, outward_to, names_based}
+use Rattle.pli_type.specs.NamedUnits.{is_plain, may_stand, may_be, outward_to, names_based}
 use Rattle.pli_type.specs.Names.{NamedUnit, LocatorVariable, OfPointer, OfOffset, NamedStorage, Begins}
 use Rattle.pli_type.specs.Names.{IsBased, NamedVariable, AVariable}
 use Rattle.pli_type.specs.Names.{NamedProcedure, AProcedure}
-use Rattle.pli_type.specs.References.{StridedPart, part_of, with_subscripts, subscripts_at}
+use Rattle.pli_type.specs.References.{StridedPart, part_of, with_subscripts, subscripts_at, is_passed}
 use Rattle.pli_type.specs.declared.beginning.Beginning.{Beginning}
 use Rattle.pli_type_tree.specs.Templates.{Template, variable_of}
 use Rattle.pli_type_tree.specs.Globals.{signature_of, templates_in}
@@ -35,24 +36,24 @@ IsAreaNamed n s (Some area) = IsAreaReference n s (whole_at area)
 
 -- a variable that leads to BASED ones is there: a POINTER; or an OFFSET, and the area that it names
 abbrev pub IsLocatorThere : (greatest : ℕ) → TypingContext → LocatorVariable → Type 0
-IsLocatorThere n s (OfPointer reference) = IsPlaced n s reference Pointer
+IsLocatorThere n s (OfPointer reference) = IsPlaced n s reference (Stated Pointer)
 IsLocatorThere n s (OfOffset reference area) =
-    IsPlaced n s reference Offset × IsAreaReference n s (whole_at area)
+    IsPlaced n s reference (Stated Offset) × IsAreaReference n s (whole_at area)
 
 -- the locator that BASED names is, if it names one
 abbrev pub IsImplied : (greatest : ℕ) → TypingContext → Option LocatorVariable → Type 0
 IsImplied n s None = Unit {0}
 IsImplied n s (Some locator) = IsLocatorThere n s locator
 
--- storage of a variable of this description is there: it begins where that stands, as a whole generation
+-- storage of a variable of this type is there: it begins where that stands, as a whole generation
 -- unless the variable is a parameter; or it is wherever a locator leads
-abbrev pub IsStoredIn : (greatest : ℕ) → TypingContext → NamedStorage → Description → Type 0
+abbrev pub IsStoredIn : (greatest : ℕ) → TypingContext → NamedStorage → ParameterType → Type 0
 IsStoredIn n s (Begins root is_parameter) whole =
     IsRooted n s root whole × (is_parameter ≡ false → BeginsWhole s root)
 IsStoredIn n s (IsBased block number implied) whole = IsImplied n s implied
 
--- a variable that a name means is there, wherever these blocks are around, and each reference to a part of it
--- leads to that part; and the area is there that its OFFSET names
+-- a variable that a name means is there, wherever these blocks are around, and each reference to a part of
+-- what is stated leads to that part; and the area is there that its OFFSET names
 pub record VariableFacts (u : NamedUnit) (blocks : List ℕ) (v : NamedVariable) : Type 0 where
   pub begins :
       (greatest : ℕ) (s : TypingContext) → s.globals ≡ u.globals → HaveSlots u blocks s.blocks
@@ -60,17 +61,18 @@ pub record VariableFacts (u : NamedUnit) (blocks : List ℕ) (v : NamedVariable)
   pub area :
       (greatest : ℕ) (s : TypingContext) → s.globals ≡ u.globals → HaveSlots u blocks s.blocks
       → IsAreaNamed greatest s v.area
-  pub plain : IsTrue (may_stand 63 v.whole)
+  pub plain : IsTrue (may_be 63 v.whole)
+  -- a `*` stands in parameters alone
+  pub own : is_passed v.storage ≡ false → (d : Description) × (v.whole ≡ Stated d)
   -- with as many subscripts as it has levels, or with none where no level above it has subscripts
   pub leads :
-      (p q : StridedPart) (xs : List TypedExpression) → part_of v ≡ Some p
-      → with_subscripts (length xs) p ≡ Some q
-      → LeadTo v.whole q.offset (subscripts_at q.strides xs) q.description
-      × IsTrue (may_stand 63 q.description)
+      (d : Description) (p q : StridedPart) (xs : List TypedExpression) → v.whole ≡ Stated d
+      → part_of v ≡ Some p → with_subscripts (length xs) p ≡ Some q
+      → LeadTo d q.offset (subscripts_at q.strides xs) q.description × IsTrue (may_stand 63 q.description)
   -- without members and subscripts it is the whole variable
   pub whole :
-      (p q : StridedPart) → v.path ≡ [] → part_of v ≡ Some p → with_subscripts 0 p ≡ Some q
-      → q.description ≡ v.whole
+      (d : Description) (p q : StridedPart) → v.whole ≡ Stated d → v.path ≡ [] → part_of v ≡ Some p
+      → with_subscripts 0 p ≡ Some q → q.description ≡ d
 
 -- the block with this number stands around, or none is asked for
 abbrev pub StandsAround : (blocks : List ℕ) → (number : Option ℕ) → Type 0

@@ -5,7 +5,7 @@ use Rattle.std.specs.Prelude.{List, [], ◌∷◌, ◌++◌, length, map, slice_
 use Rattle.pli_base.specs.Statements as tree
 use Rattle.pli_base.specs.Statements.{Statement, Numbered, Body, Statements, Ended, Before, Alternative}
 use Rattle.pli_base.specs.Statements.{NoElse, Else, ExternalProcedure}
-use Rattle.pli_map.specs.Description.{Description}
+use Rattle.pli_map.specs.ParameterTypes.{ParameterType, Stated}
 use Rattle.pli_resolve.specs.declared.block_numbers.ResolvedBlockKind.{ResolvedBlockKind}
 use Rattle.pli_resolve.specs.declared.block_numbers.ResolvedBlockKind.TheVariants as kinds
 use Rattle.pli_type.specs.Names.{NamedUnit}
@@ -74,8 +74,8 @@ innermost [] = None
 innermost (b ∷ bs) = Some b.number
 
 -- the slots of a block: its parameters, and its AUTOMATIC variables behind them
-abbrev pub slots_in : NamedUnit → (block : ℕ) → List Description
-slots_in u block = u.parameters block ++ map (λ t. t.description) (u.automatic block)
+abbrev pub slots_in : NamedUnit → (block : ℕ) → List ParameterType
+slots_in u block = u.parameters block ++ map (λ t. Stated t.description) (u.automatic block)
 
 -- blocks around as typed trees know them
 abbrev pub known_blocks : NamedUnit → List Enclosing → List BlockAround

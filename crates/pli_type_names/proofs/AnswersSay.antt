@@ -7,7 +7,7 @@ use Rattle.pli_resolve.specs.ResolvedUnits.{ResolvedUnit, ResolvedBlock, meaning
 use Rattle.pli_resolve.specs.declared.built_in.BuiltInFunction.{BuiltInFunction}
 use Rattle.pli_resolve.specs.declared.symbol.NameMeaning.TheVariants as meanings
 use Rattle.pli_resolve.specs.declared.symbol.SymbolKey.{SymbolKey}
-use Rattle.pli_type.specs.NamedUnits.{area_named, area_returned_by, block_symbols, declared_as, description_in, is_procedure, named_as, of_block}
+use Rattle.pli_type.specs.NamedUnits.{area_named, area_returned_by, block_symbols, declared_as, type_in, is_procedure, named_as, of_block}
 use Rattle.pli_type.specs.NamedUnits.{parameters_of, returned_area_of, returned_by, returned_of}
 use Rattle.pli_type_names.specs.BlockEntries.{BlockEntry, area_of, entry_at, parameters_in, returned_in}
 use Rattle.pli_type_names.specs.SymbolMeaning.{IsMeantAs}
@@ -47,7 +47,7 @@ declared_meant n at key a e is =
 parameters_there : (r : ResolvedUnit) (block : ℕ) (o : Option ResolvedBlock) → slice_get r.blocks block ≡ o
     → parameters_in (option_map (entry_at r block) o) ≡ parameters_of r block
 parameters_there r block None e =
-    ap (λ x. map (λ number. description_in (slice_get (block_symbols r block) number)) (of_block (λ b. if is_procedure b.kind then b.parameters else []) [] x)) (sym e)
+    ap (λ x. map (λ number. type_in (slice_get (block_symbols r block) number)) (of_block (λ b. if is_procedure b.kind then b.parameters else []) [] x)) (sym e)
 parameters_there r block (Some b) e = refl
 
 returned_there : (r : ResolvedUnit) (block : ℕ) (o : Option ResolvedBlock) → slice_get r.blocks block ≡ o

@@ -6,14 +6,15 @@ use Rattle.std.specs.Option.{unwrap_or, option_and_then}
 use Rattle.std.specs.Prelude.{if◌then◌else◌}
 use Rattle.pli_map.specs.Description as described
 use Rattle.pli_map.specs.Description.{Description}
+use Rattle.pli_map.specs.ParameterTypes.{ParameterType, Stated, AnyString, AnyArray, ArrayOf, StructureOf}
 use Rattle.pli_resolve.specs.ResolvedUnits.{ResolvedUnit}
-use Rattle.pli_resolve.specs.Symbols.{Symbol, SymbolKind, Variable, Member, Label, Procedure, Entry, BuiltIn}
+use Rattle.pli_resolve.specs.Symbols.{Symbol, SymbolKind, Variable, OpenParameter, Member, Label, Procedure, Entry, BuiltIn}
 use Rattle.pli_resolve.specs.declared.symbol.StorageClass.{StorageClass}
 use Rattle.pli_resolve.specs.declared.symbol.StorageClass.TheVariants as classes
 use Rattle.pli_resolve.specs.declared.symbol.SymbolKey.{SymbolKey}
 use Rattle.pli_type.specs.Beginnings.{root_at}
 use Rattle.pli_type.specs.Names.{LocatorVariable, Begins, IsBased}
-use Rattle.pli_type.specs.NamedUnits.{area_on, area_in, area_at, area_named, block_symbols, gives_stored, global_number, is_based, is_parameter}
+use Rattle.pli_type.specs.NamedUnits.{area_on, area_in, area_at, area_named, block_symbols, gives_stored, global_number, is_based, is_open_parameter, is_parameter}
 use Rattle.pli_type.specs.NamedUnits.{is_stored, is_valued, parameter_numbers, root_of, locator_part, locator_on, locator_in, locator_meant}
 use Rattle.pli_type.specs.NamedUnits.{locator_named, storage_of, such_before}
 use Rattle.pli_type.specs.References.{StridedPart, part_on, locator_at, reference_to, whole_part}
@@ -22,7 +23,7 @@ use Rattle.pli_type.specs.declared.beginning.Beginning.TheVariants as beginnings
 use Rattle.pli_type_names.specs.BlockFacts.{BlockFacts, facts_of}
 use Rattle.pli_type_names.specs.SymbolMeaning.{is_way}
 use Rattle.pli_type_names.specs.OwnVariables.{OwnVariable, begun, global_at, own_at, own_variables, place_at}
-use Rattle.pli_type_names.specs.Seen.{Kept, KeptEntry, KeptNothing, kept_symbols, kind_kept, on_way, root_from}
+use Rattle.pli_type_names.specs.Seen.{Kept, KeptVariable, KeptEntry, KeptNothing, kept_symbols, kind_kept, on_way, open_kept, root_from}
 use Rattle.pli_type_names.specs.Seen.{area_from, area_kept, area_under, if_locator, offset_if, locator_from, locator_kept, locator_under}
 use Rattle.pli_type_names.specs.Seen.{storage_from}
 use Rattle.pli_type_names.specs.declared.place.Location.{Location}
@@ -67,12 +68,12 @@ own_get f n = each_get (λ m s. own_at f m s.kind) f.symbols 0 n n None (omega a
 
 -- what is kept of a symbol that may not be there
 abbrev pub kept_there : ResolvedUnit → SymbolKey → Option Symbol → Kept
-kept_there r key o = unwrap_or (option_map (λ (s : Symbol). kind_kept (own_variables (facts_of r key.block)) key.number (global_number 63 r key) s.kind) o) KeptNothing
+kept_there r key o = unwrap_or (option_map (λ (s : Symbol). kind_kept (parameter_numbers r key.block) (own_variables (facts_of r key.block)) key.number (global_number 63 r key) s.kind) o) KeptNothing
 
 pub kept_get : (r : ResolvedUnit) (key : SymbolKey) → get_or (kept_symbols (facts_of r key.block)) key.number KeptNothing
     ≡ kept_there r key (slice_get (block_symbols r key.block) key.number)
 kept_get r key =
-    each_get (λ m s. kind_kept (own_variables (facts_of r key.block)) m (global_at (facts_of r key.block) m) s.kind) (block_symbols r key.block) 0 key.number key.number KeptNothing (omega arith)
+    each_get (λ m s. kind_kept (parameter_numbers r key.block) (own_variables (facts_of r key.block)) m (global_at (facts_of r key.block) m) s.kind) (block_symbols r key.block) 0 key.number key.number KeptNothing (omega arith)
 
 -- what is kept of the symbols of all blocks
 abbrev pub AreRows : ResolvedUnit → List (List Kept) → Type 0
@@ -81,13 +82,13 @@ AreRows r rows = (block : ℕ) → get_or rows block [] ≡ kept_symbols (facts_
 -- ---- areas
 
 -- a beginning is again that of its root
-pub begun_again : (bytes : ℕ) (o : Option Beginning) → o ≡ area_from false (described.Area bytes) (option_map root_at o)
+pub begun_again : (bytes : ℕ) (o : Option Beginning) → o ≡ area_from false (Stated (described.Area bytes)) (option_map root_at o)
 begun_again bytes None = refl
 begun_again bytes (Some (beginnings.InSlot outward slot)) = refl
 begun_again bytes (Some (beginnings.OfProgram number)) = refl
 begun_again bytes (Some (beginnings.NewestOf number)) = refl
 
-area_same : (path : List ℕ) (d : Description) (o : Option Root) → area_from (is_way path) d o ≡ area_on path d o
+area_same : (path : List ℕ) (d : Description) (o : Option Root) → area_from (is_way path) (Stated d) o ≡ area_on path d o
 area_same [] (described.FixedBinary p) o = refl
 area_same [] (described.Character n) o = refl
 area_same [] (described.Varying n) o = refl
@@ -128,6 +129,7 @@ module _ (r : ResolvedUnit) (blocks : List ℕ) where
       → area_kept blocks key.block (on_way (own_at (facts_of r key.block) key.number k) path area)
       ≡ area_in 63 r blocks key path (Some (record { identifier = s.identifier; kind = k }))
   area_way_of key path area s (Variable d class scope initial named) = area_of_class key path area class d
+  area_way_of key path area s (OpenParameter type slot named) = refl
   area_way_of key path area s (Member root p initial named) = refl
   area_way_of key path area s (Label statement) = refl
   area_way_of key path area s (Procedure block returned named) = refl
@@ -139,20 +141,42 @@ module _ (r : ResolvedUnit) (blocks : List ℕ) where
   area_way_there key path area None = refl
   area_way_there key path area (Some s) = area_way_of key path area s s.kind
 
-  no_area : (block number : ℕ) (parameters : List Description) (returned : Option Description) (area : Option SymbolKey) (gives : Bool)
+  no_area : (block number : ℕ) (parameters : List ParameterType) (returned : Option Description) (area : Option SymbolKey) (gives : Bool)
       → area_kept blocks block (if gives then KeptEntry number parameters returned area else KeptNothing) ≡ None
   no_area block number parameters returned area true = refl
   no_area block number parameters returned area false = refl
 
+  -- a parameter in which a `*` stands is none
+  open_no_area : (block number slot : ℕ) (parameters : List ℕ) (t : ParameterType) (area : Option SymbolKey)
+      → area_kept blocks block (open_kept parameters number slot t area) ≡ None
+  open_no_area block number slot parameters (Stated d) area = refl
+  open_no_area block number slot parameters (AnyString form) area = by (is_parameter parameters slot number)
+    where
+      by : (b : Bool) → area_kept blocks block (if b then KeptVariable (Passed slot) (AnyString form) false None area else KeptNothing) ≡ None
+      by true = refl
+      by false = refl
+  open_no_area block number slot parameters (AnyArray k e) area = by (is_open_parameter 63 (AnyArray k e) && is_parameter parameters slot number)
+    where
+      by : (b : Bool) → area_kept blocks block (if b then KeptVariable (Passed slot) (AnyArray k e) false None area else KeptNothing) ≡ None
+      by true = refl
+      by false = refl
+  open_no_area block number slot parameters (ArrayOf bs e) area = by (is_open_parameter 63 (ArrayOf bs e) && is_parameter parameters slot number)
+    where
+      by : (b : Bool) → area_kept blocks block (if b then KeptVariable (Passed slot) (ArrayOf bs e) false None area else KeptNothing) ≡ None
+      by true = refl
+      by false = refl
+  open_no_area block number slot parameters (StructureOf ts) area = refl
+
   area_of_kind : (key : SymbolKey) (s : Symbol) (k : SymbolKind)
       → slice_get (block_symbols r key.block) key.number ≡ Some s → s.kind ≡ k
-      → area_kept blocks key.block (kind_kept (own_variables (facts_of r key.block)) key.number (global_number 63 r key) k)
+      → area_kept blocks key.block (kind_kept (parameter_numbers r key.block) (own_variables (facts_of r key.block)) key.number (global_number 63 r key) k)
       ≡ area_at 63 r blocks key (Some (record { identifier = s.identifier; kind = k }))
   area_of_kind key s (Variable d class scope initial area) e is =
       let f = facts_of r key.block in
       ap (λ o. area_kept blocks key.block (on_way o [] area))
       (own_get f key.number ∙ ap (own_there f key.number) e ∙ ap (own_at f key.number) is)
       ∙ area_of_class key [] area class d
+  area_of_kind key s (OpenParameter type slot area) e is = open_no_area key.block key.number slot (parameter_numbers r key.block) type area
   area_of_kind key s (Member root path initial area) e is =
       ap (λ o. area_kept blocks key.block (on_way o path area)) (own_get (facts_of r key.block) root)
       ∙ area_way_there (record { block = key.block; number = root }) path area (slice_get (block_symbols r key.block) root)
@@ -199,7 +223,7 @@ part_locator_with root path area offset (described.Array bounds element) [] = re
 part_locator_with root path area offset (described.Structure of) [] = refl
 part_locator_with root path area offset d (s ∷ ss) =
     if_false (nat_eq (suc (length ss)) 0) (if_locator d root (offset_if (is_way path) offset) area)
-    (locator_at (reference_to root path (record { offset = offset; description = d; strides = s ∷ ss }) []) d area) None
+    (locator_at (reference_to root path (record { offset = offset; description = d; strides = s ∷ ss }) []) (Stated d) area) None
     (eqb-suc-zero (length ss))
 
 part_locator : (root : Root) (path : List ℕ) (area : Option Beginning) (q : Option StridedPart)
@@ -232,6 +256,7 @@ module _ (r : ResolvedUnit) (blocks : List ℕ) (rows : List (List Kept)) (are :
       → locator_kept rows blocks key.block (on_way (own_at (facts_of r key.block) key.number k) path area)
       ≡ locator_in 63 r blocks key path (area_named 63 r blocks area) (Some (record { identifier = s.identifier; kind = k }))
   locator_way_of key path area s (Variable d class scope initial named) = locator_of_class key path area class d
+  locator_way_of key path area s (OpenParameter type slot named) = refl
   locator_way_of key path area s (Member root p initial named) = refl
   locator_way_of key path area s (Label statement) = refl
   locator_way_of key path area s (Procedure block returned named) = refl
@@ -244,20 +269,32 @@ module _ (r : ResolvedUnit) (blocks : List ℕ) (rows : List (List Kept)) (are :
   locator_way_there key path area None = refl
   locator_way_there key path area (Some s) = locator_way_of key path area s s.kind
 
-  no_locator : (block number : ℕ) (parameters : List Description) (returned : Option Description) (area : Option SymbolKey) (gives : Bool)
+  no_locator : (block number : ℕ) (parameters : List ParameterType) (returned : Option Description) (area : Option SymbolKey) (gives : Bool)
       → locator_kept rows blocks block (if gives then KeptEntry number parameters returned area else KeptNothing) ≡ None
   no_locator block number parameters returned area true = refl
   no_locator block number parameters returned area false = refl
 
+  -- a parameter in which a `*` stands is none
+  no_part : (o : Option Root) (area : Option Beginning) → locator_from o false None area ≡ None
+  no_part None area = refl
+  no_part (Some root) area = refl
+
+  open_no_locator : (block slot : ℕ) (t : ParameterType) (area : Option SymbolKey) (b : Bool)
+      → locator_kept rows blocks block (if b then KeptVariable (Passed slot) t false None area else KeptNothing) ≡ None
+  open_no_locator block slot t area true = no_part (root_from blocks block (Passed slot)) (area_under rows blocks area)
+  open_no_locator block slot t area false = refl
+
   locator_of_kind : (key : SymbolKey) (s : Symbol) (k : SymbolKind)
       → slice_get (block_symbols r key.block) key.number ≡ Some s → s.kind ≡ k
-      → locator_kept rows blocks key.block (kind_kept (own_variables (facts_of r key.block)) key.number (global_number 63 r key) k)
+      → locator_kept rows blocks key.block (kind_kept (parameter_numbers r key.block) (own_variables (facts_of r key.block)) key.number (global_number 63 r key) k)
       ≡ locator_meant 63 r blocks key (Some (record { identifier = s.identifier; kind = k }))
   locator_of_kind key s (Variable d class scope initial area) e is =
       let f = facts_of r key.block in
       ap (λ o. locator_kept rows blocks key.block (on_way o [] area))
       (own_get f key.number ∙ ap (own_there f key.number) e ∙ ap (own_at f key.number) is)
       ∙ locator_of_class key [] area class d
+  locator_of_kind key s (OpenParameter type slot area) e is =
+      open_no_locator key.block slot type area (is_open_parameter 63 type && is_parameter (parameter_numbers r key.block) slot key.number)
   locator_of_kind key s (Member root path initial area) e is =
       ap (λ o. locator_kept rows blocks key.block (on_way o path area)) (own_get (facts_of r key.block) root)
       ∙ locator_way_there (record { block = key.block; number = root }) path area (slice_get (block_symbols r key.block) root)

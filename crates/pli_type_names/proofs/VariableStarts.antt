@@ -4,7 +4,7 @@ use Rattle.std.proofs.Common.{refl, ap, ◌∙◌, arith}
 use Rattle.std.specs.Prelude.{if◌then◌else◌}
 use Rattle.pli_map.specs.Description.{Description}
 use Rattle.pli_resolve.specs.Symbols as plain
-use Rattle.pli_resolve.specs.Symbols.{SymbolKind, Variable, Member, Label, Procedure, Entry, BuiltIn}
+use Rattle.pli_resolve.specs.Symbols.{SymbolKind, Variable, OpenParameter, Member, Label, Procedure, Entry, BuiltIn}
 use Rattle.pli_resolve.specs.declared.symbol.Symbol.{Symbol}
 use Rattle.pli_resolve.specs.declared.symbol.StorageClass.{StorageClass}
 use Rattle.pli_resolve.specs.declared.symbol.StorageClass.TheVariants as classes
@@ -47,6 +47,7 @@ own_is f number slots globals based (Variable d classes.Controlled scope initial
 own_is f number slots globals based (Variable d (classes.Based locator) scope initial area) e g h =
     in_order (is_valued 63 d) (Based based locator) d
     ∙ ap (λ n. begun (if is_valued 63 d then Some (Based n locator) else None) d) h
+own_is f number slots globals based (OpenParameter type slot area) e g h = refl
 own_is f number slots globals based (Member root path initial area) e g h = refl
 own_is f number slots globals based (Label statement) e g h = refl
 own_is f number slots globals based (Procedure block returned area) e g h = refl
@@ -137,6 +138,7 @@ before_more f ss n d h =
 
 one_at_most : (f : Class) (k : SymbolKind) → one_such f k ≤ 1
 one_at_most f (Variable d class scope initial area) = one_if_few (f class d)
+one_at_most f (OpenParameter type slot area) = omega arith
 one_at_most f (Member root path initial area) = omega arith
 one_at_most f (Label statement) = omega arith
 one_at_most f (Procedure block returned area) = omega arith
@@ -171,6 +173,7 @@ global_more ss n d h =
 
 one_global_at_most : (k : SymbolKind) → one_global 63 k ≤ 1
 one_global_at_most (Variable d class scope initial area) = one_if_few (is_global 63 class d)
+one_global_at_most (OpenParameter type slot area) = omega arith
 one_global_at_most (Member root path initial area) = omega arith
 one_global_at_most (Label statement) = omega arith
 one_global_at_most (Procedure block returned area) = omega arith

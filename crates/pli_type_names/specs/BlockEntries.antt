@@ -2,8 +2,9 @@
 use Rattle.std.specs.Prelude.{ℕ, Bool, ◌&&◌, Option, None, Some, List, []}
 use Rattle.pli_map.specs.Description as described
 use Rattle.pli_map.specs.Description.{Description}
+use Rattle.pli_map.specs.ParameterTypes.{ParameterType, Stated}
 use Rattle.pli_resolve.specs.ResolvedUnits.{ResolvedUnit, ResolvedBlock}
-use Rattle.pli_resolve.specs.Symbols.{SymbolKind, Variable, Procedure}
+use Rattle.pli_resolve.specs.Symbols.{SymbolKind, Variable, OpenParameter, Procedure}
 use Rattle.pli_resolve.specs.declared.symbol.SymbolKey.{SymbolKey}
 use Rattle.pli_type.specs.NamedUnits.{gives_stored, is_procedure, parameters_of, returned_of}
 use Rattle.pli_type.specs.NamedUnits.{returned_area_of}
@@ -13,7 +14,7 @@ use Rattle.pli_type.specs.NamedUnits.{returned_area_of}
 pub record BlockEntry : Type 0 where
   pub is_named : Bool
   pub outer : Option ℕ
-  pub parameters : List Description
+  pub parameters : List ParameterType
   pub returned : Option Description
   pub area : Option SymbolKey
 
@@ -27,10 +28,11 @@ entry_at r number b = record {
   area = returned_area_of r number;
 }
 
--- what a variable of its own is
-abbrev pub description_of : SymbolKind → Description
-description_of (Variable description class scope initial area) = description
-description_of other = described.Pointer
+-- what a variable of its own is, or a parameter in which a `*` stands
+abbrev pub type_with : SymbolKind → ParameterType
+type_with (Variable description class scope initial area) = Stated description
+type_with (OpenParameter type slot area) = type
+type_with other = Stated described.Pointer
 
 -- what a procedure gives
 abbrev pub returned_with : SymbolKind → Option Description
@@ -43,7 +45,7 @@ area_with (Procedure block returned area) = area
 area_with other = None
 
 -- the parameters of an entry that may not be there
-abbrev pub parameters_in : Option BlockEntry → List Description
+abbrev pub parameters_in : Option BlockEntry → List ParameterType
 parameters_in None = []
 parameters_in (Some e) = e.parameters
 

@@ -3,13 +3,16 @@ use Rattle.std.specs.Prelude.{ℕ, nat_eq, Bool, true, false, ◌&&◌, Option, 
 use Rattle.std.specs.Prelude.{length, get_or, option_and_then, slice_get, if◌then◌else◌}
 use Rattle.pli_map.specs.Description as described
 use Rattle.pli_map.specs.Description.{Description}
-use Rattle.pli_resolve.specs.Symbols.{SymbolKind, Variable, Member, Label, Procedure, Entry, BuiltIn}
+use Rattle.pli_map.specs.ParameterTypes.{ParameterType, Stated}
+use Rattle.pli_resolve.specs.Symbols.{SymbolKind, Variable, OpenParameter, Member, Label, Procedure, Entry}
+use Rattle.pli_resolve.specs.Symbols.{BuiltIn}
 use Rattle.pli_resolve.specs.declared.built_in.BuiltInFunction.{BuiltInFunction}
 use Rattle.pli_resolve.specs.declared.symbol.SymbolKey.{SymbolKey}
 use Rattle.pli_type.specs.Names.{NamedAs, NamedProcedure, AVariable, AFunction, AProcedure, ALabel, Untyped}
 use Rattle.pli_type.specs.Beginnings.{beginning_of}
 use Rattle.pli_type.specs.Names.{LocatorVariable, OfPointer, OfOffset, NamedStorage, Begins, IsBased}
-use Rattle.pli_type.specs.NamedUnits.{gives_stored, in_slot, outward_to, stands_around}
+use Rattle.pli_type.specs.NamedUnits.{gives_stored, in_slot, is_open_parameter, is_parameter, outward_to}
+use Rattle.pli_type.specs.NamedUnits.{stands_around}
 use Rattle.pli_type.specs.References.{StridedPart, part_of, part_on, whole_part}
 use Rattle.pli_type_names.specs.BlockEntries.{BlockEntry}
 use Rattle.pli_type_names.specs.BlockFacts.{BlockFacts}
@@ -28,7 +31,7 @@ use Rattle.pli_type_tree.specs.TypedTree.{OfBlock, OfEntry, Root, OfProgram, New
 -- stand on the way, the part that they lead to, and the area that its OFFSET names; a built-in function; a
 -- procedure; a label; or what has no type
 pub data Seen : Type 0 where
-  SeenVariable : (storage : NamedStorage) (whole : Description) (is_member : Bool)
+  SeenVariable : (storage : NamedStorage) (whole : ParameterType) (is_member : Bool)
       (part : Option StridedPart) (area : Option Beginning) → Seen
   SeenFunction : (function : BuiltInFunction) → Seen
   SeenProcedure : (procedure : NamedProcedure) → Seen
@@ -49,10 +52,10 @@ seen Untyped = SeenUntyped
 -- block; an external one, by the number of its entry, with the area that OFFSET in its RETURNS names; a
 -- label; or what has no type
 pub data Kept : Type 0 where
-  KeptVariable : (begins : Location) (whole : Description) (is_member : Bool)
+  KeptVariable : (begins : Location) (whole : ParameterType) (is_member : Bool)
       (part : Option StridedPart) (area : Option SymbolKey) → Kept
   KeptProcedure : (block : ℕ) → Kept
-  KeptEntry : (number : ℕ) (parameters : List Description) (returned : Option Description)
+  KeptEntry : (number : ℕ) (parameters : List ParameterType) (returned : Option Description)
       (area : Option SymbolKey) → Kept
   KeptLabel : (statement : ℕ) → Kept
   KeptNothing : Kept
@@ -61,30 +64,42 @@ pub data Kept : Type 0 where
 abbrev pub on_way : Option OwnVariable → (path : List ℕ) → (area : Option SymbolKey) → Kept
 on_way None path area = KeptNothing
 on_way (Some v) path area =
-    KeptVariable v.begins v.whole (is_way path) (part_on (whole_part v.whole) path) area
+    KeptVariable v.begins (Stated v.whole) (is_way path) (part_on (whole_part v.whole) path) area
 
 -- an external procedure whose value, if it gives one, a variable could hold
-abbrev pub entry_kept : (number : ℕ) → List Description → Option Description → (area : Option SymbolKey)
+abbrev pub entry_kept : (number : ℕ) → List ParameterType → Option Description → (area : Option SymbolKey)
     → Kept
 entry_kept number parameters returned area =
     if gives_stored 63 returned then KeptEntry number parameters returned area else KeptNothing
 
--- the symbol of this number, by the variables of their own; an entry has this number among the globals
-abbrev pub kind_kept : List (Option OwnVariable) → (number global : ℕ) → SymbolKind → Kept
-kind_kept variables number global (Variable description class scope initial area) =
+-- a parameter in which a `*` stands and which is the symbol of this number, where its slot has that
+abbrev pub open_kept : (parameters : List ℕ) → (number slot : ℕ) → ParameterType → (area : Option SymbolKey)
+    → Kept
+open_kept parameters number slot type area =
+    if is_open_parameter 63 type && is_parameter parameters slot number
+    then KeptVariable (locations.Passed slot) type false None area else KeptNothing
+
+-- the symbol of this number, by the numbers of the parameters, each under its slot, and the variables of
+-- their own; an entry has this number among the globals
+abbrev pub kind_kept : (parameters : List ℕ) → List (Option OwnVariable) → (number global : ℕ) → SymbolKind
+    → Kept
+kind_kept parameters variables number global (Variable description class scope initial area) =
     on_way (get_or variables number None) [] area
-kind_kept variables number global (Member root path initial area) =
+kind_kept parameters variables number global (OpenParameter type slot area) =
+    open_kept parameters number slot type area
+kind_kept parameters variables number global (Member root path initial area) =
     on_way (get_or variables root None) path area
-kind_kept variables number global (Label statement) = KeptLabel statement
-kind_kept variables number global (Procedure block returned area) = KeptProcedure block
-kind_kept variables number global (Entry parameters returned area) =
-    entry_kept global parameters returned area
-kind_kept variables number global BuiltIn = KeptNothing
+kind_kept parameters variables number global (Label statement) = KeptLabel statement
+kind_kept parameters variables number global (Procedure block returned area) = KeptProcedure block
+kind_kept parameters variables number global (Entry taken returned area) =
+    entry_kept global taken returned area
+kind_kept parameters variables number global BuiltIn = KeptNothing
 
 -- each symbol of a block
 abbrev pub kept_symbols : BlockFacts → List Kept
 kept_symbols f =
-    each_from (λ number s. kind_kept (own_variables f) number (global_at f number) s.kind) 0 f.symbols
+    each_from (λ number s. kind_kept f.parameters (own_variables f) number (global_at f number) s.kind) 0
+    f.symbols
 
 -- from there to here
 
@@ -97,8 +112,8 @@ root_from blocks block (locations.NewestOf number) = Some (NewestOf number)
 root_from blocks block (locations.Based number locator) = None
 
 -- where an area begins, if this is one that begins somewhere: it is no member of a variable
-abbrev pub area_from : (is_member : Bool) → (whole : Description) → Option Root → Option Beginning
-area_from false (described.Area bytes) root = option_and_then beginning_of root
+abbrev pub area_from : (is_member : Bool) → (whole : ParameterType) → Option Root → Option Beginning
+area_from false (Stated (described.Area bytes)) root = option_and_then beginning_of root
 area_from is_member whole root = None
 
 -- what is kept of a symbol of a block, where it is an area
@@ -162,7 +177,7 @@ storage_from rows blocks block place =
     option_map (λ root. Begins root (is_passed_place place)) (root_from blocks block place)
 
 -- a variable, where it has storage
-abbrev pub variable_seen : Option NamedStorage → (whole : Description) → (is_member : Bool)
+abbrev pub variable_seen : Option NamedStorage → (whole : ParameterType) → (is_member : Bool)
     → (part : Option StridedPart) → (area : Option Beginning) → Seen
 variable_seen None whole is_member part area = SeenUntyped
 variable_seen (Some storage) whole is_member part area = SeenVariable storage whole is_member part area

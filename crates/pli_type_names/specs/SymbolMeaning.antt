@@ -1,6 +1,7 @@
 -- What the answers about names say.
 use Rattle.std.specs.Prelude.{◌≡◌, ℕ, Bool, true, false, List, [], ◌∷◌, map, option_map}
 use Rattle.pli_map.specs.views.DescriptionView.{description_view}
+use Rattle.pli_map.specs.views.ParameterView.{type_seen}
 use Rattle.pli_type.specs.Names as plain
 use Rattle.pli_type.specs.References.{part_of}
 use Rattle.pli_type_tree.specs.views.TypedView.{callee_view}
@@ -21,7 +22,7 @@ is_way (i ∷ path) = true
 abbrev pub IsVariable : NamedVariable → plain.NamedVariable → Type 0
 IsVariable v w =
     (storage_view v.storage ≡ w.storage)
-    × (description_view v.whole.now ≡ w.whole)
+    × (type_seen v.whole ≡ w.whole)
     × (v.is_member ≡ is_way w.path)
     × (option_map part_view v.part.now ≡ part_of w)
     × (v.area ≡ w.area)
@@ -29,7 +30,7 @@ IsVariable v w =
 -- a procedure: what a call of it calls, its parameters, what it gives, and the area that its RETURNS names
 pub record IsProcedure (p : NamedProcedure) (q : plain.NamedProcedure) : Type 0 where
   pub callee : callee_view p.callee ≡ q.callee
-  pub parameters : map (λ d. description_view d.now) p.parameters.now ≡ q.parameters
+  pub parameters : map type_seen p.parameters.now ≡ q.parameters
   pub returned : option_map (λ d. description_view d.now) p.returned ≡ q.returned
   pub area : p.area ≡ q.area
 

@@ -2,15 +2,19 @@
 ghost use Rattle.std.specs.Prelude.{◌≡◌, nat_lt};
 ghost use Rattle.pli_map.specs.Sizes.{count_of};
 ghost use Rattle.pli_map.specs.views.DescriptionView.{description_view, members_view};
+ghost use Rattle.pli_map.specs.views.ParameterView.{type_view};
 ghost use Rattle.pli_type.specs.NamedUnits as spec;
 
-use pli_map::{Bounds, Description, is_area, size};
+use pli_map::{Bounds, Description, ParameterType, is_aggregate, is_area, size};
 
 /// How many binary digits numbers have at most (own).
 pub const GREATEST: u8 = 63;
 
 /// How many elements a string has at most (own).
 const STRING_LIMIT: u16 = 32_767;
+
+/// How many dimensions an array has at most (own).
+const DIMENSION_LIMIT: usize = 8;
 
 /// How far a bound is from zero at most.
 const BOUND_LIMIT: u16 = 32_768;
@@ -96,4 +100,47 @@ pub fn is_stored(description: &Description) -> bool
     ensures { result ≡ spec.is_stored 63 (description_view description.now) }
 {
     (is_area(description) || is_plain(description)) && size(description).is_some()
+}
+
+/// Whether an array may have so many dimensions.
+fn are_dimensions(count: usize) -> bool
+    ensures { result ≡ spec.are_dimensions count }
+{
+    0 < count && count <= DIMENSION_LIMIT
+}
+
+/// Whether a type is that of strings of any length.
+fn is_any_length(taken: &ParameterType) -> bool
+    ensures { result ≡ spec.is_any_length (type_view taken.now) }
+{
+    matches!(taken, ParameterType::AnyString(_))
+}
+
+/// Whether an array whose bounds are all `*` may have such elements: scalars that are no areas, and strings of any
+/// length.
+fn is_open_element(element: &ParameterType) -> bool
+    ensures { result ≡ spec.is_open_element 63 (type_view element.now) }
+{
+    match element {
+        ParameterType::Stated(description) => is_plain(description) && !is_aggregate(description),
+        ParameterType::AnyString(_) => true,
+        _ => false,
+    }
+}
+
+/// Whether a parameter may be of this type, in which a `*` stands (own).
+pub(crate) fn is_open_parameter(taken: &ParameterType) -> bool
+    ensures { result ≡ spec.is_open_parameter 63 (type_view taken.now) }
+{
+    match taken {
+        ParameterType::Stated(_) | ParameterType::StructureOf(_) => false,
+        ParameterType::AnyString(_) => true,
+        ParameterType::AnyArray {
+            dimensions,
+            element,
+        } => are_dimensions(usize::from(*dimensions)) && is_open_element(element),
+        ParameterType::ArrayOf { bounds, element } => {
+            are_dimensions(bounds.len()) && are_bounds(bounds) && is_any_length(element)
+        }
+    }
 }

@@ -3,6 +3,7 @@ ghost use Rattle.std.specs.Prelude.{◌≡◌, IfOk, length, map, option_map, sl
 ghost use Rattle.pli_base.specs.views.StatementView.{unit_view};
 ghost use Rattle.pli_map.specs.Description as described;
 ghost use Rattle.pli_map.specs.views.DescriptionView.{description_view};
+ghost use Rattle.pli_map.specs.views.ParameterView.{type_seen};
 ghost use Rattle.pli_resolve.specs.ResolvedUnits.{resolved_unit_of};
 ghost use Rattle.pli_resolve.specs.views.UnitView.{resolved_block_view};
 ghost use Rattle.pli_type.specs.NamedUnits as units;
@@ -11,7 +12,7 @@ ghost use Rattle.pli_type_names.specs.views.EntryView.{AreEntries, entry_view};
 
 use crate::descriptions::is_valued;
 use crate::parameters::{parameters_of, returned_area_of, returned_of};
-use pli_map::Description;
+use pli_map::{Description, TypeRef};
 use pli_resolve::{ResolvedBlock, ResolvedBlockKind, ResolvedUnit, SymbolKey};
 use std::alloc::{AllocError, Global};
 
@@ -23,7 +24,7 @@ pub(crate) struct BlockEntry<'a> {
     /// The block that it stands in.
     pub outer: Option<usize>,
     /// What its parameters are.
-    pub parameters: Vec<&'a Description>,
+    pub parameters: Vec<TypeRef<'a>>,
     /// What it gives, if it is that of a function.
     pub returned: Option<&'a Description>,
     /// The area that OFFSET in its RETURNS names.
@@ -84,12 +85,11 @@ pub(crate) fn block_entries<'r>(
 /// What the parameters of the block of this number are; none where there is no such block.
 pub(crate) fn parameters_at<'n, 'a>(
     entries: &'n [BlockEntry<'a>],
-    none: &'n [&'a Description],
+    none: &'n [TypeRef<'a>],
     block: usize,
-) -> &'n [&'a Description]
+) -> &'n [TypeRef<'a>]
     requires { length none.now ≡ 0 }
-    ensures { map (λ d. description_view d.now) result.now ≡ parameters_in
-        (slice_get (map entry_view entries.now) block) }
+    ensures { map type_seen result.now ≡ parameters_in (slice_get (map entry_view entries.now) block) }
 {
     let Some(entry) = entries.get(block) else {
         return none;

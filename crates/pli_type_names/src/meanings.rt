@@ -3,25 +3,27 @@ ghost use Rattle.std.specs.Prelude.{◌≡◌, ◌≤◌, ◌+◌, ◌++◌, ◌
 ghost use Rattle.std.specs.List.{All};
 ghost use Rattle.pli_base.specs.views.StatementView.{unit_view};
 ghost use Rattle.pli_map.specs.views.DescriptionView.{description_view};
+ghost use Rattle.pli_map.specs.views.ParameterView.{type_seen, type_view};
 ghost use Rattle.pli_resolve.specs.ResolvedUnits.{resolved_unit_of};
 ghost use Rattle.pli_resolve.specs.views.SymbolView.{symbol_view, symbol_kind_view};
 ghost use Rattle.pli_type.specs.NamedUnits.{block_symbols, globals_before, parameter_numbers};
 ghost use Rattle.pli_type_names.specs.OnWays.{IsLevel};
-ghost use Rattle.pli_type_names.specs.Seen.{entry_kept, kept_symbols, kind_kept, on_way};
+ghost use Rattle.pli_type_names.specs.Seen.{entry_kept, kept_symbols, kind_kept, on_way, open_kept};
 ghost use Rattle.pli_type_names.specs.views.MeaningView.{AreMeanings, meant_view, row_view};
 ghost use Rattle.pli_type_names.specs.views.VariableView.{own_view};
 
+use crate::descriptions::is_open_parameter;
 use crate::entries::gives_stored;
 use crate::level::StructureLevel;
 use crate::levels::{part_on_way, variable_at};
 use crate::order::global_places;
 use crate::own_variable::OwnVariable;
-use crate::own_variables::own_variables;
+use crate::own_variables::{is_parameter, own_variables};
 use crate::parameters::parameter_numbers;
 use crate::part::StridedPart;
 use crate::place::Location;
 use crate::unit_symbols::symbols;
-use pli_map::Description;
+use pli_map::{Description, ParameterType, TypeRef};
 use pli_resolve::{ResolvedUnit, Symbol, SymbolKey, SymbolKind};
 use std::alloc::{AllocError, Global};
 
@@ -30,11 +32,11 @@ use std::alloc::{AllocError, Global};
 pub(crate) enum SymbolMeaning<'a> {
     Variable {
         begins: Location,
-        /// What the whole variable is.
-        whole: &'a Description,
+        /// What the whole variable is, which is open where a `*` stands in a parameter.
+        whole: TypeRef<'a>,
         /// Whether it is a member, and not a variable of its own.
         is_member: bool,
-        /// Which part of the variable it is; none where the way leads nowhere.
+        /// Which part of the variable it is; none where the way leads nowhere, and of what is open.
         part: Option<StridedPart<'a>>,
         /// The area that OFFSET in its declaration names.
         area: Option<SymbolKey>,
@@ -45,7 +47,7 @@ pub(crate) enum SymbolMeaning<'a> {
     /// if it is a function, and the area that OFFSET in its RETURNS names.
     Entry {
         number: usize,
-        parameters: Vec<&'a Description>,
+        parameters: Vec<TypeRef<'a>>,
         returned: Option<&'a Description>,
         area: Option<SymbolKey>,
     },
@@ -58,19 +60,19 @@ pub(crate) enum SymbolMeaning<'a> {
 fn entry_meaning<'a>(
     alloc: Global,
     number: usize,
-    described: &'a [Description],
+    described: &'a [ParameterType],
     returned: Option<&'a Description>,
     area: Option<SymbolKey>,
 ) -> Result<SymbolMeaning<'a>, AllocError>
-    ensures { IfOk result (λ meant. meant_view meant ≡ entry_kept number (map description_view described.now)
+    ensures { IfOk result (λ meant. meant_view meant ≡ entry_kept number (map type_view described.now)
         (option_map (λ d. description_view d.now) returned.entry) area) }
 {
     if !gives_stored(returned) {
         return Ok(SymbolMeaning::Untyped);
     }
     let mut parameters = Vec::new(alloc);
-    for description in described {
-        parameters.push(description)?;
+    for taken in described {
+        parameters.push(taken.lent())?;
     }
     Ok(SymbolMeaning::Entry {
         number,
@@ -100,16 +102,39 @@ fn meant_on_way<'a>(
     let part = part_on_way(alloc, variables, root, path, levels)?;
     Ok(SymbolMeaning::Variable {
         begins: variable.begins,
-        whole: variable.description,
+        whole: TypeRef::Stated(variable.description),
         is_member: !path.is_empty(),
         part,
         area,
     })
 }
 
+/// A parameter in which a `*` stands, which is the symbol of this number, where its slot has that.
+fn open_meaning<'a>(
+    parameters: &[usize],
+    number: usize,
+    slot: usize,
+    taken: &'a ParameterType,
+    area: Option<SymbolKey>,
+) -> SymbolMeaning<'a>
+    ensures { meant_view result ≡ open_kept parameters.now number slot (type_view taken.now) area }
+{
+    if !is_open_parameter(taken) || !is_parameter(parameters, slot, number) {
+        return SymbolMeaning::Untyped;
+    }
+    SymbolMeaning::Variable {
+        begins: Location::Passed { slot },
+        whole: taken.lent(),
+        is_member: false,
+        part: None,
+        area,
+    }
+}
+
 /// What the symbol of this number means; an entry has this number among the globals.
 fn symbol_meaning<'a>(
     alloc: Global,
+    parameters: &[usize],
     variables: &[Option<OwnVariable<'a>>],
     number: usize,
     global: usize,
@@ -118,12 +143,16 @@ fn symbol_meaning<'a>(
 ) -> Result<SymbolMeaning<'a>, AllocError>
     requires { All (IsLevel (map (option_map own_view) variables.now)) levels.old.items }
     ensures meaning { IfOk result (λ meant. meant_view meant
-        ≡ kind_kept (map (option_map own_view) variables.now) number global (symbol_kind_view kind.entry)) }
+        ≡ kind_kept parameters.now (map (option_map own_view) variables.now) number global
+        (symbol_kind_view kind.entry)) }
     ensures levels { IfOk result (λ _. All (IsLevel (map (option_map own_view) variables.now)) levels.new.items) }
 {
     match kind {
         SymbolKind::Variable { area, .. } => {
             meant_on_way(alloc, variables, number, &[], area, levels)
+        }
+        SymbolKind::OpenParameter { taken, slot, area } => {
+            Ok(open_meaning(parameters, number, slot, taken, area))
         }
         SymbolKind::Member {
             root,
@@ -134,10 +163,10 @@ fn symbol_meaning<'a>(
         SymbolKind::Procedure { block, .. } => Ok(SymbolMeaning::Procedure(block)),
         SymbolKind::Label { statement } => Ok(SymbolMeaning::Label(statement)),
         SymbolKind::Entry {
-            parameters,
+            parameters: described,
             returned,
             area,
-        } => entry_meaning(alloc, global, parameters, returned, area),
+        } => entry_meaning(alloc, global, described, returned, area),
         SymbolKind::BuiltIn => Ok(SymbolMeaning::Untyped),
     }
 }
@@ -168,7 +197,15 @@ fn symbol_meanings<'a>(
     let mut meanings = Vec::new(alloc);
     for (number, symbol) in symbols.iter().enumerate() {
         let global = numbers[number];
-        let meaning = symbol_meaning(alloc, &variables, number, global, symbol.kind, &mut levels)?;
+        let meaning = symbol_meaning(
+            alloc,
+            parameters,
+            &variables,
+            number,
+            global,
+            symbol.kind,
+            &mut levels,
+        )?;
         meanings.push(meaning)?;
     }
     Ok(meanings)

@@ -19,7 +19,7 @@ use crate::part::StridedPart;
 use crate::seen::{area_under, symbol_seen};
 use crate::storage::NamedStorage;
 use pli_base::statement::Procedure;
-use pli_map::Description;
+use pli_map::{Description, TypeRef};
 use pli_resolve::{BuiltInFunction, NameMeaning, ResolvedUnit, SymbolKey};
 use pli_type::Beginning;
 use pli_type_tree::Callee;
@@ -31,11 +31,11 @@ use std::marker::Model;
 pub struct NamedVariable<'n, 'a> {
     /// Where the variable's storage is, from where the name is used.
     pub storage: NamedStorage,
-    /// What the whole variable is.
-    pub whole: &'a Description,
+    /// What the whole variable is, which is open where a `*` stands in a parameter.
+    pub whole: TypeRef<'a>,
     /// Whether it is a member, and not a variable of its own.
     pub is_member: bool,
-    /// Which part of the variable it is; none where the way leads nowhere.
+    /// Which part of the variable it is; none where the way leads nowhere, and of what is open.
     pub part: &'n Option<StridedPart<'a>>,
     /// The area that OFFSET in its declaration names, seen from where the name is used.
     pub area: Option<Beginning>,
@@ -47,7 +47,7 @@ pub struct NamedProcedure<'n, 'a> {
     /// What a call of it calls.
     pub callee: Callee,
     /// What its parameters are, each under its slot.
-    pub parameters: &'n [&'a Description],
+    pub parameters: &'n [TypeRef<'a>],
     /// What it gives, if it is a function.
     pub returned: Option<&'a Description>,
     /// The area that OFFSET in its RETURNS names, seen from where the name is used.
@@ -76,7 +76,7 @@ pub struct Naming<'a> {
     /// What is found once for each block, under its number.
     entries: Vec<BlockEntry<'a>>,
     /// The parameters of what is no block.
-    no_parameters: Vec<&'a Description>,
+    no_parameters: Vec<TypeRef<'a>>,
     /// The blocks around, the innermost last.
     around: Vec<usize>,
 }

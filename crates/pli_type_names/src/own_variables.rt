@@ -38,7 +38,7 @@ fn take(free: &mut usize) -> usize
 }
 
 /// Whether the parameter in a slot is the symbol of this number.
-fn is_parameter(parameters: &[usize], slot: usize, number: usize) -> bool
+pub(crate) fn is_parameter(parameters: &[usize], slot: usize, number: usize) -> bool
     ensures { result ≡ units.is_parameter parameters.now slot number }
 {
     let Some(parameter) = parameters.get(slot) else {

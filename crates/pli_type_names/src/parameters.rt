@@ -3,14 +3,16 @@ ghost use Rattle.std.specs.Prelude.{◌≡◌, IfOk, map, option_map};
 ghost use Rattle.std.specs.Option.{unwrap_or};
 ghost use Rattle.pli_base.specs.views.StatementView.{unit_view};
 ghost use Rattle.pli_map.specs.Description as described;
+ghost use Rattle.pli_map.specs.ParameterTypes as types;
 ghost use Rattle.pli_map.specs.views.DescriptionView.{description_view};
+ghost use Rattle.pli_map.specs.views.ParameterView.{type_seen};
 ghost use Rattle.pli_resolve.specs.ResolvedUnits.{resolved_unit_of, symbol_at};
 ghost use Rattle.pli_resolve.specs.views.SymbolView.{symbol_kind_view};
 ghost use Rattle.pli_type.specs.NamedUnits as units;
 ghost use Rattle.pli_type_names.specs.BlockEntries as spec;
-ghost use Rattle.pli_type.specs.NamedUnits.{description_in, parameters_of, returned_area_of, returned_of};
+ghost use Rattle.pli_type.specs.NamedUnits.{type_in, parameters_of, returned_area_of, returned_of};
 
-use pli_map::Description;
+use pli_map::{Description, TypeRef};
 use pli_resolve::{ResolvedBlockKind, ResolvedUnit, SymbolKey, SymbolKind};
 use std::alloc::{AllocError, Global};
 
@@ -34,26 +36,27 @@ pub(crate) fn parameter_numbers<'r>(resolved: &'r ResolvedUnit<'r>, number: usiz
     block.parameters
 }
 
-/// What a variable of its own is; none of anything else.
-fn variable_description<'r>(kind: SymbolKind<'r>) -> Option<&'r Description>
-    ensures { unwrap_or (option_map (λ d. description_view d.now) result) described.Pointer
-        ≡ spec.description_of (symbol_kind_view kind.entry) }
+/// What a variable of its own is, or a parameter in which a `*` stands; none of anything else.
+fn variable_type<'r>(kind: SymbolKind<'r>) -> Option<TypeRef<'r>>
+    ensures { unwrap_or (option_map type_seen result) (types.Stated described.Pointer)
+        ≡ spec.type_with (symbol_kind_view kind.entry) }
 {
-    let SymbolKind::Variable { description, .. } = kind else {
-        return None;
-    };
-    Some(description)
+    match kind {
+        SymbolKind::Variable { description, .. } => Some(TypeRef::Stated(description)),
+        SymbolKind::OpenParameter { taken, .. } => Some(taken.lent()),
+        _ => None,
+    }
 }
 
 /// What the parameter is that is the symbol under a key; none where the symbol is no variable.
-fn parameter_at<'r>(resolved: &'r ResolvedUnit<'r>, key: SymbolKey) -> Option<&'r Description>
-    ensures { unwrap_or (option_map (λ d. description_view d.now) result) described.Pointer
-        ≡ description_in (symbol_at (resolved_unit_of (unit_view resolved.now)) key) }
+fn parameter_at<'r>(resolved: &'r ResolvedUnit<'r>, key: SymbolKey) -> Option<TypeRef<'r>>
+    ensures { unwrap_or (option_map type_seen result) (types.Stated described.Pointer)
+        ≡ type_in (symbol_at (resolved_unit_of (unit_view resolved.now)) key) }
 {
     let Some(symbol) = resolved.symbol(key) else {
         return None;
     };
-    variable_description(symbol.kind)
+    variable_type(symbol.kind)
 }
 
 /// What the parameters of a block are; what is undescribed stands for one that is no variable, of which a unit without
@@ -63,9 +66,9 @@ pub(crate) fn parameters_of<'r>(
     resolved: &'r ResolvedUnit<'r>,
     undescribed: &'r Description,
     block: usize,
-) -> Result<Vec<&'r Description>, AllocError>
+) -> Result<Vec<TypeRef<'r>>, AllocError>
     requires { description_view undescribed.now ≡ described.Pointer }
-    ensures { IfOk result (λ made. map (λ d. description_view d.now) made.items
+    ensures { IfOk result (λ made. map type_seen made.items
         ≡ parameters_of (resolved_unit_of (unit_view resolved.now)) block) }
 {
     let mut made = Vec::new(alloc);
@@ -75,7 +78,7 @@ pub(crate) fn parameters_of<'r>(
             block,
             number: *number,
         };
-        made.push(parameter_at(resolved, key).unwrap_or(undescribed))?;
+        made.push(parameter_at(resolved, key).unwrap_or(TypeRef::Stated(undescribed)))?;
     }
     Ok(made)
 }

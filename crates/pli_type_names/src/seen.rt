@@ -1,6 +1,8 @@
 //! What symbols mean from where their names are used.
-ghost use Rattle.std.specs.Prelude.{◌≡◌, [], get_or, map, option_map, reverse, slice_get};
+ghost use Rattle.std.specs.Prelude.{◌≡◌, [], false, get_or, map, option_map, reverse, slice_get};
+ghost use Rattle.pli_map.specs.ParameterTypes as types;
 ghost use Rattle.pli_map.specs.views.DescriptionView.{description_view};
+ghost use Rattle.pli_map.specs.views.ParameterView.{type_seen, type_view};
 ghost use Rattle.pli_type.specs.Beginnings.{root_at};
 ghost use Rattle.pli_type.specs.Names.{Begins};
 ghost use Rattle.pli_type_names.specs.Seen.{KeptNothing, area_from, area_kept, area_under, if_locator, kept_seen};
@@ -18,7 +20,7 @@ use crate::naming::{NamedAs, NamedProcedure, NamedVariable};
 use crate::part::StridedPart;
 use crate::place::Location;
 use crate::storage::{NamedLocator, NamedStorage};
-use pli_map::Description;
+use pli_map::{Description, ParameterType, TypeRef};
 use pli_resolve::SymbolKey;
 use pli_type::Beginning;
 use pli_type_tree::Callee;
@@ -54,17 +56,37 @@ fn offset_if(is_member: bool, offset: u32) -> Option<u32>
     if is_member { Some(offset) } else { None }
 }
 
-/// Where an area begins, if what begins there is one: it is no member of a variable.
+/// Where an area begins, if a variable of its own of this description begins there and is one.
 #[tactic(auto, using(crate::proofs::StorageIs::begun_again))]
-fn area_from(begins: Option<Beginning>, is_member: bool, whole: &Description) -> Option<Beginning>
-    ensures { result ≡ area_from is_member (description_view whole.now) (option_map root_at begins) }
+fn described_area(begins: Option<Beginning>, whole: &Description) -> Option<Beginning>
+    ensures { result ≡ area_from false (types.Stated (description_view whole.now)) (option_map root_at begins) }
+{
+    match whole {
+        Description::Area(_) => begins,
+        _ => None,
+    }
+}
+
+/// The same of what is of this type.
+fn area_of_type(begins: Option<Beginning>, whole: &ParameterType) -> Option<Beginning>
+    ensures { result ≡ area_from false (type_view whole.now) (option_map root_at begins) }
+{
+    match whole {
+        ParameterType::Stated(description) => described_area(begins, description),
+        _ => None,
+    }
+}
+
+/// Where an area begins, if what begins there is one: it is no member of a variable.
+fn area_from(begins: Option<Beginning>, is_member: bool, whole: TypeRef<'_>) -> Option<Beginning>
+    ensures { result ≡ area_from is_member (type_seen whole.entry) (option_map root_at begins) }
 {
     if is_member {
         return None;
     }
     match whole {
-        Description::Area(_) => begins,
-        _ => None,
+        TypeRef::Stated(description) => described_area(begins, description),
+        TypeRef::Open(taken) => area_of_type(begins, taken),
     }
 }
 
@@ -78,7 +100,7 @@ fn area_kept(around: &[usize], block: usize, meant: &SymbolMeaning<'_>) -> Optio
             whole,
             is_member,
             ..
-        } => area_from(root_from(around, block, *begins), *is_member, whole),
+        } => area_from(root_from(around, block, *begins), *is_member, *whole),
         _ => None,
     }
 }

@@ -18,6 +18,7 @@ use Rattle.pli_type_tree.specs.TypedTree as typed
 use Rattle.pli_type_tree.specs.TypedTree.{Form, TypedProcedure, TypedStatements}
 use Rattle.pli_type_tree.specs.declared.statement.BlockHead.{BlockHead}
 use Rattle.pli_map.specs.views.DescriptionView.{description_view}
+use Rattle.pli_map.specs.views.ParameterView.{type_seen}
 use Rattle.pli_type_tree.specs.views.TypedView.{head_view, procedure_view}
 use Rattle.pli_type_statement.specs.Around.{Around, Listing, blocks_with, blocks_from, blocks_of, seen_from, surroundings_of}
 use Rattle.pli_type_statement.specs.Parts.{unit_named, given, told, Adds, behind_body, behind_list}
@@ -388,7 +389,7 @@ returned_is w block p is = is.returned
 pub parameters_are : (w : TypingWalk) (block : ℕ) (p : program.NamedProcedure) → IsProcedure p (procedure_in w.naming block)
     → length p.parameters.now ≡ length ((unit_at w).parameters block)
 unfolding procedure_in unit_named
-parameters_are w block p is = sym (length-map p.parameters.now (λ d. description_view d.now)) ∙ ap length is.parameters
+parameters_are w block p is = sym (length-map p.parameters.now type_seen) ∙ ap length is.parameters
 
 -- a group's list is gone into
 pub in_group_around : (old new : Surrounded) (labels labels' : List ℕ) → labels' ≡ labels

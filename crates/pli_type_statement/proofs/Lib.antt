@@ -1,4 +1,5 @@
 pub mod WalkEndLemmas
+pub mod AlikeLemmas
 pub mod Arrows
 pub mod BasedItems
 pub mod Blocks

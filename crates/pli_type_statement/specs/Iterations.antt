@@ -8,19 +8,19 @@ use Rattle.pli_base.specs.declared.code.Code.TheVariants.{CannotAssign}
 use Rattle.pli_base.specs.declared.syntax.Joining.{Joining}
 use Rattle.pli_base.specs.declared.syntax.Joining.TheVariants.{Member, Located}
 use Rattle.pli_base.specs.declared.token.Fault.{Fault}
-use Rattle.pli_map.specs.Scalars.{is_area}
-use Rattle.pli_type.specs.ExpressionTypes.{TypedValue, conversion, unconverted}
+use Rattle.pli_type.specs.ExpressionTypes.{TypedValue, conversion_to, unconverted}
 use Rattle.pli_type.specs.Names.{Naming}
 use Rattle.pli_type.specs.References.{Referent}
 use Rattle.pli_type.specs.StatementTyping.{possible_condition, with_repeat, without_subscripts}
 use Rattle.pli_type.specs.Typing.{or_fault}
 use Rattle.pli_type_tree.specs.TypedTree.{Conversion, Iteration, TypedExpression, TypedRange}
+use Rattle.pli_type_tree.specs.WellTyped.{is_area_type}
 
 -- a variable may control a group, whatever limits that: it has no subscripts and no locator before it, and is
 -- no area
 abbrev pub may_control : (is_located : Bool) → Referent → Bool
 may_control is_located r =
-    without_subscripts r.reference && not is_located && not (is_area r.description)
+    without_subscripts r.reference && not is_located && not (is_area_type r.description)
 
 -- a group of its parts
 abbrev pub iteration_of : (variable : Referent) → Conversion → TypedValue → (turns : TypedRange)
@@ -38,7 +38,7 @@ iteration_of r convert v turns x temporary = record {
 abbrev pub iteration_with : Naming → (temporary equals : ℕ) → TypedValue → (kept : TypedRange)
     → (variable : Referent) → Option Range → (condition : Option Expression) → Result Iteration Fault
 iteration_with n temporary equals v kept r range tested = do
-  convert ← or_fault CannotAssign equals (conversion n.greatest r.area r.description v.kind)
+  convert ← or_fault CannotAssign equals (conversion_to n.greatest r.area r.description v.kind)
   x ← possible_condition n tested
   turns ← with_repeat n r kept range
   Ok (iteration_of r convert v turns x temporary)

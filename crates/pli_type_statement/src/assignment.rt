@@ -1,6 +1,9 @@
 //! Assignments.
 ghost use Rattle.std.specs.Prelude.{◌≡◌, option_map};
 ghost use Rattle.pli_base.specs.views.SyntaxView as syntax;
+ghost use Rattle.pli_map.specs.ParameterTypes as types;
+ghost use Rattle.pli_map.specs.views.DescriptionView.{description_view};
+ghost use Rattle.pli_map.specs.views.ParameterView.{type_seen, type_view};
 ghost use Rattle.pli_type.specs.Beginnings.{whole_at};
 ghost use Rattle.pli_type.specs.StatementTyping as spec;
 ghost use Rattle.pli_base.specs.answers.FailureAnswers.{Gives};
@@ -11,8 +14,8 @@ ghost use Rattle.pli_type_tree.specs.views.TypedView.{form_view};
 
 use pli_base::syntax::{Expression, Reference};
 use pli_base::{Code, fault};
-use pli_map::{is_aggregate, is_area};
-use pli_type::{Beginning, area_meant, converted};
+use pli_map::{Description, ParameterType, StringForm, TypeRef, is_area};
+use pli_type::{Beginning, area_meant, converted, suited_to_form};
 use pli_type_expression::{
     Denoted, ExpressionMeaning, Referent, Role, TypeError, denoted, meant, referred, value_of,
 };
@@ -20,8 +23,22 @@ use pli_type_names::Naming;
 use pli_type_tree::Form;
 use std::alloc::Global;
 
-/// An aggregate assigned to one of equal description: types, bounds and structure agree (X3.74). Anything else is T5 at
-/// `=`.
+/// Whether two types are the same, and no `*` stands in them.
+#[tactic(auto, using(crate::proofs::AlikeLemmas::alike, crate::proofs::AlikeLemmas::first_open, crate::proofs::AlikeLemmas::second_open))]
+fn are_alike(one: TypeRef<'_>, other: TypeRef<'_>) -> bool
+    ensures { result ≡ spec.are_alike (type_seen one.entry) (type_seen other.entry) }
+{
+    let Some(one) = one.stated() else {
+        return false;
+    };
+    let Some(other) = other.stated() else {
+        return false;
+    };
+    *one == *other
+}
+
+/// An aggregate assigned to one of equal description: types, bounds and structure agree, and are known (X3.74).
+/// Anything else is T5 at `=`.
 fn aggregate_assigned(
     equals: u32,
     target: Box<Referent<'_>>,
@@ -34,7 +51,7 @@ fn aggregate_assigned(
         drop(source);
         return Err(fault(Code::CannotAssign, equals));
     };
-    if *target.description == *source.description {
+    if are_alike(target.description, source.description) {
         let target = Box::into_inner(target);
         Ok(Form::AssignAggregate {
             target: target.reference,
@@ -46,29 +63,52 @@ fn aggregate_assigned(
     }
 }
 
-/// One value assigned to a scalar: T5 at `=` where it does not suit, T2 where it is an aggregate (X3.74).
+/// One value assigned to a scalar of this description: T5 at `=` where it does not suit, T2 where it is an aggregate
+/// (X3.74).
 fn scalar_assigned(
     alloc: Global,
     naming: &Naming<'_>,
     equals: u32,
     target: Box<Referent<'_>>,
+    description: &Description,
     value: &Expression,
 ) -> Result<Form, TypeError>
     ensures { Gives form_view result
         (spec.scalar_assigned (naming_in naming.now) equals (referent_view target.entry.value)
-        (syntax.expression_view value.now)) }
+        (description_view description.now) (syntax.expression_view value.now)) }
 {
     let value = value_of(alloc, naming, value)?;
-    match converted(
-        alloc,
-        naming.greatest(),
-        target.area,
-        target.description,
-        value,
-    )? {
+    match converted(alloc, naming.greatest(), target.area, description, value)? {
         Some(value) => {
             let target = Box::into_inner(target);
             Ok(Form::Assign {
+                target: target.reference,
+                value,
+            })
+        }
+        None => Err(fault(Code::CannotAssign, equals)),
+    }
+}
+
+/// A string assigned to one of any length, to which it is fitted at its place: T5 at `=` where the value does not suit,
+/// T2 where it is an aggregate.
+fn string_assigned(
+    alloc: Global,
+    naming: &Naming<'_>,
+    equals: u32,
+    target: Box<Referent<'_>>,
+    form: StringForm,
+    value: &Expression,
+) -> Result<Form, TypeError>
+    ensures { Gives form_view result
+        (spec.string_assigned (naming_in naming.now) equals (referent_view target.entry.value) form
+        (syntax.expression_view value.now)) }
+{
+    let value = value_of(alloc, naming, value)?;
+    match suited_to_form(alloc, form, value)? {
+        Some(value) => {
+            let target = Box::into_inner(target);
+            Ok(Form::AssignString {
                 target: target.reference,
                 value,
             })
@@ -124,6 +164,55 @@ fn area_assigned(
     }
 }
 
+/// What is assigned to an area or a scalar of this description.
+fn described_assigned<'a>(
+    alloc: Global,
+    naming: &Naming<'a>,
+    equals: u32,
+    target: Box<Referent<'a>>,
+    description: &Description,
+    value: &Expression,
+) -> Result<Form, TypeError>
+    ensures { Gives form_view result
+        (spec.one_assigned (naming_in naming.now) equals (referent_view target.entry.value)
+        (types.Stated (description_view description.now)) (syntax.expression_view value.now)) }
+{
+    if is_area(description) {
+        let area = area_meant(&target.reference, TypeRef::Stated(description));
+        drop(target);
+        area_assigned(alloc, naming, equals, area, value)
+    } else {
+        scalar_assigned(alloc, naming, equals, target, description, value)
+    }
+}
+
+/// What is assigned to what is of this type, and no aggregate.
+fn open_assigned<'a>(
+    alloc: Global,
+    naming: &Naming<'a>,
+    equals: u32,
+    target: Box<Referent<'a>>,
+    taken: &ParameterType,
+    value: &Expression,
+) -> Result<Form, TypeError>
+    ensures { Gives form_view result
+        (spec.one_assigned (naming_in naming.now) equals (referent_view target.entry.value) (type_view taken.now)
+        (syntax.expression_view value.now)) }
+{
+    match taken {
+        ParameterType::Stated(description) => {
+            described_assigned(alloc, naming, equals, target, description, value)
+        }
+        ParameterType::AnyString(form) => {
+            string_assigned(alloc, naming, equals, target, *form, value)
+        }
+        _ => {
+            drop(target);
+            Err(fault(Code::CannotAssign, equals))
+        }
+    }
+}
+
 /// What is assigned to a variable, by what that is: an aggregate, an area, or a scalar.
 fn variable_assigned<'a>(
     alloc: Global,
@@ -136,15 +225,15 @@ fn variable_assigned<'a>(
         (spec.variable_assigned (naming_in naming.now) equals (referent_view target.entry.value)
         (syntax.expression_view value.now)) }
 {
-    if is_aggregate(target.description) {
+    if target.description.is_aggregate() {
         let source = meant(alloc, naming, Role::Argument, value)?;
-        aggregate_assigned(equals, target, source)
-    } else if is_area(target.description) {
-        let area = area_meant(&target.reference, target.description);
-        drop(target);
-        area_assigned(alloc, naming, equals, area, value)
-    } else {
-        scalar_assigned(alloc, naming, equals, target, value)
+        return aggregate_assigned(equals, target, source);
+    }
+    match target.description {
+        TypeRef::Stated(description) => {
+            described_assigned(alloc, naming, equals, target, description, value)
+        }
+        TypeRef::Open(taken) => open_assigned(alloc, naming, equals, target, taken, value),
     }
 }
 

@@ -1,9 +1,12 @@
 //! Groups with a control variable.
-ghost use Rattle.std.specs.Prelude.{◌≡◌, option_map};
+ghost use Rattle.std.specs.Prelude.{◌≡◌, ℕ, Option, option_map, IfOk};
 ghost use Rattle.std.specs.List.{list_any};
 ghost use Rattle.pli_base.specs.views.StatementView.{range_view};
 ghost use Rattle.pli_base.specs.views.SyntaxView as syntax;
+ghost use Rattle.pli_map.specs.ParameterTypes as types;
 ghost use Rattle.pli_map.specs.views.DescriptionView.{description_view};
+ghost use Rattle.pli_map.specs.views.ParameterView.{type_seen, type_view};
+ghost use Rattle.pli_type.specs.declared.beginning.Beginning.{Beginning};
 ghost use Rattle.pli_type.specs.StatementTyping as spec;
 ghost use Rattle.pli_type.specs.views.ValueView.{value_view};
 ghost use Rattle.pli_base.specs.answers.FailureAnswers.{Gives};
@@ -16,14 +19,16 @@ use crate::items::condition;
 use pli_base::statement::Range;
 use pli_base::syntax::{Expression, JoinedPart, Joining, Reference};
 use pli_base::{Code, fault};
-use pli_map::{Description, is_area};
-use pli_type::{TypedValue, conversion, converted, unconverted};
+use pli_map::{Description, ParameterType, StringForm, TypeRef};
+use pli_type::{
+    Beginning, TypedValue, conversion_to, converted, is_area_type, suited_to_form, unconverted,
+};
 use pli_type_expression::{
     Denoted, Referent, Role, TypeError, first_token, own_token, referred, value_of,
 };
 use pli_type_names::Naming;
 use pli_type_tree::{Conversion, Iteration, TypedExpression, TypedRange, TypedReference};
-use std::alloc::Global;
+use std::alloc::{AllocError, Global};
 
 /// TO or BY, which takes a number: T4 at its first token where it has none (X3.74).
 fn limit(
@@ -95,16 +100,37 @@ fn is_without_subscripts(reference: &TypedReference) -> bool
     match reference {
         TypedReference::Whole(_) => true,
         TypedReference::Part { subscripts, .. } => subscripts.is_empty(),
+        TypedReference::ElementOf { .. } => false,
     }
 }
 
 /// Whether a variable of this description can count: it is a number where TO or BY stands.
-fn suits_range(description: &Description, range: &TypedRange) -> bool
-    ensures { result ≡ spec.suits_range (description_view description.now) (typed.range_view range.now) }
+fn described_suits(description: &Description, range: &TypedRange) -> bool
+    ensures { result ≡ spec.suits_range (types.Stated (description_view description.now)) (typed.range_view range.now) }
 {
     match range {
         TypedRange::Once => true,
         _ => matches!(description, Description::FixedBinary(_)),
+    }
+}
+
+/// The same of a variable of this type.
+fn type_suits(taken: &ParameterType, range: &TypedRange) -> bool
+    ensures { result ≡ spec.suits_range (type_view taken.now) (typed.range_view range.now) }
+{
+    match taken {
+        ParameterType::Stated(description) => described_suits(description, range),
+        _ => matches!(range, TypedRange::Once),
+    }
+}
+
+/// Whether a variable of a type can count: it is a number where TO or BY stands.
+fn suits_range(taken: TypeRef<'_>, range: &TypedRange) -> bool
+    ensures { result ≡ spec.suits_range (type_seen taken.entry) (typed.range_view range.now) }
+{
+    match taken {
+        TypeRef::Stated(description) => described_suits(description, range),
+        TypeRef::Open(taken) => type_suits(taken, range),
     }
 }
 
@@ -136,7 +162,7 @@ fn has_locator(reference: &Reference) -> bool
 fn may_control(is_located: bool, variable: &Referent<'_>) -> bool
     ensures { result ≡ may_control is_located (referent_view variable.now) }
 {
-    is_without_subscripts(&variable.reference) && !is_located && !is_area(variable.description)
+    is_without_subscripts(&variable.reference) && !is_located && !is_area_type(variable.description)
 }
 
 /// The control variable at the token `at`: a variable without subscripts and without a locator before it, no area, and
@@ -182,6 +208,81 @@ fn possible_condition(
     }
 }
 
+/// What REPEAT gives a variable of this description, whose declaration names this area if it is an OFFSET; none where
+/// it does not suit.
+fn described_turn(
+    alloc: Global,
+    greatest: u8,
+    area: Option<Beginning>,
+    description: &Description,
+    value: TypedValue,
+) -> Result<Option<Box<TypedRange>>, AllocError>
+    ensures { IfOk result (λ made. option_map (λ range. typed.range_view range.value) made
+        ≡ spec.turned greatest area (value_view value) (types.Stated (description_view description.now))) }
+{
+    match converted(alloc, greatest, area, description, value)? {
+        Some(next) => Ok(Some(Box::new(alloc, TypedRange::Repeated(next))?)),
+        None => Ok(None),
+    }
+}
+
+/// What REPEAT gives a string of any length, to which it is fitted at its place; none where it does not suit.
+fn string_turn(
+    alloc: Global,
+    form: StringForm,
+    value: TypedValue,
+) -> Result<Option<Box<TypedRange>>, AllocError>
+    ensures { IfOk result (λ made. (greatest : ℕ) (area : Option Beginning) →
+        option_map (λ range. typed.range_view range.value) made
+        ≡ spec.turned greatest area (value_view value) (types.AnyString form)) }
+{
+    match suited_to_form(alloc, form, value)? {
+        Some(next) => Ok(Some(Box::new(alloc, TypedRange::RepeatedString(next))?)),
+        None => Ok(None),
+    }
+}
+
+/// What REPEAT gives a variable of this type.
+fn type_turn(
+    alloc: Global,
+    greatest: u8,
+    area: Option<Beginning>,
+    taken: &ParameterType,
+    value: TypedValue,
+) -> Result<Option<Box<TypedRange>>, AllocError>
+    ensures { IfOk result (λ made. option_map (λ range. typed.range_view range.value) made
+        ≡ spec.turned greatest area (value_view value) (type_view taken.now)) }
+{
+    match taken {
+        ParameterType::Stated(description) => {
+            described_turn(alloc, greatest, area, description, value)
+        }
+        ParameterType::AnyString(form) => string_turn(alloc, *form, value),
+        _ => {
+            drop(value);
+            Ok(None)
+        }
+    }
+}
+
+/// What REPEAT gives a variable of a type, whose declaration names this area if it is an OFFSET; none where it does not
+/// suit.
+fn turned(
+    alloc: Global,
+    greatest: u8,
+    area: Option<Beginning>,
+    taken: TypeRef<'_>,
+    value: TypedValue,
+) -> Result<Option<Box<TypedRange>>, AllocError>
+    ensures { IfOk result (λ made. option_map (λ range. typed.range_view range.value) made
+        ≡ spec.turned greatest area (value_view value) (type_seen taken.entry)) }
+{
+    match taken {
+        TypeRef::Stated(description) => described_turn(alloc, greatest, area, description, value),
+        TypeRef::Open(taken) => type_turn(alloc, greatest, area, taken, value),
+    }
+}
+
 /// REPEAT: T5 at its expression's first token where that does not suit the variable (X3.74).
 fn next_value(
     alloc: Global,
@@ -193,14 +294,14 @@ fn next_value(
         (spec.next_value (naming_in naming.now) (referent_view control.now) (syntax.expression_view expression.now)) }
 {
     let value = value_of(alloc, naming, expression)?;
-    match converted(
+    match turned(
         alloc,
         naming.greatest(),
         control.area,
         control.description,
         value,
     )? {
-        Some(next) => Ok(Box::new(alloc, TypedRange::Repeated(next))?),
+        Some(range) => Ok(range),
         None => Err(fault(Code::CannotAssign, first_token(expression))),
     }
 }
@@ -287,7 +388,7 @@ fn iterated(
         (typed.range_view kept.value) (referent_view variable.entry.value) (option_map range_view text.entry.range.now)
         (option_map syntax.expression_view text.entry.condition.now)) }
 {
-    let converts = conversion(
+    let converts = conversion_to(
         alloc,
         naming.greatest(),
         variable.area,

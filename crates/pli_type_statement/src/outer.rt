@@ -3,24 +3,24 @@ ghost use Rattle.std.specs.Prelude.{◌≡◌, IfOk, map, option_map};
 ghost use Rattle.std.specs.List.{list_any};
 ghost use Rattle.pli_base.specs.views.StatementView.{option_view, unit_view};
 ghost use Rattle.pli_map.specs.views.DescriptionView.{description_view};
+ghost use Rattle.pli_map.specs.views.ParameterView.{type_seen, type_view};
 ghost use Rattle.pli_type.specs.Checked as spec;
 ghost use Rattle.pli_type_statement.specs.Parts.{unit_named};
 ghost use Rattle.pli_type_tree.specs.views.GlobalView.{signature_view};
 
 use pli_base::statement::{Procedure, ProcedureOption};
-use pli_map::Description;
+use pli_map::{Description, ParameterType, TypeRef};
 use pli_type_names::Naming;
 use pli_type_tree::Signature;
 use std::alloc::{AllocError, Global};
 
-/// Copies of descriptions.
-fn copies(alloc: Global, descriptions: &[&Description]) -> Result<Vec<Description>, AllocError>
-    ensures { IfOk result (λ made. map description_view made.items
-        ≡ map (λ d. description_view d.now) descriptions.now) }
+/// Copies of types.
+fn copies(alloc: Global, types: &[TypeRef<'_>]) -> Result<Vec<ParameterType>, AllocError>
+    ensures { IfOk result (λ made. map type_view made.items ≡ map type_seen types.now) }
 {
     let mut made = Vec::new(alloc);
-    for description in descriptions {
-        made.push(description.copy(alloc)?)?;
+    for taken in types {
+        made.push(taken.copy(alloc)?)?;
     }
     Ok(made)
 }

@@ -3,7 +3,7 @@ use Rattle.std.proofs.Common.{◌≡◌, ℕ, suc, ◌+◌, Bool, true, false, S
 use Rattle.std.specs.Prelude.{if◌then◌else◌}
 use Rattle.pli_base.specs.Name.{Name}
 use Rattle.pli_declare_outline.specs.Outlines.{PlacedMark}
-use Rattle.pli_resolve.specs.Symbols.{Symbol, SymbolKind, Variable, Member, Label, Procedure, Entry, BuiltIn}
+use Rattle.pli_resolve.specs.Symbols.{Symbol, SymbolKind, Variable, OpenParameter, Member, Label, Procedure, Entry, BuiltIn}
 use Rattle.pli_type.specs.InitialScalars.{InitialItem}
 use Rattle.pli_type.specs.NamedUnits.{member_items, template_at, templates_from, global_of, global_with, globals_from, kind_of_class, PlacedGlobal, placed}
 use Rattle.pli_type_templates.specs.Groups.{HasItem, MadeVariable, global_as, global_made, is_such, made_as, made_in, template_with, templates_with}
@@ -19,6 +19,7 @@ made_at : (wanted : Lifetime) (all : List Symbol) (number at : ℕ) (k : SymbolK
     → template_at (is_such wanted) all number k ≡ templates_with (made_as wanted at (member_items number all) k)
 made_at wanted all number at (Variable description class scope initial area) =
     if_made (record { at = at; description = description; values = initial; members = member_items number all }) (is_such wanted class description)
+made_at wanted all number at (OpenParameter type slot area) = refl
 made_at wanted all number at (Member root path initial area) = refl
 made_at wanted all number at (Label statement) = refl
 made_at wanted all number at (Procedure block returned area) = refl
@@ -51,6 +52,7 @@ made_has_item wanted marks at members (Variable description class scope initial 
           said = same ∙ h.said;
         }
     by false f = cc
+made_has_item wanted marks at members (OpenParameter type slot area) m e h = cc
 made_has_item wanted marks at members (Member root path initial area) m e h = cc
 made_has_item wanted marks at members (Label statement) m e h = cc
 made_has_item wanted marks at members (Procedure block returned area) m e h = cc
@@ -61,6 +63,7 @@ globals_made_at : (all : List Symbol) (number at : ℕ) (name : Name) (k : Symbo
     → global_with 63 all number name k ≡ global_as at name (member_items number all) k
 globals_made_at all number at name (Variable description class scope initial area) =
     ap (map (global_of scope (kind_of_class class) name)) (made_at lifetimes.Program all number at (Variable description class scope initial area))
+globals_made_at all number at name (OpenParameter type slot area) = refl
 globals_made_at all number at name (Member root path initial area) = refl
 globals_made_at all number at name (Label statement) = refl
 globals_made_at all number at name (Procedure block returned area) = refl

@@ -7,6 +7,7 @@ use Rattle.pli_declare_attributes.specs.Faults.{described_scalar, parameter_of, 
 use Rattle.pli_declare_attributes.specs.Initials.{values_in}
 use Rattle.pli_declare_outline.specs.Outlines.{PlacedMark}
 use Rattle.pli_map.specs.Description.{Description}
+use Rattle.pli_map.specs.ParameterTypes.{ParameterType}
 use Rattle.pli_type.specs.InitialScalars.{InitialItem, template_of}
 use Rattle.pli_type_templates.specs.Globals.{IsLike}
 use Rattle.pli_type_templates.specs.Groups.{MadeVariable, template_with}
@@ -20,14 +21,14 @@ pub same_values : (marks : List PlacedMark) (left right : ℕ) (vs ws : List Ini
 same_values marks left right vs ws one h g =
     h.said ∙ ap (λ (i : Item). values_in i.attributes) (one h.number g.number h.item g.item h.name g.name) ∙ sym g.said
 
-pub like_entries : (marks : List PlacedMark) (left right : ℕ) (name further : Name) (ds es : List Description) (r q : Option Description) → AreOfOne marks left right
+pub like_entries : (marks : List PlacedMark) (left right : ℕ) (name further : Name) (ds es : List ParameterType) (r q : Option Description) → AreOfOne marks left right
     → HasEntry marks left ds r → HasEntry marks right es q
     → IsLike (EntryPoint name (record { parameters = ds; result = r })) (EntryPoint further (record { parameters = es; result = q }))
 like_entries marks left right name further ds es r q one h g =
     let same = sym (one h.number g.number h.item g.item h.name g.name) in
     let taken : es ≡ ds = g.taken ∙ ap (λ (i : Item). map parameter_of (parameters_in i.attributes)) same ∙ sym h.taken in
     let given : q ≡ r = g.given ∙ ap (λ (i : Item). option_map described_scalar (returned_in i.attributes)) same ∙ sym h.given in
-    let signature : List Description → Option Description → Signature = λ ps o. record { parameters = ps; result = o } in
+    let signature : List ParameterType → Option Description → Signature = λ ps o. record { parameters = ps; result = o } in
     ap (λ ps. signature ps q) taken ∙ ap (signature ds) given
 
 -- variables without members that have initial values

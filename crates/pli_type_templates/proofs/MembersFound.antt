@@ -6,7 +6,7 @@ use Rattle.std.proofs.lemmas.Bool.{cases_eq, cases_lt}
 use Rattle.std.proofs.lemmas.List.{append_assoc, append-nil, get_or-set_same, get_or-set_other, get_or-replicate, length-set, length-replicate, set_past}
 use Rattle.std.proofs.lemmas.Option.{same_Some, none-some}
 use Rattle.pli_base.specs.declared.syntax.Identifier.{Identifier}
-use Rattle.pli_resolve.specs.Symbols.{Symbol, SymbolKind, Variable, Member, Label, Procedure, Entry, BuiltIn}
+use Rattle.pli_resolve.specs.Symbols.{Symbol, SymbolKind, Variable, OpenParameter, Member, Label, Procedure, Entry, BuiltIn}
 use Rattle.pli_type.specs.InitialScalars.{InitialItem}
 use Rattle.pli_type.specs.NamedUnits.{member_items}
 use Rattle.pli_type_templates.specs.Groups.{AreMembers, Owned, member_in, with_member}
@@ -32,6 +32,7 @@ all_found rows all f = record {
 no_member : (root : ℕ) (i : Identifier) (k : SymbolKind) (left : List Symbol) → member_in k ≡ None
     → member_items root (record { identifier = i; kind = k } ∷ left) ≡ member_items root left
 no_member root i (Variable description class scope initial area) left e = refl
+no_member root i (OpenParameter type slot area) left e = refl
 no_member root i (Member owner path initial area) left e = absurd (none-some _ (sym e))
 no_member root i (Label statement) left e = refl
 no_member root i (Procedure block returned area) left e = refl
@@ -45,6 +46,7 @@ with_item same item items = (if same then item ∷ [] else []) ++ items
 a_member : (root : ℕ) (i : Identifier) (k : SymbolKind) (left : List Symbol) (o : Owned) → member_in k ≡ Some o
     → member_items root (record { identifier = i; kind = k } ∷ left) ≡ with_item (nat_eq o.root root) o.item (member_items root left)
 a_member root i (Variable description class scope initial area) left o e = absurd (none-some o e)
+a_member root i (OpenParameter type slot area) left o e = absurd (none-some o e)
 a_member root i (Member owner path initial area) left o e =
     ap (λ x. with_item (nat_eq x.root root) x.item (member_items root left)) (same_Some _ o e)
 a_member root i (Label statement) left o e = absurd (none-some o e)

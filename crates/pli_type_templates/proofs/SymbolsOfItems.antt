@@ -23,9 +23,11 @@ use Rattle.pli_declare_tables.specs.Tables.{Entity, AsItem, AsLabel, AsProcedure
 use Rattle.pli_declare_variables.specs.Declarations.{Declaration, OfItem, OfLabel, OfProcedure, declaration_at, declared_in, described_result, kind_of, returned_by, whole_description}
 use Rattle.pli_declare_variables.specs.Places.{place_in}
 use Rattle.pli_map.specs.Description.{Description}
+use Rattle.pli_map.specs.ParameterTypes.{ParameterType}
 use Rattle.pli_resolve.specs.ResolvedUnits.{all_symbols, block_regions_of, facts_of, no_block, region_block, resolved_unit_of}
-use Rattle.pli_resolve.specs.Symbols.{Symbol, SymbolFacts, Way, symbol_kind, symbol_of, symbols_of, ways_of}
+use Rattle.pli_resolve.specs.Symbols.{Symbol, SymbolKind, SymbolFacts, Way, kind_with, symbol_kind, symbol_of, symbols_of, ways_of}
 use Rattle.pli_resolve.specs.declared.block_numbers.BlockRegion.{BlockRegion}
+use Rattle.pli_resolve.specs.declared.symbol.SymbolKey.{SymbolKey}
 use Rattle.pli_resolve.proofs.MembersAreParts.{found_of}
 use Rattle.pli_resolve.proofs.NamesOfMarks.{item_of_entry, mark_of}
 use Rattle.pli_resolve.proofs.SymbolsAt.{symbol_beyond, symbol_inside, symbol_outside}
@@ -118,12 +120,12 @@ unit_named all (p ∷ ps) n item is_bad lt e = by p.mark n lt e
 
 -- ---- what an item says
 
-only_variable : (ds : List Description) (r : Option Description) (w v : Variable) (a b : Bool) → (if a then OfEntry ds r else if b then OfBuiltIn else OfVariable w) ≡ OfVariable v → v ≡ w
+only_variable : (ds : List ParameterType) (r : Option Description) (w v : Variable) (a b : Bool) → (if a then OfEntry ds r else if b then OfBuiltIn else OfVariable w) ≡ OfVariable v → v ≡ w
 only_variable ds r w v true b e = cc
 only_variable ds r w v false true e = cc
 only_variable ds r w v false false e = cc
 
-only_entry : (ds es : List Description) (r q : Option Description) (w : Variable) (a b : Bool) → (if a then OfEntry ds r else if b then OfBuiltIn else OfVariable w) ≡ OfEntry es q → (es ≡ ds) × (q ≡ r)
+only_entry : (ds es : List ParameterType) (r q : Option Description) (w : Variable) (a b : Bool) → (if a then OfEntry ds r else if b then OfBuiltIn else OfVariable w) ≡ OfEntry es q → (es ≡ ds) × (q ≡ r)
 only_entry ds es r q w true b e = (cc, cc)
 only_entry ds es r q w false true e = cc
 only_entry ds es r q w false false e = cc
@@ -135,7 +137,7 @@ values_said p item v e =
     ap (λ (x : Variable). x.initial)
     (only_variable (map parameter_of (parameters_in item.attributes)) (option_map described_scalar (returned_in item.attributes)) (variable_of p item) v (has s entry) (has s built_in) e)
 
-entry_said : (p : ItemPlace) (item : Item) (ds : List Description) (r : Option Description) → completed_of p item ≡ OfEntry ds r
+entry_said : (p : ItemPlace) (item : Item) (ds : List ParameterType) (r : Option Description) → completed_of p item ≡ OfEntry ds r
     → (ds ≡ map parameter_of (parameters_in item.attributes)) × (r ≡ option_map described_scalar (returned_in item.attributes))
 unfolding completed_of
 entry_said p item ds r e =
@@ -145,9 +147,13 @@ entry_said p item ds r e =
 -- ---- symbols
 
 module _ (marks : List PlacedMark) (f : SymbolFacts) (ps : List Name) (w : Way) (i : Identifier) where
+  own_said : (t : Option ParameterType) (slot : ℕ) (area : Option SymbolKey) (kind : SymbolKind) → IsOfItem marks i.at kind → IsOfItem marks i.at (kind_with t slot area kind)
+  own_said None slot area kind h = h
+  own_said (Some t) slot area kind h = tt
+
   item_said : (owner : Option ℕ) (c : Completed) (description : Option Description) (p : ItemPlace) (item : Item) → completed_of p item ≡ c → HasName marks i item
       → IsOfItem marks i.at (symbol_kind f ps w i owner (OfItem c description))
-  item_said None (OfVariable v) description p item e h = record { number = h.0; item = item; name = h.1; said = values_said p item v e }
+  item_said None (OfVariable v) description p item e h = own_said v.taken _ _ _ (record { number = h.0; item = item; name = h.1; said = values_said p item v e })
   item_said (Some o) (OfVariable v) description p item e h = tt
   item_said None (OfEntry ds r) description p item e h =
       let it = entry_said p item ds r e in

@@ -10,6 +10,7 @@ use Rattle.pli_declare_attributes.specs.Faults.{described_scalar, parameter_of, 
 use Rattle.pli_declare_attributes.specs.Initials.{values_in}
 use Rattle.pli_declare_outline.specs.Outlines.{Mark, Declared, PlacedMark, outline_of}
 use Rattle.pli_map.specs.Description.{Description}
+use Rattle.pli_map.specs.ParameterTypes.{ParameterType}
 use Rattle.pli_resolve.specs.Symbols.{Symbol, SymbolKind, Variable, Entry}
 use Rattle.pli_type_templates.specs.declared.item_number.ItemNumber.{ItemNumber}
 
@@ -38,7 +39,7 @@ pub record HasValues (marks : List PlacedMark) (at : ℕ) (values : List Initial
   pub said : values ≡ values_in item.attributes
 
 -- the name at this token is one of some item that is an entry with these parameters and this result
-pub record HasEntry (marks : List PlacedMark) (at : ℕ) (parameters : List Description)
+pub record HasEntry (marks : List PlacedMark) (at : ℕ) (parameters : List ParameterType)
     (returned : Option Description) : Type 0
   where
     pub number : ItemNumber

@@ -3,6 +3,7 @@ ghost use Rattle.std.specs.Prelude.{◌≡◌, ◌≤◌, ◌∷◌, ◌++◌, I
 ghost use Rattle.std.specs.List.{All};
 ghost use Rattle.std.specs.Option.{option_to_list};
 ghost use Rattle.pli_map.specs.views.DescriptionView.{description_view};
+ghost use Rattle.pli_map.specs.views.ParameterView.{type_view};
 ghost use Rattle.pli_type_templates.specs.Globals.{IsLike, name_in, names_in};
 ghost use Rattle.pli_type_templates.specs.views.NumberView.{marks_of};
 ghost use Rattle.pli_type_templates.specs.views.PlacedView.{HasGlobalItem, global_view, unit_global_view};
@@ -12,17 +13,17 @@ use crate::groups::{is_made_alike, variable_group, variable_template};
 use crate::item_numbers::ItemNumbers;
 use crate::placed_globals::{PlacedGlobal, UnitGlobal};
 use pli_base::Name;
-use pli_map::Description;
+use pli_map::{Description, ParameterType};
 use pli_type_tree::{GlobalGroup, Signature};
 use std::alloc::{AllocError, Global};
 
-/// Copies of descriptions.
-fn copies(alloc: Global, descriptions: &[Description]) -> Result<Vec<Description>, AllocError>
-    ensures { IfOk result (λ made. map description_view made.items ≡ map description_view descriptions.now) }
+/// Copies of types.
+fn copies(alloc: Global, types: &[ParameterType]) -> Result<Vec<ParameterType>, AllocError>
+    ensures { IfOk result (λ made. map type_view made.items ≡ map type_view types.now) }
 {
     let mut made = Vec::new(alloc);
-    for description in descriptions {
-        made.push(description.copy(alloc)?)?;
+    for taken in types {
+        made.push(taken.copy(alloc)?)?;
     }
     Ok(made)
 }
@@ -30,11 +31,11 @@ fn copies(alloc: Global, descriptions: &[Description]) -> Result<Vec<Description
 /// What an entry says that an external procedure takes and gives.
 fn entry_signature(
     alloc: Global,
-    parameters: &[Description],
+    parameters: &[ParameterType],
     returned: Option<&Description>,
 ) -> Result<Signature, AllocError>
     ensures { IfOk result (λ made. signature_view made ≡ record {
-      parameters = map description_view parameters.now;
+      parameters = map type_view parameters.now;
       result = option_map (λ d. description_view d.now) returned.entry;
     }) }
 {

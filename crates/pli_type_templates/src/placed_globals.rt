@@ -7,7 +7,7 @@ ghost use Rattle.pli_type_templates.specs.views.PlacedView.{placed_view};
 
 use crate::made_variable::MadeVariable;
 use pli_base::Name;
-use pli_map::Description;
+use pli_map::{Description, ParameterType};
 use pli_program::VariableKind;
 use std::alloc::AllocError;
 
@@ -28,7 +28,7 @@ pub(crate) enum UnitGlobal<'a> {
     /// An external procedure of this name, with what it takes and gives.
     EntryPoint {
         name: Name,
-        parameters: &'a [Description],
+        parameters: &'a [ParameterType],
         returned: Option<&'a Description>,
     },
 }

@@ -6,6 +6,9 @@ use Rattle.std.specs.Prelude.{ℕ, ℤ, Bool, Option, List}
 use Rattle.pli_base.specs.Name.{Name}
 use Rattle.pli_base.specs.declared.statement.Condition.{Condition}
 use Rattle.pli_map.specs.Description.{Description}
+use Rattle.pli_map.specs.ParameterTypes.{ParameterType}
+use Rattle.pli_map.specs.declared.dimension.WhichBound.{WhichBound}
+use Rattle.pli_map.specs.declared.parameter.StringForm.{StringForm}
 use Rattle.pli_operation.specs.declared.operation.Operation.{Operation}
 use Rattle.pli_program.specs.declared.kind.VariableKind.{VariableKind}
 use Rattle.pli_value.specs.Value.{Value}
@@ -31,7 +34,8 @@ pub record Stride : Type 0 where
 mutual
   -- a constant, what a variable holds, an operation on its operands, a call of a function, how many
   -- generations a CONTROLLED variable has, by the number of its global, a pointer to a variable, an offset as
-  -- a pointer into an area, or a pointer as an offset of one: the locator is evaluated, and then the area
+  -- a pointer into an area, or a pointer as an offset of one: the locator is evaluated, and then the area; or
+  -- a bound of a dimension, counted from 1, of the array that a variable is, which is no use of its place
   pub data TypedExpression : Type 0 where
     Literal : (value : Value) → TypedExpression
     Held : (variable : TypedReference) → TypedExpression
@@ -41,6 +45,7 @@ mutual
     Address : (variable : TypedReference) → TypedExpression
     AsPointer : (area : TypedReference) (offset : TypedExpression) → TypedExpression
     AsOffset : (area : TypedReference) (pointer : TypedExpression) → TypedExpression
+    Bounded : (which : WhichBound) (dimension : ℕ) (variable : TypedReference) → TypedExpression
 
   -- where a reference begins: at a parameter or an AUTOMATIC variable; at a variable that is made before the
   -- program begins, by the number of its global; at the newest generation of a CONTROLLED variable, by the
@@ -51,11 +56,13 @@ mutual
     NewestOf : (number : ℕ) → Root
     Located : (locator : TypedExpression) (description : Description) → Root
 
-  -- a whole variable; or a part, with its offset where all its subscripts are the lowest, its description,
-  -- and the subscripts of all its levels in turn
+  -- a whole variable; a part, with its offset where all its subscripts are the lowest, its description, and
+  -- the subscripts of all its levels in turn; or an element of an array whose extents are those of the
+  -- argument, with a subscript for each dimension
   pub data TypedReference : Type 0 where
     Whole : (root : Root) → TypedReference
     Part : (root : Root) (offset : ℕ) (description : Description) (subscripts : Subscripts) → TypedReference
+    ElementOf : (root : Root) (subscripts : Operands) → TypedReference
 
   -- the operands of an operation, from left to right
   pub data Operands : Type 0 where
@@ -67,26 +74,32 @@ mutual
     NoSubscript : Subscripts
     SubscriptThen : (stride : Stride) (value : TypedExpression) (more : Subscripts) → Subscripts
 
-  -- an argument is handed over as a place, or as a dummy variable of this description for its value
+  -- an argument is handed over as a place, as a dummy variable of this description for its value, or as a
+  -- dummy variable for a string, which is as long as that is
   pub data TypedArguments : Type 0 where
     NoArgument : TypedArguments
     ByPlace : (variable : TypedReference) (more : TypedArguments) → TypedArguments
     ByDummy : (description : Description) (value : TypedExpression) (more : TypedArguments) → TypedArguments
+    ByString : (form : StringForm) (value : TypedExpression) (more : TypedArguments) → TypedArguments
 
--- what converts a value to a variable that gets it: operations in turn, none where it is held as it is; or an
--- area, into which an offset becomes a pointer, or of which a pointer becomes an offset
+-- what converts a value to a variable that gets it: operations in turn, none where it is held as it is; an
+-- area, into which an offset becomes a pointer, or of which a pointer becomes an offset; or operations in
+-- turn, which give a string, that is then fitted to the description of the place
 pub data Conversion : Type 0 where
   ByOperations : (operations : List TypedOperation) → Conversion
   AsPointerIn : (area : TypedReference) → Conversion
   AsOffsetIn : (area : TypedReference) → Conversion
+  ToPlace : (operations : List TypedOperation) → Conversion
 
--- what limits or continues an iteration: TO and BY in the order of the text, which are not converted; or
--- REPEAT, which stands converted to the control variable
+-- what limits or continues an iteration: TO and BY in the order of the text, which are not converted; REPEAT,
+-- which stands converted to the control variable; or REPEAT of a string, which is then fitted to the place of
+-- the control variable
 pub data TypedRange : Type 0 where
   Once : TypedRange
   ToBy : (to : TypedExpression) (by : Option TypedExpression) → TypedRange
   ByTo : (by : TypedExpression) (to : Option TypedExpression) → TypedRange
   Repeated : (next : TypedExpression) → TypedRange
+  RepeatedString : (next : TypedExpression) → TypedRange
 
 -- `DO v = a ..`: the control variable, and what converts a value to it; a, which is not converted; TO, BY or
 -- REPEAT; WHILE; and the first of the temporaries that keep a and then TO and BY in the order of the text, or
@@ -127,12 +140,13 @@ mutual
   pub data TypedStatement : Type 0 where
     Statement : (number : ℕ) (form : Form) → TypedStatement
 
-  -- values stand converted to what they are put into; outward is how many BEGIN blocks a RETURN leaves, and
-  -- how many links outward a GOTO's label is; ON names the block of its unit, which stands among the
-  -- procedures
+  -- values stand converted to what they are put into, where a string is assigned all but fitted to the
+  -- description of its place; outward is how many BEGIN blocks a RETURN leaves, and how many links outward a
+  -- GOTO's label is; ON names the block of its unit, which stands among the procedures
   pub data Form : Type 0 where
     Null : Form
     Assign : (target : TypedReference) (value : TypedExpression) → Form
+    AssignString : (target : TypedReference) (value : TypedExpression) → Form
     AssignAggregate : (target source : TypedReference) → Form
     AssignArea : (target source : TypedReference) → Form
     EmptyArea : (target : TypedReference) → Form
@@ -175,7 +189,7 @@ pub record TypedProcedure : Type 0 where
 
 -- what an external procedure takes, and what it gives if it is a function
 pub record Signature : Type 0 where
-  pub parameters : List Description
+  pub parameters : List ParameterType
   pub result : Option Description
 
 -- what a unit names that is there for the whole program: a variable of its own, a variable that all units

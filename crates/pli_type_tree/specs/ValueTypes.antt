@@ -3,7 +3,10 @@ use Rattle.std.specs.Prelude.{◌≡◌, ℕ, suc, ◌≤◌, ◌<◌, ◌^◌, 
 use Rattle.std.specs.Prelude.{Option, Some, None, List, []}
 use Rattle.std.specs.Prelude.{◌∷◌, ◌⊎◌, length}
 use Rattle.pli_map.specs.Description.{Description, FixedBinary, Character, Varying, Bit, Pointer, Offset}
+use Rattle.pli_map.specs.ParameterTypes.{ParameterType, Stated, AnyString}
 use Rattle.pli_map.specs.Values.{holds}
+use Rattle.pli_map.specs.declared.parameter.StringForm.{StringForm}
+use Rattle.pli_map.specs.declared.parameter.StringForm.TheVariants as forms
 use Rattle.pli_operation.specs.declared.operation.Operation.{Operation}
 use Rattle.pli_operation.specs.declared.operation.Operation.TheVariants.{Negate, Absolute, Sign, Not}
 use Rattle.pli_operation.specs.declared.operation.Operation.TheVariants.{LengthOf, FromBits, ToCharacters}
@@ -38,6 +41,22 @@ type_held (Bit n) = Some (Strings OfBits n n)
 type_held Pointer = Some Pointers
 type_held Offset = Some Offsets
 type_held d = None
+
+-- no string is longer
+abbrev pub longest : ℕ
+longest = 32767
+
+-- what strings of a form are made of
+abbrev pub kind_of_form : StringForm → StringKind
+kind_of_form forms.Character = OfCharacters
+kind_of_form forms.Varying = OfCharacters
+kind_of_form forms.Bit = OfBits
+
+-- what a variable of a type holds, whatever the lengths are that are the argument's
+abbrev pub type_kept : ParameterType → Option ValueType
+type_kept (Stated d) = type_held d
+type_kept (AnyString form) = Some (Strings (kind_of_form form) 0 longest)
+type_kept type = None
 
 -- a locator is a pointer that a POINTER may hold, null or not
 abbrev pub IsPointer : Locator → Type 0
@@ -83,13 +102,13 @@ IsFitted (Varying n) (Strings OfCharacters a b) = Unit {0}
 IsFitted (Bit n) (Strings OfBits a b) = Unit {0}
 IsFitted d t = ⊥
 
--- no string is longer
-abbrev pub longest : ℕ
-longest = 32767
-
 -- the precision of a length
 abbrev pub length_precision : ℕ
 length_precision = 15
+
+-- the precision of a bound of an array
+abbrev pub bound_precision : ℕ
+bound_precision = 16
 
 -- the precision of a number of generations
 abbrev pub count_precision : ℕ

@@ -1,41 +1,46 @@
 -- Well-typed trees: what a type checker promises, so that a run never asks for what is not there. A typing
 -- context says what is known at a place of the text: the blocks around it, the innermost first, each with the
--- descriptions of its slots and the labels that a GOTO may lead to.
+-- types of its slots and the labels that a GOTO may lead to.
 use Rattle.std.specs.Prelude.{◌≡◌, ℕ, suc, ◌+◌, ◌*◌, nat_eq, Bool, true, false, ℤ, ◌-ℤ◌, int_le, unsigned_abs}
 use Rattle.std.specs.Prelude.{◌≤◌, IsTrue, Option, Some, None}
 use Rattle.std.specs.Prelude.{List, [], ◌∷◌, ◌++◌, length, map, slice_get, if◌then◌else◌}
 use Rattle.std.specs.List.{list_any}
-use Rattle.pli_map.specs.Description.{Description, Pointer}
+use Rattle.pli_map.specs.Description.{Description, Character, Varying, Bit, Pointer, Array}
+use Rattle.pli_map.specs.ParameterTypes.{ParameterType, Stated, AnyString, AnyArray, agrees, element_type}
 use Rattle.pli_map.specs.Scalars.{first_scalar, is_area, scalars_of}
 use Rattle.pli_map.specs.Sizes.{size_of}
 use Rattle.pli_map.specs.Values.{holds}
 use Rattle.pli_map.specs.Variables.{Variable}
+use Rattle.pli_map.specs.declared.description.Bounds.{Bounds}
+use Rattle.pli_map.specs.declared.parameter.StringForm.{StringForm}
 use Rattle.pli_value.specs.Value.{Value}
 use Rattle.pli_program.specs.declared.kind.VariableKind.TheVariants.{Static, Controlled}
 use Rattle.pli_type_tree.specs.Globals.{kind_of, described_as, signature_of}
 use Rattle.pli_type_tree.specs.Templates.{variable_of}
 use Rattle.pli_type_tree.specs.TypedTree.{Root, InSlot, OfProgram, NewestOf, Located, TypedOperation}
 use Rattle.pli_type_tree.specs.TypedTree.{TypedExpression, Literal, Held, Calculated, Generations, Address}
-use Rattle.pli_type_tree.specs.TypedTree.{AsPointer, AsOffset, Conversion, ByOperations, AsPointerIn}
-use Rattle.pli_type_tree.specs.TypedTree.{AsOffsetIn}
+use Rattle.pli_type_tree.specs.TypedTree.{AsPointer, AsOffset, Bounded, Conversion, ByOperations, AsPointerIn}
+use Rattle.pli_type_tree.specs.TypedTree.{AsOffsetIn, ToPlace}
 use Rattle.pli_type_tree.specs.TypedTree.{Callee, OfBlock, OfEntry, Global}
-use Rattle.pli_type_tree.specs.TypedTree.{Called, TypedReference, Whole, Part, Operands, NoOperand}
+use Rattle.pli_type_tree.specs.TypedTree.{Called, TypedReference, Whole, Part, ElementOf, Operands, NoOperand}
 use Rattle.pli_type_tree.specs.TypedTree.{OperandThen}
 use Rattle.pli_type_tree.specs.TypedTree.{Subscripts, NoSubscript, SubscriptThen, TypedArguments, NoArgument}
-use Rattle.pli_type_tree.specs.TypedTree.{ByPlace, ByDummy, BlockHead, TypedStatement, Statement, Form}
-use Rattle.pli_type_tree.specs.TypedTree.{Null, Assign, Allocate, Free, AllocatedItem, AllocatesControlled}
+use Rattle.pli_type_tree.specs.TypedTree.{ByPlace, ByDummy, ByString, BlockHead, TypedStatement, Statement}
+use Rattle.pli_type_tree.specs.TypedTree.{Form, Null, Assign, AssignString, Allocate, Free, AllocatedItem}
+use Rattle.pli_type_tree.specs.TypedTree.{AllocatesControlled}
 use Rattle.pli_type_tree.specs.TypedTree.{AllocatesBased, AllocatesInArea, FreedItem, FreesControlled}
 use Rattle.pli_type_tree.specs.TypedTree.{FreesBased, AssignAggregate, AssignArea, EmptyArea, Put, If, Begin}
 use Rattle.pli_type_tree.specs.TypedTree.{Group, While, Iterate, TypedRange}
-use Rattle.pli_type_tree.specs.TypedTree.{Once, ToBy, ByTo, Repeated, Iteration, Call, Goto, Return}
+use Rattle.pli_type_tree.specs.TypedTree.{Once, ToBy, ByTo, Repeated, RepeatedString, Iteration, Call, Goto}
+use Rattle.pli_type_tree.specs.TypedTree.{Return}
 use Rattle.pli_type_tree.specs.TypedTree.{ReturnValue, Stop, On, Revert, Signal, OtherWise, NoElse, Else}
 use Rattle.pli_type_tree.specs.TypedTree.{TypedStatements}
 use Rattle.pli_type_tree.specs.TypedTree.{NoStatement}
 use Rattle.pli_type_tree.specs.TypedTree.{StatementThen}
 use Rattle.pli_type_tree.specs.ValueTypes.{StringKind, OfBits, ValueType, Numbers, Strings, Pointers}
 use Rattle.pli_type_tree.specs.ValueTypes.{Offsets}
-use Rattle.pli_type_tree.specs.ValueTypes.{type_held}
-use Rattle.pli_type_tree.specs.ValueTypes.{count_precision}
+use Rattle.pli_type_tree.specs.ValueTypes.{type_held, type_kept, kind_of_form, longest}
+use Rattle.pli_type_tree.specs.ValueTypes.{bound_precision, count_precision}
 use Rattle.pli_type_tree.specs.ValueTypes.{IsOf, IsHeldBy}
 use Rattle.pli_type_tree.specs.ValueTypes.{Operates}
 
@@ -58,13 +63,36 @@ abbrev pub AreMade : List Variable → Type 0
 AreMade [] = Unit {0}
 AreMade (v ∷ vs) = IsMade v × AreMade vs
 
+-- no bound is farther from 0 than so
+abbrev pub AreNear : List Bounds → Type 0
+AreNear [] = Unit {0}
+AreNear (b ∷ bs) = (unsigned_abs b.low ≤ 32768) × (unsigned_abs b.high ≤ 32768) × AreNear bs
+
+-- a string, or an element of an array, is no longer than a string may be, and no bound farther from 0
+abbrev pub IsNarrowDescription : Description → Type 0
+IsNarrowDescription (Character n) = n ≤ longest
+IsNarrowDescription (Varying n) = n ≤ longest
+IsNarrowDescription (Bit n) = n ≤ longest
+IsNarrowDescription (Array bounds element) = AreNear bounds × IsNarrowDescription element
+IsNarrowDescription d = Unit {0}
+
+-- what is stated of a type is so
+abbrev pub IsNarrow : ParameterType → Type 0
+IsNarrow (Stated d) = IsNarrowDescription d
+IsNarrow type = Unit {0}
+
+-- an area
+abbrev pub is_area_type : ParameterType → Bool
+is_area_type (Stated d) = is_area d
+is_area_type type = false
+
 -- a block around: its number; its slots, the first ones, so many, those of its parameters; the labels of its
 -- lists that are running; and those among them that last while it runs, of its own list and of none of its
 -- groups
 pub record BlockAround : Type 0 where
   pub number : ℕ
   pub parameters : ℕ
-  pub slots : List Description
+  pub slots : List ParameterType
   pub labels : List ℕ
   pub lasting : List ℕ
 
@@ -74,7 +102,7 @@ pub record KnownProcedure : Type 0 where
   pub is_on_unit : Bool
   pub parent : Option ℕ
   pub around : List BlockAround
-  pub parameters : List Description
+  pub parameters : List ParameterType
   pub value : Option Description
 
 -- what is known: the globals and the procedures of the unit, the blocks around, of which so many are BEGIN
@@ -89,7 +117,7 @@ pub record TypingContext : Type 0 where
 -- references
 
 -- what the variable in a slot of a block is
-abbrev pub slot_of : Option BlockAround → (slot : ℕ) → Option Description
+abbrev pub slot_of : Option BlockAround → (slot : ℕ) → Option ParameterType
 slot_of None slot = None
 slot_of (Some b) slot = slice_get b.slots slot
 
@@ -159,54 +187,72 @@ IsReached (Some parent) here around =
 -- what is called takes these parameters, and gives a value of this description if it is a function: a
 -- procedure of the unit that is reached, or an external one
 abbrev pub IsCallee : List Global → (procedures : ℕ → Option KnownProcedure) → (here : List BlockAround)
-    → Callee → (parameters : List Description) → (value : Option Description) → Type 0
+    → Callee → (parameters : List ParameterType) → (value : Option Description) → Type 0
 IsCallee globals procedures here (OfBlock block) parameters value =
     (p : KnownProcedure) × (procedures block ≡ Some p) × (p.is_on_unit ≡ false)
     × IsReached p.parent here p.around × (p.parameters ≡ parameters) × (p.value ≡ value)
 IsCallee globals procedures here (OfEntry number) parameters value =
     signature_of (slice_get globals number) ≡ Some (record { parameters = parameters; result = value })
 
+-- how many operands there are
+abbrev pub operand_count : Operands → ℕ
+operand_count NoOperand = 0
+operand_count (OperandThen e more) = suc (operand_count more)
+
 -- expressions
 abbrev mutual
   -- an expression gives values of a type
   pub IsTyped : (greatest : ℕ) → TypingContext → TypedExpression → ValueType → Type 0
   IsTyped n s (Literal v) t = IsOf t v
-  IsTyped n s (Held r) t = (d : Description) × IsPlaced n s r d × (type_held d ≡ Some t)
+  IsTyped n s (Held r) t = (type : ParameterType) × IsPlaced n s r type × (type_kept type ≡ Some t)
   IsTyped n s (Calculated operation operands) t =
       (ts : List ValueType) × AreTyped n s operands ts × Operates n operation ts t
   IsTyped n s (Called callee arguments) t =
-      (parameters : List Description) × (d : Description)
+      (parameters : List ParameterType) × (d : Description)
       × IsCallee s.globals s.procedures s.blocks callee parameters (Some d)
       × ArePassed n s arguments parameters × (type_held d ≡ Some t)
   IsTyped n s (Generations number) t = IsControlled s number × (t ≡ Numbers count_precision)
   IsTyped n s (Address r) t = IsAddressed n s r × (t ≡ Pointers)
   IsTyped n s (AsPointer area e) t = IsTyped n s e Offsets × IsAreaReference n s area × (t ≡ Pointers)
   IsTyped n s (AsOffset area e) t = IsTyped n s e Pointers × IsAreaReference n s area × (t ≡ Offsets)
+  IsTyped n s (Bounded which k r) t =
+      ((j : ℕ) × (element : ParameterType) × IsPlaced n s r (AnyArray j element) × (1 ≤ k) × (k ≤ j))
+      × (t ≡ Numbers bound_precision)
 
   -- a pointer leads to a whole variable that is no parameter
   pub IsAddressed : (greatest : ℕ) → TypingContext → TypedReference → Type 0
-  IsAddressed n s (Whole root) = BeginsWhole s root × ((d : Description) × IsRooted n s root d)
+  IsAddressed n s (Whole root) = BeginsWhole s root × ((d : Description) × IsRooted n s root (Stated d))
   IsAddressed n s (Part root offset part subscripts) = ⊥
+  IsAddressed n s (ElementOf root subscripts) = ⊥
 
   -- a reference leads to an area: it is a whole variable, and none that a locator leads to
   pub IsAreaReference : (greatest : ℕ) → TypingContext → TypedReference → Type 0
   IsAreaReference n s (Whole root) =
-      IsUnlocated root × ((d : Description) × IsRooted n s root d × (is_area d ≡ true))
+      IsUnlocated root × ((d : Description) × IsRooted n s root (Stated d) × (is_area d ≡ true))
   IsAreaReference n s (Part root offset part subscripts) = ⊥
+  IsAreaReference n s (ElementOf root subscripts) = ⊥
 
-  -- what the variable is at which a reference begins; a locator gives pointers
-  pub IsRooted : (greatest : ℕ) → TypingContext → Root → Description → Type 0
-  IsRooted n s (InSlot outward slot) d = slot_of (slice_get s.blocks outward) slot ≡ Some d
-  IsRooted n s (OfProgram number) d = described_as Static (slice_get s.globals number) ≡ Some d
-  IsRooted n s (NewestOf number) d = described_as Controlled (slice_get s.globals number) ≡ Some d
-  IsRooted n s (Located locator whole) d = (whole ≡ d) × IsTyped n s locator Pointers
+  -- what the variable is at which a reference begins; a locator gives pointers. What is no parameter is
+  -- stated
+  pub IsRooted : (greatest : ℕ) → TypingContext → Root → ParameterType → Type 0
+  IsRooted n s (InSlot outward slot) type = slot_of (slice_get s.blocks outward) slot ≡ Some type
+  IsRooted n s (OfProgram number) type =
+      (d : Description) × (type ≡ Stated d) × (described_as Static (slice_get s.globals number) ≡ Some d)
+  IsRooted n s (NewestOf number) type =
+      (d : Description) × (type ≡ Stated d) × (described_as Controlled (slice_get s.globals number) ≡ Some d)
+  IsRooted n s (Located locator whole) type = (type ≡ Stated whole) × IsTyped n s locator Pointers
 
-  -- a reference leads to a variable or a part of this description
-  pub IsPlaced : (greatest : ℕ) → TypingContext → TypedReference → Description → Type 0
-  IsPlaced n s (Whole root) d = IsRooted n s root d
-  IsPlaced n s (Part root offset part subscripts) d =
-      (part ≡ d) × ((whole : Description) × IsRooted n s root whole × LeadTo whole offset subscripts d)
+  -- a reference leads to a variable or a part of this type
+  pub IsPlaced : (greatest : ℕ) → TypingContext → TypedReference → ParameterType → Type 0
+  IsPlaced n s (Whole root) type = IsRooted n s root type
+  IsPlaced n s (Part root offset part subscripts) type =
+      (type ≡ Stated part)
+      × ((whole : Description) × IsRooted n s root (Stated whole) × LeadTo whole offset subscripts part)
       × AreSubscripts n s subscripts
+  IsPlaced n s (ElementOf root subscripts) type =
+      ((array : ParameterType) × IsRooted n s root array
+      × (element_type (operand_count subscripts) array ≡ Some type))
+      × (1 ≤ operand_count subscripts) × AreNumbers n s subscripts
 
   -- operands give values of these types
   pub AreTyped : (greatest : ℕ) → TypingContext → Operands → List ValueType → Type 0
@@ -221,16 +267,27 @@ abbrev mutual
   AreSubscripts n s (SubscriptThen stride e more) =
       ((p : ℕ) × IsTyped n s e (Numbers p)) × AreSubscripts n s more
 
-  -- arguments fit parameters: a place of the parameter's description, for an area that of an area, or a value
-  -- that a dummy of it holds
-  pub ArePassed : (greatest : ℕ) → TypingContext → TypedArguments → List Description → Type 0
+  -- so does each operand
+  pub AreNumbers : (greatest : ℕ) → TypingContext → Operands → Type 0
+  AreNumbers n s NoOperand = Unit {0}
+  AreNumbers n s (OperandThen e more) = ((p : ℕ) × IsTyped n s e (Numbers p)) × AreNumbers n s more
+
+  -- arguments fit parameters: a place that agrees with the parameter's type, for an area that of an area; or a
+  -- value that a dummy of it holds; or a string, which is no longer than a dummy of any length may be
+  pub ArePassed : (greatest : ℕ) → TypingContext → TypedArguments → List ParameterType → Type 0
   ArePassed n s NoArgument parameters = parameters ≡ []
   ArePassed n s (ByPlace r more) parameters =
-      (d : Description) × (others : List Description) × (parameters ≡ d ∷ others) × IsPlaced n s r d
-      × (is_area d ≡ true → IsAreaReference n s r) × ArePassed n s more others
+      (parameter : ParameterType) × (argument : ParameterType) × (others : List ParameterType)
+      × (parameters ≡ parameter ∷ others) × IsPlaced n s r argument
+      × IsTrue (agrees parameter argument) × IsNarrow argument
+      × (is_area_type parameter ≡ true → IsAreaReference n s r) × ArePassed n s more others
   ArePassed n s (ByDummy d e more) parameters =
-      (others : List Description) × (parameters ≡ d ∷ others)
+      (others : List ParameterType) × (parameters ≡ Stated d ∷ others)
       × ((t : ValueType) × IsTyped n s e t × IsHeldBy d t) × ArePassed n s more others
+  ArePassed n s (ByString form e more) parameters =
+      (others : List ParameterType) × (parameters ≡ AnyString form ∷ others)
+      × ((least : ℕ) × (most : ℕ) × IsTyped n s e (Strings (kind_of_form form) least most) × (most ≤ longest))
+      × ArePassed n s more others
 
 -- an expression gives values that a variable of the description holds
 abbrev pub IsValueFor : (greatest : ℕ) → TypingContext → Description → TypedExpression → Type 0
@@ -253,11 +310,29 @@ Convert n [] t d = IsHeldBy d t
 Convert n (operation ∷ more) t d =
     (u : ValueType) × Operates n operation (t ∷ []) u × Convert n more u d
 
+-- one operation after another takes values of a type to strings of a kind
+abbrev pub ConvertToKind : (greatest : ℕ) → List TypedOperation → ValueType → StringKind → Type 0
+ConvertToKind n [] t kind = (least : ℕ) × (most : ℕ) × (t ≡ Strings kind least most)
+ConvertToKind n (operation ∷ more) t kind =
+    (u : ValueType) × Operates n operation (t ∷ []) u × ConvertToKind n more u kind
+
 -- a conversion takes values of a type to values that a variable of the description holds
-abbrev pub IsConversion : (greatest : ℕ) → TypingContext → Conversion → ValueType → Description → Type 0
-IsConversion n s (ByOperations operations) t d = Convert n operations t d
-IsConversion n s (AsPointerIn area) t d = IsAreaReference n s area × (t ≡ Offsets) × IsHeldBy d Pointers
-IsConversion n s (AsOffsetIn area) t d = IsAreaReference n s area × (t ≡ Pointers) × IsHeldBy d Offsets
+abbrev pub ConvertsTo : (greatest : ℕ) → TypingContext → Conversion → ValueType → Description → Type 0
+ConvertsTo n s (ByOperations operations) t d = Convert n operations t d
+ConvertsTo n s (AsPointerIn area) t d = IsAreaReference n s area × (t ≡ Offsets) × IsHeldBy d Pointers
+ConvertsTo n s (AsOffsetIn area) t d = IsAreaReference n s area × (t ≡ Pointers) × IsHeldBy d Offsets
+ConvertsTo n s (ToPlace operations) t d = ⊥
+
+-- a conversion takes values of a type to strings of a kind, which are then fitted to their place
+abbrev pub ConvertsToKind : (greatest : ℕ) → Conversion → ValueType → StringKind → Type 0
+ConvertsToKind n (ToPlace operations) t kind = ConvertToKind n operations t kind
+ConvertsToKind n conversion t kind = ⊥
+
+-- a conversion takes values of a type to what a variable of another type gets
+abbrev pub IsConversion : (greatest : ℕ) → TypingContext → Conversion → ValueType → ParameterType → Type 0
+IsConversion n s conversion t (Stated d) = ConvertsTo n s conversion t d
+IsConversion n s conversion t (AnyString form) = ConvertsToKind n conversion t (kind_of_form form)
+IsConversion n s conversion t type = ⊥
 
 -- what ALLOCATE makes and FREE ends
 
@@ -265,10 +340,11 @@ IsConversion n s (AsOffsetIn area) t d = IsAreaReference n s area × (t ≡ Poin
 -- of one in an area, which is none itself, and sets what the pointer to it is converted to
 abbrev pub IsAllocated : (greatest : ℕ) → TypingContext → AllocatedItem → Type 0
 IsAllocated n s (AllocatesControlled number) = IsControlled s number
-IsAllocated n s (AllocatesBased t temporary target) = IsMade (variable_of t) × IsPlaced n s target Pointer
+IsAllocated n s (AllocatesBased t temporary target) =
+    IsMade (variable_of t) × IsPlaced n s target (Stated Pointer)
 IsAllocated n s (AllocatesInArea area t temporary target conversion) =
     IsAreaReference n s area × (IsMade (variable_of t) × (is_area t.description ≡ false))
-    × ((d : Description) × IsPlaced n s target d × IsConversion n s conversion Pointers d)
+    × ((d : Description) × IsPlaced n s target (Stated d) × ConvertsTo n s conversion Pointers d)
 
 -- each item is
 abbrev pub AreAllocated : (greatest : ℕ) → TypingContext → List AllocatedItem → Type 0
@@ -299,7 +375,7 @@ IsPossibleNumber n s (Some e) = IsNumber n s e
 -- a variable of the description counts: it is a number, and each number is converted to it
 abbrev pub Counts : (greatest : ℕ) → TypingContext → Conversion → Description → Type 0
 Counts n s conversion d =
-    ((q : ℕ) × (type_held d ≡ Some (Numbers q))) × ((p : ℕ) → IsConversion n s conversion (Numbers p) d)
+    ((q : ℕ) × (type_held d ≡ Some (Numbers q))) × ((p : ℕ) → ConvertsTo n s conversion (Numbers p) d)
 
 -- with TO or BY the control variable counts, and these are numbers; REPEAT gives values that it holds
 abbrev pub IsRange : (greatest : ℕ) → TypingContext → Conversion → Description → TypedRange → Type 0
@@ -309,6 +385,19 @@ IsRange n s conversion d (ToBy to by) =
 IsRange n s conversion d (ByTo by to) =
     Counts n s conversion d × IsNumber n s by × IsPossibleNumber n s to
 IsRange n s conversion d (Repeated next) = IsValueFor n s d next
+IsRange n s conversion d (RepeatedString next) = ⊥
+
+-- a string of any length does not count; REPEAT gives strings of its kind
+abbrev pub IsOpenRange : (greatest : ℕ) → TypingContext → StringKind → TypedRange → Type 0
+IsOpenRange n s kind Once = Unit {0}
+IsOpenRange n s kind (RepeatedString next) = IsString n s kind next
+IsOpenRange n s kind range = ⊥
+
+-- a range suits a control variable of a type
+abbrev pub IsRangeFor : (greatest : ℕ) → TypingContext → Conversion → ParameterType → TypedRange → Type 0
+IsRangeFor n s conversion (Stated d) range = IsRange n s conversion d range
+IsRangeFor n s conversion (AnyString form) range = IsOpenRange n s (kind_of_form form) range
+IsRangeFor n s conversion type range = ⊥
 
 -- a condition that may be left out gives bits
 abbrev pub IsPossibleCondition : (greatest : ℕ) → TypingContext → Option TypedExpression → Type 0
@@ -318,9 +407,9 @@ IsPossibleCondition n s (Some e) = IsString n s OfBits e
 -- the control variable is a scalar, to which the start's values are converted
 abbrev pub IsIteration : (greatest : ℕ) → TypingContext → Iteration → Type 0
 IsIteration n s i =
-    (d : Description) × IsPlaced n s i.control d
-    × ((t : ValueType) × IsTyped n s i.start t × IsConversion n s i.conversion t d)
-    × IsRange n s i.conversion d i.range × IsPossibleCondition n s i.condition
+    (type : ParameterType) × IsPlaced n s i.control type
+    × ((t : ValueType) × IsTyped n s i.start t × IsConversion n s i.conversion t type)
+    × IsRangeFor n s i.conversion type i.range × IsPossibleCondition n s i.condition
 
 -- statements
 
@@ -339,11 +428,11 @@ abbrev pub in_group : TypedStatements → TypingContext → TypingContext
 in_group statements s = record s { blocks = with_labels (labels_of statements) s.blocks }
 
 -- a block as its own statements know it
-abbrev pub block_of : BlockHead → (parameters : List Description) → TypedStatements → BlockAround
+abbrev pub block_of : BlockHead → (parameters : List ParameterType) → TypedStatements → BlockAround
 block_of head parameters statements = record {
   number = head.number;
   parameters = length parameters;
-  slots = parameters ++ map (λ v. v.description) head.variables;
+  slots = parameters ++ map (λ v. Stated v.description) head.variables;
   labels = labels_of statements;
   lasting = labels_of statements;
 }
@@ -378,9 +467,13 @@ abbrev mutual
   -- a form is: its values suit what takes them, and its GOTO, RETURN and calls lead to what is there
   pub IsTypedForm : (greatest : ℕ) → TypingContext → Form → Type 0
   IsTypedForm n s Null = Unit {0}
-  IsTypedForm n s (Assign target e) = (d : Description) × IsPlaced n s target d × IsValueFor n s d e
+  IsTypedForm n s (Assign target e) =
+      (d : Description) × IsPlaced n s target (Stated d) × IsValueFor n s d e
+  IsTypedForm n s (AssignString target e) =
+      (form : StringForm) × IsPlaced n s target (AnyString form) × IsString n s (kind_of_form form) e
   IsTypedForm n s (AssignAggregate target source) =
-      (d : Description) × IsPlaced n s target d × IsPlaced n s source d × (is_area d ≡ false)
+      (d : Description) × IsPlaced n s target (Stated d) × IsPlaced n s source (Stated d)
+      × (is_area d ≡ false)
   IsTypedForm n s (AssignArea target source) = IsAreaReference n s target × IsAreaReference n s source
   IsTypedForm n s (EmptyArea target) = IsAreaReference n s target
   IsTypedForm n s (Put skip items) = AreItems n s items
@@ -396,7 +489,7 @@ abbrev mutual
   IsTypedForm n s (Iterate iteration statements) =
       IsIteration n s iteration × AreTypedStatements n (in_group statements s) statements
   IsTypedForm n s (Call callee arguments) =
-      (parameters : List Description) × IsCallee s.globals s.procedures s.blocks callee parameters None
+      (parameters : List ParameterType) × IsCallee s.globals s.procedures s.blocks callee parameters None
       × ArePassed n s arguments parameters
   IsTypedForm n s (Goto outward label) = knows_label (slice_get s.blocks outward) label
   IsTypedForm n s (Return outward) = (outward ≡ s.begins) × (s.value ≡ None)

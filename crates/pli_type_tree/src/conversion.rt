@@ -10,4 +10,7 @@ pub enum Conversion {
     AsPointerIn(TypedReference),
     /// A pointer becomes an offset of this area.
     AsOffsetIn(TypedReference),
+    /// Operations, one after the other, which give a string; it is then fitted to the description of the place that
+    /// gets it.
+    ToPlace(Vec<TypedOperation>),
 }

@@ -1,5 +1,5 @@
 //! Typed references and expressions. A conversion is an operation like any other.
-use pli_map::Description;
+use pli_map::{Description, StringForm, WhichBound};
 use pli_operation::Operation;
 use pli_value::Value;
 
@@ -77,6 +77,11 @@ pub enum TypedReference {
         description: Description,
         subscripts: Vec<TypedSubscript>,
     },
+    /// An element of an array whose extents are those of the argument, with a subscript for each dimension.
+    ElementOf {
+        root: Root,
+        subscripts: Vec<TypedExpression>,
+    },
 }
 
 /// An argument (X3.74).
@@ -88,6 +93,11 @@ pub enum TypedArgument {
     /// A value, which is handed over as a dummy argument of this description.
     ByDummy {
         description: Description,
+        value: TypedExpression,
+    },
+    /// A string, which is handed over as a dummy argument of its own length.
+    ByString {
+        form: StringForm,
         value: TypedExpression,
     },
 }
@@ -126,5 +136,12 @@ pub enum TypedExpression {
     AsOffset {
         area: TypedReference,
         pointer: Box<TypedExpression>,
+    },
+    /// A bound of a dimension, counted from 1, of an array whose bounds are those of the argument (LBOUND, HBOUND).
+    /// This is no use of its place.
+    Bounded {
+        which: WhichBound,
+        dimension: u8,
+        variable: TypedReference,
     },
 }

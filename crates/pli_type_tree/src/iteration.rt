@@ -19,6 +19,8 @@ pub enum TypedRange {
     },
     /// REPEAT. Its value stands converted to the control variable.
     Repeated(TypedExpression),
+    /// REPEAT of a string. Its value is then fitted to the description of the control variable's place.
+    RepeatedString(TypedExpression),
 }
 
 /// `DO v = a ..`, without its list.

@@ -78,6 +78,11 @@ pub enum Form {
         target: TypedReference,
         value: TypedExpression,
     },
+    /// A string assigned to a parameter of any length, to whose length it is fitted.
+    AssignString {
+        target: TypedReference,
+        value: TypedExpression,
+    },
     /// An aggregate assigned to one of an equal description.
     AssignAggregate {
         target: TypedReference,

@@ -2,7 +2,7 @@
 use crate::statement::{BlockHead, TypedStatement};
 use crate::template::{Template, VariableGroup};
 use pli_base::Name;
-use pli_map::Description;
+use pli_map::{Description, ParameterType};
 use pli_program::VariableKind;
 
 /// A procedure.
@@ -22,7 +22,7 @@ pub struct TypedProcedure {
 /// What an external procedure takes, and what it gives if it is a function.
 #[derive(Drop)]
 pub struct Signature {
-    pub parameters: Vec<Description>,
+    pub parameters: Vec<ParameterType>,
     pub result: Option<Description>,
 }
 

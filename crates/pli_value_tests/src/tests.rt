@@ -3,6 +3,7 @@
 mod bits;
 mod bytes;
 mod characters;
+mod extents;
 mod layouts;
 mod numbers;
 mod operations;

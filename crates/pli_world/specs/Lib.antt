@@ -5,6 +5,7 @@ pub mod Ends
 pub mod Locating
 pub mod Stacks
 pub mod Storage
+pub mod Strings
 pub mod Targets
 pub mod World
 pub mod examples

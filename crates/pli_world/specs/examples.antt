@@ -1,1 +1,2 @@
 pub mod StorageExamples
+pub mod StringExamples

@@ -10,11 +10,15 @@ ghost use Rattle.pli_world.specs.laws.Operations.{StackingKeeps, UnstackingKeeps
 ghost use Rattle.pli_world.specs.laws.Operations.{AllocatingKeeps, FreeingKeeps, AddressKeeps, BlockKeeps};
 ghost use Rattle.pli_world.specs.laws.Operations.{OffsetKeeps, PointerKeeps, AssigningKeeps, EmptyingKeeps};
 ghost use Rattle.pli_world.specs.laws.Operations.{EstablishingKeeps, SignallingKeeps, RevertingKeeps};
+ghost use Rattle.pli_world.specs.laws.Operations.{DimensionKeeps, BoundKeeps, FittingKeeps, StringDummyKeeps};
 ghost use Rattle.pli_world.specs.examples.StorageExamples.{OuterVariable, DummyNumber, DummyEnds, TooLong};
 ghost use Rattle.pli_world.specs.examples.StorageExamples.{DummyDead, PartStored, PartHeld, ElementCopied};
 ghost use Rattle.pli_world.specs.examples.StorageExamples.{AggregateHeld, NoElement, NoPart, StaticStays};
 ghost use Rattle.pli_world.specs.examples.StorageExamples.{StaticOfOther, NewestOfStack, ExternalIsShared, TooFar};
 ghost use Rattle.pli_world.specs.examples.StorageExamples.{NoneAtFirst, NewestFirst, StaticIsNotAllocated};
+ghost use Rattle.pli_world.specs.examples.StringExamples.{DummyOfLength, DummyOfNothing, NoStringDummy};
+ghost use Rattle.pli_world.specs.examples.StringExamples.{ElementOfGrid, OutOfGrid, NoDimension, BoundsOfGrid};
+ghost use Rattle.pli_world.specs.examples.StringExamples.{FittedToPlace};
 
 /// A law: no operation takes a step or prints over what was printed, and each leaves as many activations as it
 /// should.
@@ -27,7 +31,10 @@ pub fn operations_keep()
     ensures copying { CopyingKeeps }
     ensures leading { LeadingKeeps }
     ensures subscript { SubscriptKeeps }
+    ensures dimension { DimensionKeeps }
+    ensures bound { BoundKeeps }
     ensures calculating { CalculatingKeeps }
+    ensures fitting { FittingKeeps }
     ensures walking { WalkingKeeps }
     ensures slot { SlotKeeps }
     ensures one_static { StaticKeeps }
@@ -49,6 +56,7 @@ pub fn operations_keep()
     ensures signalling { SignallingKeeps }
     ensures reverting { RevertingKeeps }
     ensures dummy { DummyKeeps }
+    ensures string_dummy { StringDummyKeeps }
     ensures entering { EnteringAdds }
     ensures leaving { LeavingTakes }
     ensures clearing { ClearingKeeps }
@@ -59,7 +67,8 @@ pub fn operations_keep()
 {}
 
 /// Worked examples: static links, dummy arguments, what ends with an activation, parts of aggregates, how far places
-/// are led on, variables that are made once, CONTROLLED ones, one that two units share.
+/// are led on, variables that are made once, CONTROLLED ones, one that two units share; strings and arrays whose
+/// extents are those of the argument.
 pub fn worked_examples()
     ensures outer_variable { OuterVariable }
     ensures dummy_number { DummyNumber }
@@ -80,4 +89,12 @@ pub fn worked_examples()
     ensures newest_first { NewestFirst }
     ensures static_is_not_allocated { StaticIsNotAllocated }
     ensures external_is_shared { ExternalIsShared }
+    ensures dummy_of_length { DummyOfLength }
+    ensures dummy_of_nothing { DummyOfNothing }
+    ensures no_string_dummy { NoStringDummy }
+    ensures element_of_grid { ElementOfGrid }
+    ensures out_of_grid { OutOfGrid }
+    ensures no_dimension { NoDimension }
+    ensures bounds_of_grid { BoundsOfGrid }
+    ensures fitted_to_place { FittedToPlace }
 {}

@@ -4,6 +4,8 @@ use Rattle.pli_gen_emit.specs.Encoding.{code_of}
 use Rattle.pli_gen.specs.Limits.{is_too_long}
 use Rattle.pli_gen.specs.WellNumbered.{IsWellNumbered}
 use Rattle.pli_map.specs.Description.{Description, FixedBinary, Character, Array}
+use Rattle.pli_map.specs.ParameterTypes.{Stated, AnyString}
+use Rattle.pli_map.specs.declared.parameter.StringForm.TheVariants as forms
 use Rattle.pli_program.specs.declared.kind.VariableKind.TheVariants.{Static}
 use Rattle.pli_type_tree.specs.Templates.{Template}
 use Rattle.pli_type_tree.specs.TypedTree.{InSlot, Fit, TypedExpression, Literal, Calculated}
@@ -12,6 +14,7 @@ use Rattle.pli_type_tree.specs.TypedTree.{NoOperand, OperandThen, NoArgument, By
 use Rattle.pli_type_tree.specs.TypedTree.{ByOperations, TypedStatement, Statement, Iterate, Call, ToBy}
 use Rattle.pli_type_tree.specs.TypedTree.{NoStatement}
 use Rattle.pli_type_tree.specs.TypedTree.{StatementThen, TypedProcedure, OwnVariable, EntryPoint, TypedUnit}
+use Rattle.pli_type_tree.specs.TypedTree.{Signature}
 use Rattle.pli_value.specs.Value.{Number, Characters}
 use Rattle.pli_deck_laws.specs.WellFormed.{IsWellFormed}
 
@@ -86,6 +89,11 @@ names = record {
       ∷ [];
 }
 
+-- what the entry takes, `E ENTRY(FIXED BIN(15), CHAR(*) VAR) RETURNS(CHAR(3))`
+abbrev pub entry_taken : Signature
+entry_taken =
+    record { parameters = Stated small ∷ AnyString forms.Varying ∷ []; result = Some (Character 3) }
+
 -- `M: PROC OPTIONS(MAIN); DCL X FIXED BIN(15) INIT(7); DCL N(2) CHAR(3) STATIC INIT('ABC', 'DEF'); DO X = 1
 -- TO 3; CALL S(X, 5); END; S: PROC(A, B); DCL (A, B) FIXED BIN(15); END S; END M;`, and an entry E that it
 -- declares
@@ -97,7 +105,7 @@ worked = record {
   signature = record { parameters = []; result = None };
   globals =
       OwnVariable Static names
-      ∷ EntryPoint (codes "E") (record { parameters = small ∷ []; result = Some (Character 3) })
+      ∷ EntryPoint (codes "E") entry_taken
       ∷ [];
   procedures = external ∷ inner ∷ [];
 }

@@ -5,11 +5,15 @@ use Rattle.pli_map.specs.Description.{Description, Character, Array, FixedBinary
 use Rattle.pli_code.specs.declared.fault.DeckFault.TheVariants.{BadJump, BadNumber, OverLimit}
 use Rattle.pli_code.specs.declared.instruction.Instruction.{Instruction}
 use Rattle.pli_code.specs.declared.instruction.Instruction.TheVariants as op
-use Rattle.pli_code.specs.CodeTables.{CodedTemplate, Deck}
+use Rattle.pli_code.specs.CodeTables.{CodedTemplate, CodedSignature, Deck}
+use Rattle.pli_map.specs.ParameterTypes.{ParameterType, Stated, AnyString, AnyArray}
+use Rattle.pli_map.specs.declared.parameter.StringForm.TheVariants as forms
 use Rattle.pli_value.specs.Value.{Value, Number, Located}
 use Rattle.pli_value.specs.declared.locator.Locator.TheVariants as locators
 use Rattle.pli_deck_write.specs.DeckFaults.{fault_of}
 use Rattle.pli_deck_write.specs.examples.DeckExamples.{smallest, smallest_code}
+use Rattle.pli_deck_write.specs.examples.DeckExamples.{without_parameters, with_parameter}
+use Rattle.pli_deck_write.specs.examples.TypeExamples.{two_strings}
 
 -- the smallest deck with other instructions
 abbrev pub with_code : List Instruction → Deck
@@ -18,7 +22,23 @@ with_code code = record smallest { code = record smallest_code { instructions = 
 -- the smallest deck with a variable of a description
 abbrev pub with_variable : Description → CodedTemplate → Deck
 with_variable d t =
-    record smallest { code = record smallest_code { descriptions = d ∷ []; templates = t ∷ [] } }
+    record smallest { code = record smallest_code { descriptions = Stated d ∷ []; templates = t ∷ [] } }
+
+-- the smallest deck with a type, with this signature, templates and instructions
+abbrev pub with_type :
+    ParameterType → CodedSignature → List CodedTemplate → List Instruction → Deck
+with_type t signature templates code = record smallest {
+  code = record smallest_code {
+    signature = signature;
+    descriptions = t ∷ [];
+    templates = templates;
+    instructions = code;
+  };
+}
+
+-- a signature whose result is of the first description
+abbrev pub gives_first : CodedSignature
+gives_first = record { parameters = []; result = Some 0 }
 
 -- -32,767 to 32,767
 abbrev pub widest : Bounds
@@ -56,3 +76,19 @@ DeckFaultsAre =
     × (fault_of (with_variable pair_of_numbers (begins_as 4 (Number (pos 5)))) ≡ Some OverLimit)
     × (fault_of (with_variable pair_of_numbers (begins_as 2 (Number (pos 32768)))) ≡ Some OverLimit)
     × (fault_of (with_variable pair_of_numbers (begins_as 0 (Located locators.Null))) ≡ Some OverLimit)
+
+-- an array of numbers, whatever its bounds
+abbrev pub numbers : ParameterType
+numbers = AnyArray 1 (Stated (FixedBinary 15))
+
+-- a type with a `*`, which a parameter may have, but no result, no template and no instruction; no more may
+-- an array have it of which the element alone is open
+abbrev pub StarFaultsAre : Type 0
+StarFaultsAre =
+    (fault_of (with_type (AnyString forms.Character) with_parameter [] (op.Return 0 ∷ [])) ≡ None)
+    × (fault_of (with_type two_strings with_parameter [] (op.Return 0 ∷ [])) ≡ None)
+    × (fault_of (with_type (AnyString forms.Character) gives_first [] (op.Return 0 ∷ [])) ≡ Some BadNumber)
+    × (fault_of (with_type numbers without_parameters (plain ∷ []) (op.Return 0 ∷ [])) ≡ Some BadNumber)
+    × (fault_of (with_type two_strings without_parameters [] (op.Field 0 0 ∷ [])) ≡ Some BadNumber)
+    × (fault_of (with_type (AnyString forms.Varying) without_parameters [] (op.Fit 0 ∷ [])) ≡ Some BadNumber)
+    × (fault_of (with_type (Stated (FixedBinary 15)) gives_first (plain ∷ []) (op.Fit 0 ∷ [])) ≡ None)

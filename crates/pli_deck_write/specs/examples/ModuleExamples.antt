@@ -4,13 +4,13 @@ use Rattle.pli_code.specs.declared.fault.DeckFault.TheVariants.{BadMagic, BadVer
 use Rattle.pli_code.specs.declared.fault.DeckFault.TheVariants.{Trailing, OutOfRange, BadNumber}
 use Rattle.pli_code.specs.Modules.{Module}
 use Rattle.pli_deck_write.specs.ModuleSpelling.{module_bytes, module_read}
-use Rattle.pli_code.specs.declared.version.Version.TheVariants.{First, Second}
+use Rattle.pli_code.specs.declared.version.Version.TheVariants.{First, Third}
 use Rattle.pli_deck_write.specs.examples.DeckExamples.{smallest, smallest_before, calling, called}
 
 -- one unit
 abbrev pub one_unit : Module
 one_unit = record {
-  version = Second;
+  version = Third;
   main = 0;
   externals = [];
   units = record { name = 77 ∷ []; deck = smallest; links = [] } ∷ [];
@@ -19,14 +19,14 @@ one_unit = record {
 -- its bytes
 abbrev pub one_unit_bytes : List ℕ
 one_unit_bytes =
-    80 ∷ 76 ∷ 73 ∷ 77 ∷ 2 ∷ 0 ∷ 1 ∷ 0 ∷ 0 ∷ 0 ∷ 0 ∷ 1 ∷ 77 ∷ 0 ∷ 0 ∷ 0 ∷ 39 ∷ 80 ∷ 76 ∷ 73 ∷ 68 ∷ 2 ∷ 1 ∷
+    80 ∷ 76 ∷ 73 ∷ 77 ∷ 3 ∷ 0 ∷ 1 ∷ 0 ∷ 0 ∷ 0 ∷ 0 ∷ 1 ∷ 77 ∷ 0 ∷ 0 ∷ 0 ∷ 39 ∷ 80 ∷ 76 ∷ 73 ∷ 68 ∷ 3 ∷ 1 ∷
     77 ∷ 1 ∷ 0 ∷ 255 ∷ 255 ∷ 0 ∷ 0 ∷ 0 ∷ 0 ∷ 0 ∷ 0 ∷ 0 ∷ 0 ∷ 0 ∷ 1 ∷ 0 ∷ 255 ∷ 255 ∷ 0 ∷ 0 ∷ 0 ∷ 0 ∷ 0 ∷
     0 ∷ 0 ∷ 0 ∷ 0 ∷ 0 ∷ 1 ∷ 0 ∷ 1 ∷ 9 ∷ 0 ∷ 0 ∷ 0 ∷ []
 
 -- two units that share X, the first of which calls the second
 abbrev pub two_units : Module
 two_units = record {
-  version = Second;
+  version = Third;
   main = 0;
   externals = record { name = 88 ∷ []; kind = 2; unit = 0; global = 0 } ∷ [];
   units = record { name = 77 ∷ []; deck = calling; links = 0 ∷ 1 ∷ [] }
@@ -36,11 +36,11 @@ two_units = record {
 -- its bytes
 abbrev pub two_unit_bytes : List ℕ
 two_unit_bytes =
-    80 ∷ 76 ∷ 73 ∷ 77 ∷ 2 ∷ 0 ∷ 2 ∷ 0 ∷ 0 ∷ 0 ∷ 1 ∷ 1 ∷ 88 ∷ 2 ∷ 0 ∷ 0 ∷ 0 ∷ 0 ∷ 1 ∷ 77 ∷ 0 ∷ 0 ∷ 0 ∷
-    73 ∷ 80 ∷ 76 ∷ 73 ∷ 68 ∷ 2 ∷ 1 ∷ 77 ∷ 1 ∷ 0 ∷ 255 ∷ 255 ∷ 0 ∷ 1 ∷ 4 ∷ 0 ∷ 1 ∷ 0 ∷ 1 ∷ 0 ∷ 0 ∷ 0 ∷ 0 ∷
+    80 ∷ 76 ∷ 73 ∷ 77 ∷ 3 ∷ 0 ∷ 2 ∷ 0 ∷ 0 ∷ 0 ∷ 1 ∷ 1 ∷ 88 ∷ 2 ∷ 0 ∷ 0 ∷ 0 ∷ 0 ∷ 1 ∷ 77 ∷ 0 ∷ 0 ∷ 0 ∷
+    73 ∷ 80 ∷ 76 ∷ 73 ∷ 68 ∷ 3 ∷ 1 ∷ 77 ∷ 1 ∷ 0 ∷ 255 ∷ 255 ∷ 0 ∷ 1 ∷ 4 ∷ 0 ∷ 1 ∷ 0 ∷ 1 ∷ 0 ∷ 0 ∷ 0 ∷ 0 ∷
     0 ∷ 0 ∷ 0 ∷ 0 ∷ 0 ∷ 2 ∷ 2 ∷ 1 ∷ 88 ∷ 0 ∷ 0 ∷ 4 ∷ 1 ∷ 81 ∷ 1 ∷ 0 ∷ 0 ∷ 255 ∷ 255 ∷ 0 ∷ 1 ∷ 0 ∷ 255 ∷
     255 ∷ 0 ∷ 0 ∷ 0 ∷ 0 ∷ 0 ∷ 0 ∷ 0 ∷ 0 ∷ 0 ∷ 0 ∷ 1 ∷ 0 ∷ 4 ∷ 1 ∷ 0 ∷ 0 ∷ 0 ∷ 3 ∷ 14 ∷ 0 ∷ 0 ∷ 7 ∷ 0 ∷
-    1 ∷ 1 ∷ 9 ∷ 0 ∷ 0 ∷ 2 ∷ 0 ∷ 0 ∷ 0 ∷ 1 ∷ 1 ∷ 81 ∷ 0 ∷ 0 ∷ 0 ∷ 72 ∷ 80 ∷ 76 ∷ 73 ∷ 68 ∷ 2 ∷ 1 ∷ 81 ∷
+    1 ∷ 1 ∷ 9 ∷ 0 ∷ 0 ∷ 2 ∷ 0 ∷ 0 ∷ 0 ∷ 1 ∷ 1 ∷ 81 ∷ 0 ∷ 0 ∷ 0 ∷ 72 ∷ 80 ∷ 76 ∷ 73 ∷ 68 ∷ 3 ∷ 1 ∷ 81 ∷
     0 ∷ 1 ∷ 0 ∷ 0 ∷ 255 ∷ 255 ∷ 0 ∷ 1 ∷ 4 ∷ 0 ∷ 1 ∷ 0 ∷ 1 ∷ 0 ∷ 0 ∷ 0 ∷ 0 ∷ 0 ∷ 0 ∷ 0 ∷ 0 ∷ 0 ∷ 1 ∷ 2 ∷
     1 ∷ 88 ∷ 0 ∷ 0 ∷ 0 ∷ 1 ∷ 0 ∷ 255 ∷ 255 ∷ 1 ∷ 0 ∷ 0 ∷ 0 ∷ 0 ∷ 0 ∷ 0 ∷ 0 ∷ 0 ∷ 0 ∷ 1 ∷ 0 ∷ 7 ∷ 1 ∷ 0 ∷
     0 ∷ 0 ∷ 3 ∷ 14 ∷ 0 ∷ 0 ∷ 13 ∷ 0 ∷ 0 ∷ 0 ∷ 19 ∷ 23 ∷ 0 ∷ 0 ∷ 20 ∷ 9 ∷ 0 ∷ 0 ∷ 1 ∷ 0 ∷ 0 ∷ []
@@ -78,7 +78,8 @@ ModuleFaultsAre =
     × (module_read (take 4 one_unit_bytes) ≡ Err Truncated)
     × (module_read (take 57 one_unit_bytes) ≡ Err Truncated)
     × (module_read (one_unit_bytes ++ 0 ∷ []) ≡ Err Trailing)
-    × (module_read (slice_set one_unit_bytes 4 3) ≡ Err BadVersion)
+    × (module_read (slice_set one_unit_bytes 4 4) ≡ Err BadVersion)
     × (module_read (slice_set one_unit_bytes 4 1) ≡ Err BadVersion)
-    × (module_read (slice_set one_unit_bytes 54 64) ≡ Err OutOfRange)
+    × (module_read (slice_set one_unit_bytes 4 2) ≡ Err BadVersion)
+    × (module_read (slice_set one_unit_bytes 54 68) ≡ Err OutOfRange)
     × (module_read (slice_set one_unit_bytes 46 1) ≡ Err BadNumber)

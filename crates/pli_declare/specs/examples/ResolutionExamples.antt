@@ -12,6 +12,8 @@ use Rattle.pli_base.specs.declared.token.Fault.{Fault}
 use Rattle.pli_base.specs.Declarations.{Fixed, Binary, Character, Bit, Pointer, Offset, Area, Based, Initial}
 use Rattle.pli_base.specs.Declarations.{Attribute, Simple, Plain, Item}
 use Rattle.pli_base.specs.declared.declaration.WrittenBounds.{WrittenBounds}
+use Rattle.pli_base.specs.declared.declaration.WrittenBounds.TheVariants as limits
+use Rattle.pli_base.specs.declared.declaration.WrittenLength.TheVariants as extent
 use Rattle.pli_base.specs.declared.declaration.InitialValue.TheVariants as initial
 use Rattle.pli_base.specs.Statements.{ProcedureOption, Returns, Heading}
 use Rattle.pli_declare_outline.specs.Outlines.{Region, Mark, Declared, Labelled, Entered, Used, Jumped}
@@ -48,7 +50,7 @@ binary p = Simple (Fixed None) ∷ Simple (Binary (Some p)) ∷ []
 
 -- the bounds of a dimension from 1 to n, as `n` is written
 abbrev pub up_to : ℕ → WrittenBounds
-up_to n = record { low = None; high = record { negative = false; value = n } }
+up_to n = limits.Stated None (record { negative = false; value = n })
 
 -- a region of a kind within another
 abbrev pub region : RegionKind → ℕ → Region
@@ -85,7 +87,7 @@ OfOneName =
     Answers (unit [] (declares (plain (at (codes "X") 4) bit ∷ plain (at (codes "X") 7) bit
     ∷ []))) (fault DeclaredTwice 7 ∷ [])
     × Answers (unit [] (declares (plain (at (codes "X") 4) (binary 64) ∷ []))) (fault BadPrecision 4 ∷ [])
-    × Answers (unit [] (declares (plain (at (codes "C") 4) (Simple (Character (Some 0)) ∷ [])
+    × Answers (unit [] (declares (plain (at (codes "C") 4) (Simple (Character (Some (extent.Stated 0))) ∷ [])
     ∷ []))) (fault BadLength 4 ∷ [])
     × Answers (unit [] (declares (plain (at (codes "X") 4) (Simple (Fixed None) ∷ Simple (Binary (Some 15))
     ∷ Simple (Initial (initial.Integer None (record { negative = false; value = 40000 }) ∷ [])) ∷ [])
@@ -96,7 +98,7 @@ abbrev pub OfItems : Type 0
 OfItems =
     Answers (unit [] (declares (item (Some 2) (at (codes "X") 5) [] bit ∷ []))) (fault BadLevel 5 ∷ [])
     × Answers (unit [] (declares (item (Some 1) (at (codes "S") 5) [] []
-    ∷ item (Some 2) (at (codes "A") 8) [] (Simple (Area (Some 8)) ∷ [])
+    ∷ item (Some 2) (at (codes "A") 8) [] (Simple (Area (Some (extent.Stated 8))) ∷ [])
     ∷ []))) (fault AreaNotAllowedHere 8 ∷ [])
     × Answers (unit [] (declares (item None (at (codes "X") 4) (up_to 1000 ∷ up_to 1000 ∷ []) (binary 15)
     ∷ []))) (fault GenerationTooLarge 4 ∷ [])
@@ -154,7 +156,7 @@ Locators =
     ∷ plain (at (codes "P") 11) (Simple Pointer ∷ [])
     ∷ plain (at (codes "Y") 14) (Simple (Bit None) ∷ Simple (Based (Some (codes "X" ∷ []))) ∷ [])
     ∷ plain (at (codes "O") 21) (Simple (Offset (Some (codes "A"))) ∷ [])
-    ∷ plain (at (codes "A") 27) (Simple (Area (Some 8)) ∷ []) ∷ [])))
+    ∷ plain (at (codes "A") 27) (Simple (Area (Some (extent.Stated 8))) ∷ []) ∷ [])))
     (fault BadLocatorOrAreaName 14 ∷ [])
 
 -- `F: PROC(A, B, A) RETURNS(BIT) RETURNS(BIT); DCL A BIT;`

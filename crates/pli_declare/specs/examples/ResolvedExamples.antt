@@ -4,6 +4,7 @@ use Rattle.pli_base.specs.Syntax.{Referred, Reference, Named, Alone, Absent}
 use Rattle.pli_base.specs.Declarations.{Character, Pointer, Offset, Area, Based, Simple, Plain}
 use Rattle.pli_base.specs.Statements.{Body, Declare, Assign, Numbered, Statements, Ended, Before, Returns}
 use Rattle.pli_base.specs.Statements.{ExternalProcedure}
+use Rattle.pli_base.specs.declared.declaration.WrittenLength.TheVariants as extent
 use Rattle.pli_base.specs.declared.syntax.Identifier.{Identifier}
 use Rattle.pli_map.specs.Description as described
 use Rattle.pli_map.specs.Description.{Description, Members, NoMembers, MemberThen}
@@ -44,6 +45,7 @@ variable type storage whole =
     OfItem (OfVariable (record {
       description = type;
       bounds = [];
+      taken = None;
       storage = storage;
       scope = Internal;
       initial = [];
@@ -130,7 +132,8 @@ Jump =
 abbrev pub located : Outline
 located = unit []
     (in_region 0 (Declared (plain (at (codes "P") 5) (Simple Pointer ∷ [])
-    ∷ plain (at (codes "B") 8) (Simple (Character (Some 4)) ∷ Simple (Based (Some (codes "P" ∷ []))) ∷ [])
+    ∷ plain (at (codes "B") 8) (Simple (Character (Some (extent.Stated 4)))
+    ∷ Simple (Based (Some (codes "P" ∷ []))) ∷ [])
     ∷ []))
     ∷ in_region 0 (Used (at (codes "P") 18 ∷ [])) ∷ in_region 0 (Used (at (codes "B") 20 ∷ []))
     ∷ in_region 0 (Used (at (codes "B") 22 ∷ [])) ∷ [])
@@ -146,7 +149,7 @@ Located =
 -- `DCL A AREA(9), O OFFSET(A); F: PROC RETURNS(OFFSET(A)); END;`: an area of whole 8 bytes
 abbrev pub areas : Outline
 areas = unit (region kinds.Procedure 0 ∷ [])
-    (in_region 0 (Declared (plain (at (codes "A") 5) (Simple (Area (Some 9)) ∷ [])
+    (in_region 0 (Declared (plain (at (codes "A") 5) (Simple (Area (Some (extent.Stated 9))) ∷ [])
     ∷ plain (at (codes "O") 11) (Simple (Offset (Some (codes "A"))) ∷ []) ∷ []))
     ∷ in_region 0 (Entered (heading (codes "F") 17 [] (Returns (Plain (Offset (Some (codes "A"))) ∷ [])
     ∷ [])) 1) ∷ [])
@@ -174,7 +177,7 @@ members = unit (region kinds.Procedure 0 ∷ [])
     (in_region 0 (Entered (heading (codes "F") 4 (at (codes "A") 8 ∷ []) []) 1)
     ∷ in_region 1 (Declared (plain (at (codes "A") 12) bit
     ∷ item (Some 1) (at (codes "S") 16) [] []
-    ∷ item (Some 2) (at (codes "B") 19) [] (Simple (Character (Some 4)) ∷ [])
+    ∷ item (Some 2) (at (codes "B") 19) [] (Simple (Character (Some (extent.Stated 4))) ∷ [])
     ∷ item (Some 2) (at (codes "P") 26) [] (Simple Pointer ∷ []) ∷ []))
     ∷ in_region 1 (Used (at (codes "S") 29 ∷ at (codes "B") 31 ∷ []))
     ∷ in_region 1 (Used (at (codes "B") 33 ∷ [])) ∷ [])

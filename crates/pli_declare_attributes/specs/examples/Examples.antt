@@ -9,9 +9,14 @@ use Rattle.pli_base.specs.Declarations.{Offset, Area, Based, Controlled, Static,
 use Rattle.pli_base.specs.Declarations.{Internal, Builtin, Initial, Attribute, Simple, Entry, Returns, Plain}
 use Rattle.pli_base.specs.Declarations.{AnyEntry, Item}
 use Rattle.pli_base.specs.declared.declaration.WrittenBounds.{WrittenBounds}
+use Rattle.pli_base.specs.declared.declaration.WrittenBounds.TheVariants as limits
+use Rattle.pli_base.specs.declared.declaration.WrittenLength.TheVariants as extent
 use Rattle.pli_base.specs.declared.declaration.InitialValue.{InitialValue}
 use Rattle.pli_base.specs.declared.declaration.InitialValue.TheVariants as initial
 use Rattle.pli_map.specs.Description as type
+use Rattle.pli_map.specs.declared.description.Bounds.{Bounds}
+use Rattle.pli_map.specs.ParameterTypes.{ParameterType, Stated, AnyString, AnyArray, ArrayOf}
+use Rattle.pli_map.specs.declared.parameter.StringForm.TheVariants as forms
 use Rattle.pli_declare_attributes.specs.Completed.{Completed, OfVariable, OfEntry, OfBuiltIn, completed_of}
 use Rattle.pli_declare_attributes.specs.Faults.{item_fault, result_fault}
 use Rattle.pli_declare_attributes.specs.declared.place.ItemPlace.{ItemPlace}
@@ -87,7 +92,7 @@ simple attributes = item [] (map Simple attributes)
 
 -- from 1 to n
 abbrev pub up_to : ℕ → WrittenBounds
-up_to n = record { low = None; high = record { negative = false; value = n } }
+up_to n = limits.Stated None (record { negative = false; value = n })
 
 -- an item at a place has this fault
 abbrev pub Faulty : ItemPlace → Item → Code → Type 0
@@ -107,6 +112,7 @@ variable d where_from known =
     OfVariable (record {
       description = Some d;
       bounds = [];
+      taken = None;
       storage = where_from;
       scope = known;
       initial = [];
@@ -135,15 +141,14 @@ StorageClasses =
 -- `(0:3, 2) FIXED BIN INIT(1, (7) 2)`: eight elements
 abbrev pub Arrays : Type 0
 Arrays =
-    Is alone (item (record {
-      low = Some (record { negative = false; value = 0 });
-      high = record { negative = false; value = 3 };
-    } ∷ up_to 2 ∷ [])
+    Is alone (item (limits.Stated (Some (record { negative = false; value = 0 }))
+    (record { negative = false; value = 3 }) ∷ up_to 2 ∷ [])
     (Simple (Fixed None) ∷ Simple (Binary None) ∷ Simple (Initial (times None 1 ∷ times (Some 7) 2 ∷ []))
     ∷ []))
     (OfVariable (record {
       description = Some (type.FixedBinary 15);
       bounds = record { low = pos 0; high = pos 3 } ∷ record { low = pos 1; high = pos 2 } ∷ [];
+      taken = None;
       storage = Some storage.Automatic;
       scope = scope.Internal;
       initial = times None 1 ∷ times (Some 7) 2 ∷ [];
@@ -156,6 +161,7 @@ Structures =
     (OfVariable (record {
       description = None;
       bounds = [];
+      taken = None;
       storage = Some storage.Static;
       scope = scope.Internal;
       initial = [];
@@ -166,12 +172,62 @@ abbrev pub Entries : Type 0
 Entries =
     Is alone (item [] (Entry (Some (
     record { dimensions = up_to 5 ∷ []; attributes = Plain (Bit None) ∷ [] }
-    ∷ record { dimensions = []; attributes = Plain (Character (Some 3)) ∷ [] } ∷ []))
+    ∷ record { dimensions = []; attributes = Plain (Character (Some (extent.Stated 3))) ∷ [] } ∷ []))
     ∷ Returns (Plain Pointer ∷ []) ∷ []))
-    (OfEntry (type.Array (record { low = pos 1; high = pos 5 } ∷ []) (type.Bit 1) ∷ type.Character 3
-    ∷ []) (Some type.Pointer))
+    (OfEntry (Stated (type.Array (record { low = pos 1; high = pos 5 } ∷ []) (type.Bit 1))
+    ∷ Stated (type.Character 3) ∷ []) (Some type.Pointer))
     × Is alone (item [] (Entry None ∷ Simple External ∷ [])) (OfEntry [] None)
     × Is built_in (simple (Builtin ∷ [])) OfBuiltIn
+
+-- a parameter of this type, in which a `*` stands, and counts as 1 in what it is apart from that
+abbrev pub starred : type.Description → List Bounds → ParameterType → Completed
+starred d bounds taken =
+    OfVariable (record {
+      description = Some d;
+      bounds = bounds;
+      taken = Some taken;
+      storage = None;
+      scope = scope.Internal;
+      initial = [];
+    })
+
+-- from 1 to n, as a description has it
+abbrev pub from_one : ℕ → Bounds
+from_one n = record { low = pos 1; high = pos n }
+
+-- the parameters `CHAR(*)`, `CHAR(*) VAR`, `(*, *) FIXED BIN`, `(*) BIT(*)` and `(3) CHAR(*)`; and
+-- `ENTRY((*) PTR)`
+abbrev pub Asterisks : Type 0
+Asterisks =
+    Is parameter (simple (Character (Some extent.Any) ∷ []))
+    (starred (type.Character 1) [] (AnyString forms.Character))
+    × Is parameter (simple (Character (Some extent.Any) ∷ Varying ∷ []))
+    (starred (type.Varying 1) [] (AnyString forms.Varying))
+    × Is parameter (item (limits.Any ∷ limits.Any ∷ []) (Simple (Fixed None) ∷ Simple (Binary None) ∷ []))
+    (starred (type.FixedBinary 15) (from_one 1 ∷ from_one 1 ∷ []) (AnyArray 2 (Stated (type.FixedBinary 15))))
+    × Is parameter (item (limits.Any ∷ []) (Simple (Bit (Some extent.Any)) ∷ []))
+    (starred (type.Bit 1) (from_one 1 ∷ []) (AnyArray 1 (AnyString forms.Bit)))
+    × Is parameter (item (up_to 3 ∷ []) (Simple (Character (Some extent.Any)) ∷ []))
+    (starred (type.Character 1) (from_one 3 ∷ []) (ArrayOf (from_one 3 ∷ []) (AnyString forms.Character)))
+    × Is alone (item [] (Entry (Some (
+    record { dimensions = limits.Any ∷ []; attributes = Plain Pointer ∷ [] } ∷ [])) ∷ []))
+    (OfEntry (AnyArray 1 (Stated type.Pointer) ∷ []) None)
+
+-- `*` as a length of what is no parameter, as a result's and as an area's size
+abbrev pub BadLengthStars : Type 0
+BadLengthStars =
+    Faulty alone (simple (Character (Some extent.Any) ∷ [])) BadLength
+    × Faulty member (simple (Bit (Some extent.Any) ∷ [])) BadLength
+    × Faulty parameter (simple (Area (Some extent.Any) ∷ [])) BadLength
+    × (result_fault (Plain (Character (Some extent.Any)) ∷ []) ≡ Some BadLength)
+
+-- `*` as bounds of what is no parameter, beside a bound that is none, and nine of them
+abbrev pub BadBoundStars : Type 0
+BadBoundStars =
+    Faulty alone (item (limits.Any ∷ []) (Simple Pointer ∷ [])) BadBounds
+    × Faulty parameter (item (limits.Any ∷ up_to 3 ∷ []) (Simple Pointer ∷ [])) BadBounds
+    × Faulty parameter (item (limits.Any ∷ limits.Any ∷ limits.Any ∷ limits.Any ∷ limits.Any ∷ limits.Any
+    ∷ limits.Any ∷ limits.Any ∷ limits.Any ∷ []) (Simple Pointer ∷ [])) BadBounds
 
 -- twice; two types; VARYING without CHARACTER; a precision after both FIXED and BINARY
 abbrev pub TypesConflict : Type 0
@@ -219,8 +275,8 @@ Missing =
 abbrev pub BadNumbers : Type 0
 BadNumbers =
     Faulty alone (simple (Fixed (Some 64) ∷ Binary None ∷ [])) BadPrecision
-    × Faulty alone (simple (Character (Some 0) ∷ [])) BadLength
-    × Faulty alone (simple (Area (Some 1000001) ∷ [])) BadLength
+    × Faulty alone (simple (Character (Some (extent.Stated 0)) ∷ [])) BadLength
+    × Faulty alone (simple (Area (Some (extent.Stated 1000001)) ∷ [])) BadLength
     × Faulty alone (item (up_to 0 ∷ []) (Simple Pointer ∷ [])) BadBounds
     × Faulty alone (item (up_to 32768 ∷ []) (Simple Pointer ∷ [])) BadBounds
     × Faulty alone (item (up_to 1 ∷ up_to 1 ∷ up_to 1 ∷ up_to 1 ∷ up_to 1 ∷ up_to 1 ∷ up_to 1 ∷ up_to 1
@@ -249,7 +305,7 @@ BadAreas =
 abbrev pub PartsOfEntries : Type 0
 PartsOfEntries =
     Faulty alone (item [] (Entry (Some (
-    record { dimensions = []; attributes = Plain (Bit (Some 0)) ∷ [] }
+    record { dimensions = []; attributes = Plain (Bit (Some (extent.Stated 0))) ∷ [] }
     ∷ record { dimensions = []; attributes = Plain (Fixed (Some 64)) ∷ Plain (Binary None) ∷ [] } ∷ []))
     ∷ []))
     BadPrecision

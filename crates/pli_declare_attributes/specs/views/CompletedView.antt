@@ -4,6 +4,7 @@ use Rattle.std.specs.Prelude.{◌≡◌, List, Some, None, option_map, map, Resu
 use Rattle.pli_base.specs.declared.code.Code.{Code}
 use Rattle.pli_base.specs.Declarations as tree
 use Rattle.pli_map.specs.views.DescriptionView.{description_view}
+use Rattle.pli_map.specs.views.ParameterView.{type_view}
 use Rattle.pli_map.specs.declared.description.Description.{Description}
 use Rattle.pli_declare_attributes.specs.Completed as complete
 use Rattle.pli_declare_attributes.specs.Faults.{item_fault, result_fault, described_scalar}
@@ -20,6 +21,7 @@ variable_view v =
     record {
       description = option_map description_view v.description;
       bounds = v.bounds.items;
+      taken = option_map type_view v.taken;
       storage = v.storage;
       scope = v.scope;
       initial = v.initial.now;
@@ -29,7 +31,7 @@ variable_view v =
 abbrev pub completed_view : Completed → complete.Completed
 completed_view (variants.Variable v) = complete.OfVariable (variable_view v)
 completed_view (variants.Entry parameters result) =
-    complete.OfEntry (map description_view parameters.items) (option_map description_view result)
+    complete.OfEntry (map type_view parameters.items) (option_map description_view result)
 completed_view variants.BuiltIn = complete.OfBuiltIn
 
 -- the completed item, or its least fault; want of memory is possible anywhere

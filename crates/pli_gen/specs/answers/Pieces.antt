@@ -2,7 +2,7 @@
 use Rattle.std.specs.Prelude.{ℕ, suc, ◌≡◌, ◌+◌, ◌≤◌, nat_eq, nat_lt, Bool, true, ◌&&◌, min, None}
 use Rattle.std.specs.Prelude.{List, [], ◌∷◌, length, slice_set, if◌then◌else◌}
 use Rattle.std.specs.List.{list_any, AllByRecursion}
-use Rattle.pli_map.specs.Same.{same}
+use Rattle.pli_map.specs.ParameterTypes.{Stated, same_type}
 use Rattle.pli_map.specs.Sizes.{size_of}
 use Rattle.pli_program.specs.Program.{Instruction}
 use Rattle.pli_program.specs.Program as op
@@ -61,7 +61,8 @@ template_bytes t = bytes_if t.initial
 -- the description of each template is in its table
 abbrev pub HaveDescriptions : NumberedTables → Type 0
 HaveDescriptions tables =
-    AllByRecursion (λ t. list_any (same t.description) tables.descriptions ≡ true) tables.templates
+    AllByRecursion (λ t. list_any (same_type (Stated t.description)) tables.descriptions ≡ true)
+    tables.templates
 
 -- code without anything
 abbrev pub no_code : Code

@@ -3,6 +3,7 @@ use Rattle.std.specs.Prelude.{replicate, ◌≡◌, ℕ, pos, true, false, Some,
 use Rattle.pli_base.specs.declared.statement.Condition.TheVariants as conditions
 use Rattle.pli_run.specs.declared.ending.RunError.TheVariants.{NoReturnedValue}
 use Rattle.pli_map.specs.Description.{FixedBinary, Character, Bit, Pointer, Offset, Area}
+use Rattle.pli_map.specs.ParameterTypes.{Stated}
 use Rattle.pli_operation.specs.declared.operation.Operation.TheVariants as calculate
 use Rattle.pli_value.specs.Value.{Number, Characters}
 use Rattle.pli_program.specs.Program.{Instruction, Step, Line, Jump, JumpUnless, Local, Field, Subscript}
@@ -270,7 +271,7 @@ printing_unit = record {
 
 -- the variable's description and that of the dummy argument; templates of these; the number once
 abbrev pub TablesNumbered : Type 0
-TablesNumbered = ((code_of printing_unit).descriptions ≡ Character 3 ∷ Character 2 ∷ [])
+TablesNumbered = ((code_of printing_unit).descriptions ≡ Stated (Character 3) ∷ Stated (Character 2) ∷ [])
     × ((code_of printing_unit).templates
     ≡ record { description = 0; initial = [] } ∷ record { description = 1; initial = [] } ∷ [])
     × ((code_of printing_unit).values ≡ Number (pos 5) ∷ [])
@@ -323,12 +324,12 @@ calling_unit = record {
   name = codes "S";
   procedure = codes "S";
   is_main = false;
-  signature = record { parameters = Character 2 ∷ []; result = None };
+  signature = record { parameters = Stated (Character 2) ∷ []; result = None };
   globals =
       ExternalVariable (codes "N") Static (record { description = FixedBinary 15; initial = [] })
-      ∷ EntryPoint (codes "F") (record { parameters = Character 2 ∷ []; result = Some (Bit 1) })
+      ∷ EntryPoint (codes "F") (record { parameters = Stated (Character 2) ∷ []; result = Some (Bit 1) })
       ∷ OwnVariable Static (record { description = Character 2; initial = [] })
-      ∷ EntryPoint (codes "G") (record { parameters = Character 2 ∷ []; result = None }) ∷ [];
+      ∷ EntryPoint (codes "G") (record { parameters = Stated (Character 2) ∷ []; result = None }) ∷ [];
   procedures = calling ∷ [];
 }
 
@@ -336,7 +337,8 @@ calling_unit = record {
 abbrev pub GlobalsNumbered : Type 0
 GlobalsNumbered =
     ((code_of calling_unit).signature ≡ record { parameters = 0 ∷ []; result = None })
-    × ((code_of calling_unit).descriptions ≡ Character 2 ∷ FixedBinary 15 ∷ Bit 1 ∷ [])
+    × ((code_of calling_unit).descriptions
+    ≡ Stated (Character 2) ∷ Stated (FixedBinary 15) ∷ Stated (Bit 1) ∷ [])
     × ((code_of calling_unit).templates
     ≡ record { description = 1; initial = [] } ∷ record { description = 0; initial = [] } ∷ [])
     × ((code_of calling_unit).globals
@@ -516,7 +518,8 @@ holding_unit = record {
 -- blocks; a locator becomes one of the other kind by the place of an area
 abbrev pub AreasUsed : Type 0
 AreasUsed =
-    ((code_of holding_unit).descriptions ≡ Area 64 ∷ Offset ∷ Pointer ∷ FixedBinary 15 ∷ [])
+    ((code_of holding_unit).descriptions
+    ≡ Stated (Area 64) ∷ Stated Offset ∷ Stated Pointer ∷ Stated (FixedBinary 15) ∷ [])
     × ((code_of holding_unit).templates
     ≡ record { description = 0; initial = [] } ∷ record { description = 1; initial = [] }
     ∷ record { description = 2; initial = [] }

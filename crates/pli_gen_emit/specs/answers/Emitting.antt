@@ -1,7 +1,7 @@
 -- What emitting answers.
 use Rattle.std.specs.Prelude.{◌≡◌, ◌++◌, ◌||◌, ℕ, Bool, false, not, min, Option, Some, None, List}
 use Rattle.std.specs.Prelude.{[], ◌∷◌, length, slice_set, is_some}
-use Rattle.pli_map.specs.Same.{same}
+use Rattle.pli_map.specs.ParameterTypes.{same_type}
 use Rattle.pli_program.specs.Program as op
 use Rattle.pli_type_keys.specs.Same.{same_template, same_value}
 use Rattle.pli_code.specs.declared.instruction.Instruction.{Instruction}
@@ -32,7 +32,7 @@ emission e = record {
 -- tables with what an instruction names
 abbrev pub tables_with : NumberedTables → op.Instruction → NumberedTables
 tables_with t i = record {
-  descriptions = numbered same t.descriptions (descriptions_named i);
+  descriptions = numbered same_type t.descriptions (descriptions_named i);
   templates = numbered same_template t.templates (templates_named i);
   values = numbered same_value t.values (values_named i);
 }
@@ -61,6 +61,7 @@ narrowed (coded.AllocateBased template) = coded.AllocateBased (min template 6553
 narrowed (coded.AllocateInArea template target) = coded.AllocateInArea (min template 65535) (min target 65535)
 narrowed (coded.FreeBased description) = coded.FreeBased (min description 65535)
 narrowed (coded.On c block) = coded.On c (min block 65535)
+narrowed (coded.SubscriptIn dimension) = coded.SubscriptIn (min dimension 255)
 narrowed (coded.SetTemporary number) = coded.SetTemporary (min number 65535)
 narrowed (coded.TakeTemporary number) = coded.TakeTemporary (min number 65535)
 narrowed other = other
@@ -149,6 +150,9 @@ shared coded.AssignArea = Some op.AssignArea
 shared coded.EmptyArea = Some op.EmptyArea
 shared (coded.Revert c) = Some (op.Revert c)
 shared (coded.Signal c) = Some (op.Signal c)
+shared (coded.BoundOf which dimension) = Some (op.BoundOf which dimension)
+shared (coded.MakeStringDummy form) = Some (op.MakeStringDummy form)
+shared coded.FitToPlace = Some op.FitToPlace
 shared coded.Put = Some op.Put
 shared coded.Skip = Some op.Skip
 shared other = None

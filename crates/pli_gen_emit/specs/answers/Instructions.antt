@@ -29,6 +29,7 @@ instruction_fits (op.AllocateControlled global) = is_short global
 instruction_fits (op.FreeControlled global) = is_short global
 instruction_fits (op.CountGenerations global) = is_short global
 instruction_fits (op.On c block) = is_short block
+instruction_fits (op.SubscriptIn dimension) = is_byte dimension
 instruction_fits (op.SetTemporary number) = is_short number
 instruction_fits (op.TakeTemporary number) = is_short number
 instruction_fits other = true

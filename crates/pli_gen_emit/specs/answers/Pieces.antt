@@ -1,10 +1,10 @@
 -- What the parts of the emitter answer.
 use Rattle.std.specs.Prelude.{ℕ, ◌≡◌, List, [], ◌∷◌, ◌++◌, Option, Some, None, false, length}
-use Rattle.pli_program.specs.Program.{Instruction, Store, Copy}
+use Rattle.pli_program.specs.Program.{Instruction, Store, Copy, FitToPlace}
 use Rattle.pli_program.specs.Program as op
 use Rattle.pli_type_tree.specs.TypedTree.{Form, Assign, AssignAggregate, AssignArea, EmptyArea, Put, Begin}
 use Rattle.pli_type_tree.specs.TypedTree.{Call, Goto, Return, ReturnValue, Stop, On, Revert, Signal, Allocate}
-use Rattle.pli_type_tree.specs.TypedTree.{Free, Iteration}
+use Rattle.pli_type_tree.specs.TypedTree.{AssignString, Free, Iteration}
 use Rattle.pli_gen_emit.specs.TreeTranslation.{BlockTree, behind, block_code, place_code, value_code}
 use Rattle.pli_gen_emit.specs.TreeTranslation.{skip_code, items_code, call_code}
 use Rattle.pli_gen_emit.specs.TreeTranslation.{allocations_code, freeings_code}
@@ -16,6 +16,7 @@ use Rattle.pli_gen_emit.specs.declared.iteration.Turn.{Turn}
 -- the code of a form in which no other stands, at a place; that of another form apart
 abbrev pub simple_code : Form → (at : ℕ) → List Instruction
 simple_code (Assign target value) p = place_code target ++ value_code value ++ Store ∷ []
+simple_code (AssignString target value) p = place_code target ++ value_code value ++ (FitToPlace ∷ Store ∷ [])
 simple_code (AssignAggregate target source) p = place_code target ++ place_code source ++ Copy ∷ []
 simple_code (AssignArea target source) p = place_code target ++ place_code source ++ op.AssignArea ∷ []
 simple_code (EmptyArea target) p = place_code target ++ op.EmptyArea ∷ []

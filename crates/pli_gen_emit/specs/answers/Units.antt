@@ -1,7 +1,7 @@
 -- What is emitted for a unit.
 use Rattle.std.specs.Prelude.{◌≡◌, ◌++◌, false, List, [], map}
 use Rattle.std.specs.List.{flat_map}
-use Rattle.pli_map.specs.Same.{same}
+use Rattle.pli_map.specs.ParameterTypes.{Stated, same_type}
 use Rattle.pli_type_keys.specs.Same.{same_template}
 use Rattle.pli_type_tree.specs.TypedTree.{TypedUnit}
 use Rattle.pli_gen_emit.specs.Encoding.{numbered, signature_descriptions, global_descriptions}
@@ -17,9 +17,9 @@ abbrev pub before_code : TypedUnit → List BlockTree → Emission
 before_code u bs = record {
   tables = record {
     descriptions =
-        numbered same []
+        numbered same_type []
         (signature_descriptions u.signature ++ flat_map global_descriptions u.globals
-        ++ map (λ t. t.description) (block_templates bs));
+        ++ map (λ t. Stated t.description) (block_templates bs));
     templates = numbered same_template [] (flat_map global_templates u.globals ++ block_templates bs);
     values = [];
   };

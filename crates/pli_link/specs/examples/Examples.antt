@@ -1,11 +1,14 @@
 -- Worked examples of linking.
 use Rattle.std.specs.Prelude.{◌≡◌, ℕ, Bool, true, false, None, Ok, Err, List, [], ◌∷◌, map, codes, pos}
-use Rattle.std.specs.Prelude.{replicate}
+use Rattle.std.specs.Prelude.{replicate, Result}
 use Rattle.pli_base.specs.Name.{Name}
 use Rattle.pli_map.specs.Description.{Description, Array, Bit, Character, FixedBinary}
+use Rattle.pli_map.specs.ParameterTypes.{ParameterType, Stated, AnyString, AnyArray}
+use Rattle.pli_map.specs.declared.parameter.StringForm.TheVariants as forms
 use Rattle.pli_link.specs.Link.{link_of}
 use Rattle.pli_link.specs.Links.{module_of}
 use Rattle.pli_link.specs.Units.{Compiled, as_unit}
+use Rattle.pli_link.specs.declared.linking.LinkFault.{LinkFault}
 use Rattle.pli_link.specs.declared.linking.LinkFault.TheVariants.{NoMainProcedure, TwoMainProcedures}
 use Rattle.pli_link.specs.declared.linking.LinkFault.TheVariants.{Unresolved, DefinedTwice, Mismatch}
 use Rattle.pli_link.specs.declared.linking.LinkFault.TheVariants.{ModuleTooLarge}
@@ -22,17 +25,21 @@ use Rattle.pli_code.specs.declared.instruction.Instruction.TheVariants as op
 abbrev pub nothing : CodedSignature
 nothing = record { parameters = []; result = None }
 
--- the code of a procedure that does nothing, as far as it matters here, with globals of these descriptions
-abbrev pub code_with : CodedSignature → List Description → List CodedGlobal → Code
-code_with signature descriptions globals = record {
+-- the code of a procedure that does nothing, as far as it matters here, with globals of these types
+abbrev pub typed_code : CodedSignature → List ParameterType → List CodedGlobal → Code
+typed_code signature types globals = record {
   signature = signature;
-  descriptions = descriptions;
+  descriptions = types;
   templates = record { description = 0; initial = [] } ∷ record { description = 1; initial = [] } ∷ [];
   values = [];
   globals = globals;
   blocks = [];
   instructions = op.Return 0 ∷ [];
 }
+
+-- such code, with globals of these descriptions
+abbrev pub code_with : CodedSignature → List Description → List CodedGlobal → Code
+code_with signature descriptions globals = typed_code signature (map Stated descriptions) globals
 
 -- the code of a procedure without parameters, in a unit without globals
 abbrev pub plain : Code
@@ -156,6 +163,29 @@ abbrev pub OtherTaken : Type 0
 OtherTaken =
     link_of (unit (codes "M") (codes "M") true calling ∷ unit (codes "Q") (codes "Q") false taking ∷ [])
     ≡ Err (Mismatch (named (codes "Q") (codes "M")) ∷ [])
+
+-- what takes the first type, and gives nothing
+abbrev pub of_first : CodedSignature
+of_first = record { parameters = 0 ∷ []; result = None }
+
+-- M has an entry Q that takes this, and a procedure Q takes that
+abbrev pub entry_and_procedure : (entry procedure : ParameterType) → List Compiled
+entry_and_procedure t u =
+    unit (codes "M") (codes "M") true (typed_code nothing (t ∷ []) (EntryPoint (codes "Q") of_first ∷ []))
+    ∷ unit (codes "Q") (codes "Q") false (typed_code of_first (u ∷ []) [])
+    ∷ []
+
+-- a string of any length is no string of four characters, and no array of any bounds is one of other
+-- dimensions; the same `*` are one type
+abbrev pub StarsAreStars : Type 0
+StarsAreStars =
+    let any = AnyString forms.Character in
+    let two = AnyArray 2 any in
+    let unlike : Result Module (List LinkFault) = Err (Mismatch (named (codes "Q") (codes "M")) ∷ []) in
+    (link_of (entry_and_procedure (Stated (Character 4)) any) ≡ unlike)
+    × (link_of (entry_and_procedure any (Stated (Character 4))) ≡ unlike)
+    × (link_of (entry_and_procedure two (AnyArray 1 any)) ≡ unlike)
+    × (link_of (entry_and_procedure two two) ≡ Ok (module_of (entry_and_procedure two two) 0))
 
 -- X is an entry in M, and variables of two descriptions in Q and R: the entry is unresolved, and the second
 -- variable unlike the first

@@ -31,7 +31,7 @@ equal x = (λ e. refl, λ e. refl)
 numbers : {A : Type 0} (of : ℕ → A) (n m : ℕ) → (of n ≡ of m → n ≡ m) → Decides (n == m) (of n ≡ of m)
 numbers of n m back = Decides-like _ (ap of) back (Decides-eqb n m)
 
-all_bounds-Decides : (bs cs : List Bounds) → Decides (same_bounds bs cs) (bs ≡ cs)
+pub all_bounds-Decides : (bs cs : List Bounds) → Decides (same_bounds bs cs) (bs ≡ cs)
 all_bounds-Decides [] [] = equal []
 all_bounds-Decides [] (c ∷ cs) = differ [] (c ∷ cs) (λ e. cc)
 all_bounds-Decides (b ∷ bs) [] = differ (b ∷ bs) [] (λ e. cc)

@@ -3,6 +3,7 @@
 use Rattle.std.specs.Prelude.{◌≡◌, true, None, pos, List, [], ◌∷◌, ◌++◌, replicate, codes}
 use Rattle.pli_base.specs.Name.{Name}
 use Rattle.pli_map.specs.Description.{FixedBinary}
+use Rattle.pli_map.specs.ParameterTypes.{Stated}
 use Rattle.pli_members.specs.Members.{Member}
 use Rattle.pli_members.specs.declared.kind.MemberKind.TheVariants.{Source}
 use Rattle.pli_run.specs.declared.ending.Ending.TheVariants.{Ended, OutOfSteps}
@@ -35,7 +36,7 @@ first_deck = record {
   is_main = true;
   code = record {
     signature = record { parameters = []; result = None };
-    descriptions = FixedBinary 31 ∷ [];
+    descriptions = Stated (FixedBinary 31) ∷ [];
     templates = record { description = 0; initial = [] } ∷ [];
     values = Number (pos 2) ∷ Number (pos 3) ∷ [];
     globals = [];

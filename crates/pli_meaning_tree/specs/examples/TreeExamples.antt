@@ -9,6 +9,7 @@ use Rattle.pli_run.specs.declared.ending.RunError.TheVariants.{NoReturnedValue, 
 use Rattle.pli_run.specs.declared.ending.RunError.TheVariants.{DeadLocator, DescriptionMismatch}
 use Rattle.pli_map.specs.Description.{Description, FixedBinary, Array, Pointer, Structure, NoMembers}
 use Rattle.pli_map.specs.Description.{MemberThen}
+use Rattle.pli_map.specs.ParameterTypes.{Stated}
 use Rattle.pli_operation.specs.declared.operation.Operation.{Operation}
 use Rattle.pli_operation.specs.declared.operation.Operation.TheVariants.{Add, Subtract, Compare, ToCharacters}
 use Rattle.pli_operation.specs.declared.operation.Relation.TheVariants.{Less}
@@ -366,7 +367,7 @@ RepeatGoesOn =
 
 -- what N is, a function of a number
 abbrev pub numeric : Signature
-numeric = record { parameters = FixedBinary 31 ∷ []; result = Some (FixedBinary 31) }
+numeric = record { parameters = Stated (FixedBinary 31) ∷ []; result = Some (FixedBinary 31) }
 
 -- X, which both units share
 abbrev pub shared : TypedReference

@@ -1,21 +1,26 @@
 -- Worked examples of well-typed programs.
-use Rattle.std.specs.Prelude.{ℕ, nat_eq, true, false, pos, Option, Some, None, [], ◌∷◌, codes, if◌then◌else◌}
+use Rattle.std.specs.Prelude.{ℕ, nat_eq, true, false, pos, Option, Some, None, List, [], ◌∷◌, codes, if◌then◌else◌}
 use Rattle.pli_base.specs.declared.statement.Condition.TheVariants.{FixedOverflow}
-use Rattle.pli_map.specs.Description.{Description, FixedBinary, Pointer, Offset, Area}
+use Rattle.pli_map.specs.Description.{Description, FixedBinary, Pointer, Offset, Area, Array}
+use Rattle.pli_map.specs.ParameterTypes.{Stated, AnyString, AnyArray}
+use Rattle.pli_map.specs.declared.description.Bounds.{Bounds}
+use Rattle.pli_map.specs.declared.dimension.WhichBound.TheVariants.{High}
+use Rattle.pli_map.specs.declared.parameter.StringForm.TheVariants.{Character}
 use Rattle.pli_operation.specs.declared.operation.Operation.TheVariants.{Add, Compare, ToCharacters}
 use Rattle.pli_operation.specs.declared.operation.Relation.TheVariants.{Less}
-use Rattle.pli_value.specs.Value.{Number}
+use Rattle.pli_value.specs.Value.{Number, Characters}
 use Rattle.pli_program.specs.declared.kind.VariableKind.TheVariants.{Static, Controlled}
 use Rattle.pli_type_tree.specs.Templates.{Template}
 use Rattle.pli_type_tree.specs.TypedTree.{Fit, Operate, InSlot, OfProgram, NewestOf, Located}
 use Rattle.pli_type_tree.specs.TypedTree.{OfBlock, OfEntry}
 use Rattle.pli_type_tree.specs.TypedTree.{Signature, Global, OwnVariable, ExternalVariable, EntryPoint}
-use Rattle.pli_type_tree.specs.TypedTree.{TypedUnit, TypedExpression, Generations, Address, AsPointer}
+use Rattle.pli_type_tree.specs.TypedTree.{TypedUnit, TypedExpression, Generations, Address, AsPointer, Bounded}
 use Rattle.pli_type_tree.specs.TypedTree.{ByOperations, AsOffsetIn, AllocatesControlled, AllocatesBased}
 use Rattle.pli_type_tree.specs.TypedTree.{AllocatesInArea, FreesControlled, FreesBased, Allocate, Free}
 use Rattle.pli_type_tree.specs.TypedTree.{AssignArea, EmptyArea}
-use Rattle.pli_type_tree.specs.TypedTree.{Literal, Held, Calculated, Called, TypedReference, Whole, NoOperand}
-use Rattle.pli_type_tree.specs.TypedTree.{OperandThen, NoArgument, ByPlace, BlockHead, Statement, Assign, Put}
+use Rattle.pli_type_tree.specs.TypedTree.{Literal, Held, Calculated, Called, TypedReference, Whole, ElementOf, NoOperand}
+use Rattle.pli_type_tree.specs.TypedTree.{OperandThen, NoArgument, ByPlace, ByString, BlockHead, Statement, Assign, Put}
+use Rattle.pli_type_tree.specs.TypedTree.{AssignString, Call}
 use Rattle.pli_type_tree.specs.TypedTree.{If, Goto, ReturnValue, On, Revert, Signal, NoElse}
 use Rattle.pli_type_tree.specs.TypedTree.{TypedStatements, Form, Group, Iterate}
 use Rattle.pli_type_tree.specs.TypedTree.{TypedRange, ByTo, Repeated, NoStatement, StatementThen}
@@ -122,7 +127,7 @@ of_successor = record {
   is_on_unit = false;
   parent = Some 0;
   around = block_of outer [] counting ∷ [];
-  parameters = number ∷ [];
+  parameters = Stated number ∷ [];
   value = Some number;
 }
 
@@ -234,6 +239,84 @@ AreasAreWellTyped =
     AreTypedStatements 31 (context_in (declared_area ∷ declared_offset ∷ []) signatures of_caller caller)
     placing
 
+-- FIXED BINARY(15)
+abbrev pub short : Description
+short = FixedBinary 15
+
+-- (3)
+abbrev pub three : List Bounds
+three = record { low = pos 1; high = pos 3 } ∷ []
+
+-- the block of Q, in P: PROCEDURE; DECLARE A(3) FIXED BINARY(15); CALL Q('AB', A); Q: PROCEDURE(C, B); DECLARE C
+-- CHARACTER(*), B(*) FIXED BINARY(15); C = '1'; B(1) = HBOUND(B, 1); END; END;
+abbrev pub star_head : BlockHead
+star_head = record { number = 1; statement = 6; variables = []; temporaries = 0 }
+
+-- the block of P
+abbrev pub with_array : BlockHead
+with_array = record {
+  number = 0;
+  statement = 1;
+  variables = record { description = Array three short; initial = [] } ∷ [];
+  temporaries = 0;
+}
+
+-- the statements of Q
+abbrev pub star_statements : TypedStatements
+star_statements =
+    StatementThen (Statement 7 (AssignString (Whole (InSlot 0 0)) (Literal (Characters (codes "1")))))
+    (StatementThen
+    (Statement 8
+    (Assign (ElementOf (InSlot 0 1) (OperandThen (Literal (Number (pos 1))) NoOperand))
+    (Calculated (Fit short) (OperandThen (Bounded High 1 (Whole (InSlot 0 1))) NoOperand)))) NoStatement)
+
+-- the call of it
+abbrev pub star_call : Form
+star_call =
+    Call (OfBlock 1) (ByString Character (Literal (Characters (codes "AB"))) (ByPlace counter NoArgument))
+
+-- P, with this one statement
+abbrev pub star_caller : TypedProcedure
+star_caller = record {
+  is_on_unit = false;
+  head = with_array;
+  parent = None;
+  parameters = 0;
+  function_end = None;
+  statements = StatementThen (Statement 2 star_call) NoStatement;
+}
+
+-- what Q takes, and where it stands
+abbrev pub of_stars : KnownProcedure
+of_stars = record {
+  is_on_unit = false;
+  parent = Some 0;
+  around = block_of with_array [] star_caller.statements ∷ [];
+  parameters = AnyString Character ∷ AnyArray 1 (Stated short) ∷ [];
+  value = None;
+}
+
+-- Q
+abbrev pub star_procedure : TypedProcedure
+star_procedure = record {
+  is_on_unit = false;
+  head = star_head;
+  parent = Some 0;
+  parameters = 2;
+  function_end = None;
+  statements = star_statements;
+}
+
+-- P and Q, by their blocks
+abbrev pub with_stars : (number : ℕ) → Option KnownProcedure
+with_stars n = if nat_eq n 0 then Some of_caller else if nat_eq n 1 then Some of_stars else None
+
+-- Q is well typed, and so is its call
+abbrev pub StarsAreWellTyped : Type 0
+StarsAreWellTyped =
+    AreTypedStatements 31 (context_in [] with_stars of_stars star_procedure) star_statements
+    × IsTypedForm 31 (context_in [] with_stars of_caller star_caller) star_call
+
 -- GOTO L; as an ON-unit in P
 abbrev pub jumping : TypedProcedure
 jumping = record {
@@ -279,7 +362,7 @@ shared = ExternalVariable (codes "X") Static plain
 
 -- what N takes and gives
 abbrev pub numeric : Signature
-numeric = record { parameters = number ∷ []; result = Some number }
+numeric = record { parameters = Stated number ∷ []; result = Some number }
 
 -- X, where it is used
 abbrev pub shared_number : TypedReference

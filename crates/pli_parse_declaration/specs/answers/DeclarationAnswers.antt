@@ -5,9 +5,7 @@ use Rattle.pli_base.specs.Reading.{expected, read_as}
 use Rattle.pli_base.specs.Reading as reading
 use Rattle.pli_base.specs.declared.code.Code.TheVariants.{ConstantExpected}
 use Rattle.pli_base.specs.declared.token.Fault.{Fault}
-use Rattle.pli_parse_declaration.specs.DeclarationReading.{Walk, number_at, scaled_at}
-use Rattle.pli_parse_declaration.specs.declared.extent.Measure.{Measure}
-use Rattle.pli_parse_declaration.specs.declared.extent.Measure.TheVariants.{Length, Precision}
+use Rattle.pli_parse_declaration.specs.DeclarationReading.{Walk}
 use Rattle.pli_parse_declaration.specs.declared.nest.Open.{Open}
 use Rattle.pli_parse_declaration.specs.declared.nest.Expects.{Expects}
 use Rattle.pli_base.specs.declared.reading.Front.{Front}
@@ -25,8 +23,3 @@ number_from p ts (Some x) = read_as x.0 (p + 1) x.1
 abbrev pub level_from : ℕ → Tokens → Option (ℕ × Tokens) → reading.Front (Option ℕ)
 level_from p ts None = record { value = None; next = p; rest = ts }
 level_from p ts (Some x) = record { value = Some x.0; next = p + 1; rest = x.1 }
-
--- a number that says this
-abbrev pub measured_at : Measure → ℕ → Tokens → Result (reading.Front ℕ) Fault
-measured_at Length = number_at
-measured_at Precision = scaled_at

@@ -6,13 +6,15 @@ use Rattle.pli_base.specs.declared.code.Code.TheVariants.{ParenthesisExpected, S
 use Rattle.pli_base.specs.declared.code.Code.TheVariants.{NameExpected, EndMissing, BadAttribute}
 use Rattle.pli_base.specs.declared.code.Code.TheVariants.{ConstantExpected}
 use Rattle.pli_base.specs.declared.token.Sign.TheVariants.{Colon, Semicolon, Comma, Period, OpenParenthesis}
-use Rattle.pli_base.specs.declared.token.Sign.TheVariants.{CloseParenthesis, Minus}
+use Rattle.pli_base.specs.declared.token.Sign.TheVariants.{CloseParenthesis, Minus, Times}
 use Rattle.pli_base.specs.declared.token.TokenText.{TokenText}
 use Rattle.pli_base.specs.declared.token.TokenText.TheVariants.{Word, Decimal, Characters, Sign}
 use Rattle.pli_parse_declaration.specs.DeclarationReading.{declaration_at}
 use Rattle.pli_base.specs.Declarations as tree
 use Rattle.pli_base.specs.declared.syntax.Identifier.{Identifier}
 use Rattle.pli_base.specs.declared.declaration.InitialValue.TheVariants as initial
+use Rattle.pli_base.specs.declared.declaration.WrittenBounds.TheVariants as limits
+use Rattle.pli_base.specs.declared.declaration.WrittenLength.TheVariants as extent
 
 -- the token of a name
 abbrev pub w : List ℕ → TokenText
@@ -64,12 +66,10 @@ Levels =
       level = Some 2;
       names = named (codes "A") 6 ∷ named (codes "B") 8 ∷ [];
       dimensions =
-          record {
-            low = Some (record { negative = false; value = 0 });
-            high = record { negative = false; value = 9 };
-          }
-          ∷ record { low = None; high = record { negative = true; value = 1 } } ∷ [];
-      attributes = tree.Simple (tree.Character (Some 3)) ∷ tree.Simple tree.Varying ∷ [];
+          limits.Stated (Some (record { negative = false; value = 0 }))
+          (record { negative = false; value = 9 })
+          ∷ limits.Stated None (record { negative = true; value = 1 }) ∷ [];
+      attributes = tree.Simple (tree.Character (Some (extent.Stated 3))) ∷ tree.Simple tree.Varying ∷ [];
     } ∷ []) 24 []
 
 -- `F ENTRY(ENTRY(BIT, ENTRY) RETURNS(BIT), (5) BIT) RETURNS(PTR);` keeps nothing of what an ENTRY in a
@@ -85,11 +85,34 @@ Nest =
     tree.Entry (Some (
     record { dimensions = []; attributes = tree.AnyEntry ∷ tree.AnyReturns ∷ [] }
     ∷ record {
-      dimensions = record { low = None; high = record { negative = false; value = 5 } }
-          ∷ [];
+      dimensions = limits.Stated None (record { negative = false; value = 5 }) ∷ [];
       attributes = tree.Plain (tree.Bit None) ∷ [];
     } ∷ []))
     ∷ tree.Returns (tree.Plain tree.Pointer ∷ []) ∷ []) ∷ []) 25 []
+
+-- `P(*, *) CHAR(*);`
+abbrev pub Asterisks : Type 0
+Asterisks =
+    declaration_at 1 (w (codes "P") ∷ left ∷ Sign Times ∷ comma ∷ Sign Times ∷ right ∷ w (codes "CHAR") ∷ left
+    ∷ Sign Times ∷ right ∷ semicolon)
+    ≡ read_as (record {
+      level = None;
+      names = named (codes "P") 1 ∷ [];
+      dimensions = limits.Any ∷ limits.Any ∷ [];
+      attributes = tree.Simple (tree.Character (Some extent.Any)) ∷ [];
+    } ∷ []) 12 []
+
+-- `P(1:*) BIT;`: an asterisk is all that a bound says
+abbrev pub NoAsteriskBehindColon : Type 0
+NoAsteriskBehindColon =
+    declaration_at 1 (w (codes "P") ∷ left ∷ Decimal 1 1 ∷ Sign Colon ∷ Sign Times ∷ right ∷ w (codes "BIT")
+    ∷ semicolon) ≡ at_fault ConstantExpected 5
+
+-- `X FIXED(*);`: a precision is a number
+abbrev pub NoAsteriskAsPrecision : Type 0
+NoAsteriskAsPrecision =
+    declaration_at 1 (w (codes "X") ∷ w (codes "FIXED") ∷ left ∷ Sign Times ∷ right ∷ semicolon)
+    ≡ at_fault ConstantExpected 4
 
 -- `X BASED(S.P) INIT((2) -3, NULL, 'A');`
 abbrev pub Values : Type 0

@@ -14,7 +14,8 @@ use Rattle.pli_declare_tables.specs.Tables.{Entity, AsItem, AsLabel, AsProcedure
 use Rattle.pli_declare_tables.specs.Tables.{entries_in, unit_entries}
 use Rattle.pli_declare_variables.specs.Declarations.{returned_by}
 use Rattle.pli_resolve.specs.ResolvedUnits.{ResolvedUnit, resolved_unit_of, symbol_at, block_regions_of}
-use Rattle.pli_resolve.specs.Symbols.{Symbol, SymbolKind, Variable, Member, Label, Procedure, BuiltIn}
+use Rattle.pli_resolve.specs.Symbols.{Symbol, SymbolKind, Variable, OpenParameter, Member, Label, Procedure}
+use Rattle.pli_resolve.specs.Symbols.{BuiltIn}
 use Rattle.pli_resolve.specs.Symbols as symbols
 use Rattle.pli_resolve.specs.laws.MemberLaws.{member_at}
 use Rattle.pli_resolve.specs.declared.block_numbers.BlockRegion.{BlockRegion}
@@ -109,6 +110,7 @@ ClassNames r names other = Unit {0}
 abbrev pub KindNames : ResolvedUnit → Entity → SymbolKind → Type 0
 KindNames r e (Variable description class scope initial area) =
     ClassNames r (locator_names e) class × Means (IsArea r) (area_names e) area
+KindNames r e (OpenParameter type slot area) = Means (IsArea r) (area_names e) area
 KindNames r e (Member root path initial area) = Means (IsArea r) (area_names e) area
 KindNames r e (Label statement) = Unit {0}
 KindNames r e (Procedure block returned area) = Means (IsArea r) (area_names e) area

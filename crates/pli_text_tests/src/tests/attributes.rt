@@ -5,9 +5,9 @@ use pli_base::declaration::Item;
 use pli_base::{Code, TokenText};
 use pli_declare_attributes::{
     Completed, ItemFacts, ItemPlace, Named, Position, array_layout, completed_item,
-    completed_result, elements_within, item_fault, lesser, result_fault, scalar_layout,
+    completed_result, elements_within, has_star, item_fault, lesser, result_fault, scalar_layout,
 };
-use pli_map::Description;
+use pli_map::{Description, ParameterType, StringForm};
 use pli_parse_declaration::{declaration_at, returned_at};
 use std::alloc::Global;
 use std::process::Abort;
@@ -73,6 +73,62 @@ fn items(rt: HostRuntime) {
     drop(tokens);
     let (less, more) = (Some(Code::AttributesConflict), Some(Code::BadBounds));
     assert!(rt; is_right && lesser(more, less) == less && lesser(None, more) == more);
+}
+
+/// A parameter.
+const PASSED: ItemPlace = ItemPlace {
+    position: Position::Parameter,
+    has_members: false,
+    in_array: false,
+    elements_above: Some(1),
+    built_in_name: false,
+};
+
+/// Whether a type is that of arrays of one dimension, of any bounds, of strings of any length.
+fn is_any_row(taken: &ParameterType) -> bool {
+    let strings = ParameterType::of_strings(StringForm::Character);
+    match taken {
+        ParameterType::AnyArray {
+            dimensions,
+            element,
+        } => *dimensions == 1 && element.equals(&strings),
+        _ => false,
+    }
+}
+
+/// Whether a parameter is of such a type, and what is no parameter may not be.
+fn is_open(rt: &impl Abort, alloc: Global, item: &Item) -> bool {
+    let facts = ItemFacts::of(alloc, item).expect(rt, "memory");
+    let completed = completed_item(alloc, PASSED, &facts)
+        .ok()
+        .expect(rt, "an item");
+    let is_taken = match &completed {
+        Completed::Variable(variable) => match &variable.taken {
+            Some(taken) => is_any_row(taken),
+            None => false,
+        },
+        _ => false,
+    };
+    is_taken
+        && has_star(&item.attributes, &item.dimensions)
+        && item_fault(ALONE, &facts) == Some(Code::BadLength)
+}
+
+/// Whether the one item of a declaration is open.
+fn is_declared_open(rt: &impl Abort, alloc: Global, tokens: &[TokenText]) -> bool
+    requires { length tokens.now ≤ 200000 }
+{
+    let read = declaration_at(alloc, 0, tokens).ok().expect(rt, "items");
+    match read.value.as_slice() {
+        [item] => is_open(rt, alloc, item),
+        _ => false,
+    }
+}
+
+#[test]
+fn asterisks(rt: HostRuntime) {
+    let tokens = tokens_of(&rt, rt.alloc(), "X(*) CHAR(*);");
+    assert!(rt; is_declared_open(&rt, rt.alloc(), &tokens));
 }
 
 /// Whether what RETURNS says is VARYING of three characters.

@@ -11,6 +11,7 @@ use Rattle.pli_base.specs.declared.code.Code.TheVariants.{WrongNumberOfSubscript
 use Rattle.pli_base.specs.declared.code.Code.TheVariants.{LocatorMissingOrNotAllowed, CannotAllocateOrFree}
 use Rattle.pli_base.specs.declared.code.Code.TheVariants.{WrongBuiltInArgument}
 use Rattle.pli_base.specs.declared.syntax.Joining.TheVariants.{Member, Located}
+use Rattle.pli_map.specs.ParameterTypes.{Stated}
 use Rattle.pli_map.specs.Description.{Description, FixedBinary, Bit, Structure, NoMembers, MemberThen}
 use Rattle.pli_resolve.specs.declared.built_in.BuiltInFunction.TheVariants as functions
 use Rattle.pli_type.specs.ExpressionTypes.{with_one}
@@ -24,7 +25,12 @@ use Rattle.pli_type_tree.specs.TypedTree.{FreesControlled}
 -- a CONTROLLED variable, or a member, by the number of its global
 abbrev pub controlled : (number : ℕ) → Description → (path : List ℕ) → NamedAs
 controlled number d path =
-    AVariable (record { storage = Begins (NewestOf number) false; whole = d; path = path; area = None })
+    AVariable (record {
+      storage = Begins (NewestOf number) false;
+      whole = Stated d;
+      path = path;
+      area = None;
+    })
 
 -- K
 abbrev pub k : NamedAs

@@ -10,6 +10,7 @@ use Rattle.pli_base.specs.declared.code.Code.TheVariants.{WrongOperandType, Cann
 use Rattle.pli_base.specs.declared.code.Code.TheVariants.{LocatorMissingOrNotAllowed, CannotAllocateOrFree}
 use Rattle.pli_base.specs.declared.code.Code.TheVariants.{WrongNumberOfArguments, WrongBuiltInArgument}
 use Rattle.pli_base.specs.declared.syntax.InfixOperator.TheVariants as infixes
+use Rattle.pli_map.specs.ParameterTypes.{Stated}
 use Rattle.pli_map.specs.Description as described
 use Rattle.pli_map.specs.Description.{FixedBinary, Area}
 use Rattle.pli_operation.specs.declared.operation.Operation.TheVariants.{Compare}
@@ -39,7 +40,7 @@ d = alone 16 (Area 32)
 abbrev pub o : NamedAs
 o = AVariable (record {
   storage = Begins (InSlot 0 14) false;
-  whole = described.Offset;
+  whole = Stated described.Offset;
   path = [];
   area = Some (beginnings.InSlot 0 13);
 })
@@ -52,7 +53,7 @@ w = alone 15 described.Offset
 abbrev pub l : NamedAs
 l = AVariable (record {
   storage = IsBased 1 0 (Some (OfOffset (Whole (InSlot 0 14)) (beginnings.InSlot 0 13)));
-  whole = FixedBinary 15;
+  whole = Stated (FixedBinary 15);
   path = [];
   area = None;
 })

@@ -8,6 +8,7 @@ use Rattle.pli_base.specs.Syntax.{Expressions, Empty, Listed}
 use Rattle.pli_base.specs.declared.code.Code.TheVariants.{WrongOperandType, CannotAssign}
 use Rattle.pli_base.specs.declared.code.Code.TheVariants.{WrongNumberOfArguments, WrongArgument}
 use Rattle.pli_base.specs.declared.code.Code.TheVariants.{NotCallableHere, BadControlVariable}
+use Rattle.pli_map.specs.ParameterTypes.{Stated}
 use Rattle.pli_map.specs.Description.{FixedBinary}
 use Rattle.pli_type.specs.Checked.{in_unit, first_inside}
 use Rattle.pli_type.specs.ExpressionTypes.{with_one}
@@ -63,7 +64,12 @@ ControlVariables =
 
 -- S: PROC(P); DCL P FIXED BIN(31);
 abbrev pub s : NamedAs
-s = AProcedure (record { callee = OfBlock 1; parameters = FixedBinary 31 ∷ []; returned = None; area = None })
+s = AProcedure (record {
+  callee = OfBlock 1;
+  parameters = Stated (FixedBinary 31) ∷ [];
+  returned = None;
+  area = None;
+})
 
 -- F, which RETURNS(FIXED BIN(31)) and has no parameter
 abbrev pub f : NamedAs

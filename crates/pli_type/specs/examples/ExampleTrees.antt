@@ -15,6 +15,7 @@ use Rattle.pli_base.specs.declared.code.Code.{Code}
 use Rattle.pli_base.specs.declared.syntax.ConstantValue.TheVariants.{Decimal, Binary, Characters, Bits}
 use Rattle.pli_base.specs.declared.syntax.Identifier.{Identifier}
 use Rattle.pli_base.specs.declared.token.Fault.{Fault}
+use Rattle.pli_map.specs.ParameterTypes.{Stated}
 use Rattle.pli_map.specs.Description.{Description, FixedBinary, Character, Varying, Bit, Array, Structure}
 use Rattle.pli_map.specs.Description.{NoMembers, MemberThen}
 use Rattle.pli_map.specs.declared.description.Bounds.{Bounds}
@@ -48,7 +49,7 @@ array high d = Array (between 1 high ∷ []) d
 -- a variable of its own, or a member, of the variable in a slot
 abbrev pub variable : (slot : ℕ) → Description → (path : List ℕ) → NamedAs
 variable slot d path =
-    AVariable (record { storage = Begins (InSlot 0 slot) false; whole = d; path = path; area = None })
+    AVariable (record { storage = Begins (InSlot 0 slot) false; whole = Stated d; path = path; area = None })
 
 -- a variable of its own, in a slot
 abbrev pub alone : (slot : ℕ) → Description → NamedAs

@@ -14,6 +14,7 @@ use Rattle.pli_base.specs.Statements.{Main, Ended}
 use Rattle.pli_base.specs.declared.declaration.InitialValue.{InitialValue}
 use Rattle.pli_base.specs.declared.declaration.InitialValue.TheVariants as initial
 use Rattle.pli_declare_attributes.specs.declared.completed.ScopeAttribute.TheVariants as scopes
+use Rattle.pli_map.specs.ParameterTypes.{Stated}
 use Rattle.pli_map.specs.Description.{Description, FixedBinary, Bit, Pointer, Offset, Area, Structure}
 use Rattle.pli_map.specs.Description.{NoMembers, MemberThen}
 use Rattle.pli_program.specs.declared.kind.VariableKind.TheVariants.{Static, Controlled}
@@ -64,7 +65,8 @@ declared =
     ∷ symbol (codes "Y")
     (own (FixedBinary 15) classes.Automatic
     (initial.Integer None (record { negative = false; value = 3 }) ∷ []))
-    ∷ symbol (codes "E") (Entry (Bit 1 ∷ []) (Some Offset) (Some (record { block = 0; number = 13 })))
+    ∷ symbol (codes "E") (Entry (Stated (Bit 1) ∷ []) (Some Offset)
+    (Some (record { block = 0; number = 13 })))
     ∷ symbol (codes "Z") (Variable (Bit 1) classes.Static scopes.External [] None)
     ∷ symbol (codes "C") (own (Bit 1) classes.Controlled (initial.Bits (true ∷ []) ∷ []))
     ∷ symbol (codes "D") (Variable (Bit 1) classes.Controlled scopes.External [] None)
@@ -121,7 +123,7 @@ meant_at at = named_as 63 resolved (0 ∷ []) (used at)
 -- a variable of its own, or a member, that is no OFFSET
 abbrev pub variable : NamedStorage → Description → (path : List ℕ) → NamedAs
 variable storage whole path =
-    AVariable (record { storage = storage; whole = whole; path = path; area = None })
+    AVariable (record { storage = storage; whole = Stated whole; path = path; area = None })
 
 -- B is a member of a global, Y stands in the second slot, ABS is a built-in function, M the procedure, E an
 -- entry whose offsets are of the area in the fourth slot, Z a global, C the newest generation of one; F is
@@ -138,7 +140,7 @@ NamesOfUnit =
     × (meant_at 58
     ≡ AProcedure (record {
       callee = OfEntry 1;
-      parameters = Bit 1 ∷ [];
+      parameters = Stated (Bit 1) ∷ [];
       returned = Some Offset;
       area = Some (beginnings.InSlot 0 3);
     }))
@@ -149,7 +151,7 @@ NamesOfUnit =
     × (meant_at 68
     ≡ AVariable (record {
       storage = Begins (InSlot 0 4) false;
-      whole = holder;
+      whole = Stated holder;
       path = 0 ∷ [];
       area = Some (beginnings.InSlot 0 3);
     }))
@@ -173,7 +175,7 @@ VariablesOfUnit =
     × ((named_unit 63 resolved).globals
     ≡ OwnVariable Static
     (record { description = pair; initial = record { offset = 1; value = Bits (true ∷ []) } ∷ [] })
-    ∷ EntryPoint (codes "E") (record { parameters = Bit 1 ∷ []; result = Some Offset })
+    ∷ EntryPoint (codes "E") (record { parameters = Stated (Bit 1) ∷ []; result = Some Offset })
     ∷ ExternalVariable (codes "Z") Static (record { description = Bit 1; initial = [] })
     ∷ OwnVariable Controlled
     (record { description = Bit 1; initial = record { offset = 0; value = Bits (true ∷ []) } ∷ [] })

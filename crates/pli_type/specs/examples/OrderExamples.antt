@@ -6,6 +6,7 @@
 use Rattle.std.specs.Prelude.{◌≡◌, ℕ, false, Some, None, [], ◌∷◌, codes}
 use Rattle.pli_base.specs.Statements.{Main, Numbered, Declare, Begin, Ended, Before}
 use Rattle.pli_declare_attributes.specs.declared.completed.ScopeAttribute.TheVariants as scopes
+use Rattle.pli_map.specs.ParameterTypes.{Stated}
 use Rattle.pli_map.specs.Description.{Description, Character, Bit}
 use Rattle.pli_program.specs.declared.kind.VariableKind.TheVariants.{Static}
 use Rattle.pli_resolve.specs.ResolvedUnits.{ResolvedUnit}
@@ -67,9 +68,19 @@ GlobalsOfUnit =
     ≡ ExternalVariable (codes "Z") Static (record { description = Bit 1; initial = [] })
     ∷ ExternalVariable (codes "Z") Static (record { description = Character 1; initial = [] }) ∷ [])
     × (shared_in 0
-    ≡ AVariable (record { storage = Begins (OfProgram 1) false; whole = Character 1; path = []; area = None }))
+    ≡ AVariable (record {
+      storage = Begins (OfProgram 1) false;
+      whole = Stated (Character 1);
+      path = [];
+      area = None;
+    }))
     × (shared_in 1
-    ≡ AVariable (record { storage = Begins (OfProgram 0) false; whole = Bit 1; path = []; area = None }))
+    ≡ AVariable (record {
+      storage = Begins (OfProgram 0) false;
+      whole = Stated (Bit 1);
+      path = [];
+      area = None;
+    }))
 
 -- by numbers alone: the tokens 30, 10, 20 and 10
 abbrev pub TokensInOrder : Type 0

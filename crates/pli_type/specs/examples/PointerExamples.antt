@@ -15,6 +15,7 @@ use Rattle.pli_base.specs.declared.code.Code.TheVariants.{WrongNumberOfArguments
 use Rattle.pli_base.specs.declared.syntax.InfixOperator.{InfixOperator}
 use Rattle.pli_base.specs.declared.syntax.InfixOperator.TheVariants as infixes
 use Rattle.pli_base.specs.declared.syntax.Joining.TheVariants.{Member, Located}
+use Rattle.pli_map.specs.ParameterTypes.{Stated}
 use Rattle.pli_map.specs.Description as described
 use Rattle.pli_map.specs.Description.{Description, FixedBinary, Bit, Structure, NoMembers, MemberThen}
 use Rattle.pli_resolve.specs.declared.built_in.BuiltInFunction.TheVariants as functions
@@ -38,7 +39,7 @@ abbrev pub based : (number : ℕ) → Description → (path : List ℕ) → Name
 based number d path =
     AVariable (record {
       storage = IsBased 1 number (Some (OfPointer (Whole (InSlot 0 12))));
-      whole = d;
+      whole = Stated d;
       path = path;
       area = None;
     })
@@ -49,7 +50,7 @@ k = based 0 (FixedBinary 15) []
 
 -- F
 abbrev pub f : NamedAs
-f = AVariable (record { storage = IsBased 1 1 None; whole = FixedBinary 15; path = []; area = None })
+f = AVariable (record { storage = IsBased 1 1 None; whole = Stated (FixedBinary 15); path = []; area = None })
 
 -- what B is
 abbrev pub b_whole : Description
@@ -65,7 +66,7 @@ b_y = based 2 b_whole (0 ∷ [])
 
 -- Z
 abbrev pub z : NamedAs
-z = AVariable (record { storage = Begins (InSlot 0 0) true; whole = Bit 1; path = []; area = None })
+z = AVariable (record { storage = Begins (InSlot 0 0) true; whole = Stated (Bit 1); path = []; area = None })
 
 -- NULL
 abbrev pub null_function : NamedAs

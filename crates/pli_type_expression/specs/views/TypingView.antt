@@ -1,6 +1,6 @@
 -- What references and expressions with their types say, apart from where they lie in memory.
 use Rattle.std.specs.Prelude.{ℕ, List, map}
-use Rattle.pli_map.specs.views.DescriptionView.{description_view}
+use Rattle.pli_map.specs.views.ParameterView.{type_seen}
 use Rattle.pli_type.specs.FunctionCalls as calls
 use Rattle.pli_type.specs.Names as names
 use Rattle.pli_type.specs.References as references
@@ -35,7 +35,7 @@ abbrev pub referent_view : Referent → references.Referent
 referent_view r =
     record {
       reference = reference_view r.reference;
-      description = description_view r.description.now;
+      description = type_seen r.description;
       is_parameter = r.is_parameter;
       area = r.area;
     }

@@ -3,6 +3,7 @@ use Rattle.std.specs.Prelude.{◌≡◌, ℕ, List, map, option_map, slice_get}
 use Rattle.pli_base.specs.declared.statement.Procedure.{Procedure}
 use Rattle.pli_base.specs.views.StatementView.{unit_view}
 use Rattle.pli_map.specs.views.DescriptionView.{description_view}
+use Rattle.pli_map.specs.views.ParameterView.{type_seen}
 use Rattle.pli_resolve.specs.ResolvedUnits.{resolved_unit_of}
 use Rattle.pli_type_names.specs.BlockEntries as plain
 use Rattle.pli_type_names.specs.BlockEntries.{entry_at}
@@ -13,7 +14,7 @@ abbrev pub entry_view : BlockEntry → plain.BlockEntry
 entry_view e = record {
   is_named = e.is_named;
   outer = e.outer;
-  parameters = map (λ d. description_view d.now) e.parameters.items;
+  parameters = map type_seen e.parameters.items;
   returned = option_map (λ d. description_view d.now) e.returned;
   area = e.area;
 }

@@ -4,6 +4,7 @@ use Rattle.std.specs.Global.{Global}
 use Rattle.pli_base.specs.declared.statement.Procedure.{Procedure}
 use Rattle.pli_base.specs.views.StatementView.{unit_view}
 use Rattle.pli_map.specs.views.DescriptionView.{description_view}
+use Rattle.pli_map.specs.views.ParameterView.{type_seen}
 use Rattle.pli_resolve.specs.ResolvedUnits.{resolved_unit_of}
 use Rattle.pli_type.specs.Names as plain
 use Rattle.pli_type_names.specs.BlockFacts.{facts_of}
@@ -23,7 +24,7 @@ use Rattle.pli_type_tree.specs.views.TypedView.{callee_view}
 abbrev pub procedure_view : NamedProcedure → plain.NamedProcedure
 procedure_view p = record {
   callee = callee_view p.callee;
-  parameters = map (λ d. description_view d.now) p.parameters.now;
+  parameters = map type_seen p.parameters.now;
   returned = option_map (λ d. description_view d.now) p.returned;
   area = p.area;
 }
@@ -31,8 +32,8 @@ procedure_view p = record {
 -- what a name means where it is used
 abbrev pub answer_view : NamedAs → Seen
 answer_view (answers.Variable v) =
-    SeenVariable (storage_view v.storage) (description_view v.whole.now) v.is_member
-    (option_map part_view v.part.now) v.area
+    SeenVariable (storage_view v.storage) (type_seen v.whole) v.is_member (option_map part_view v.part.now)
+    v.area
 answer_view (answers.Function f) = SeenFunction f
 answer_view (answers.Procedure p) = SeenProcedure (procedure_view p)
 answer_view (answers.Label statement) = SeenLabel statement
@@ -41,11 +42,10 @@ answer_view answers.Untyped = SeenUntyped
 -- what a name means wherever it is used
 abbrev pub meant_view : SymbolMeaning → Kept
 meant_view (meanings.Variable begins whole is_member part area) =
-    KeptVariable begins (description_view whole.now) is_member (option_map part_view part) area
+    KeptVariable begins (type_seen whole) is_member (option_map part_view part) area
 meant_view (meanings.Procedure block) = KeptProcedure block
 meant_view (meanings.Entry number parameters returned area) =
-    KeptEntry number (map (λ d. description_view d.now) parameters.items)
-    (option_map (λ d. description_view d.now) returned) area
+    KeptEntry number (map type_seen parameters.items) (option_map (λ d. description_view d.now) returned) area
 meant_view (meanings.Label statement) = KeptLabel statement
 meant_view meanings.Untyped = KeptNothing
 

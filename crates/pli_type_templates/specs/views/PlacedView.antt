@@ -2,6 +2,7 @@
 use Rattle.std.specs.Prelude.{ℕ, Option, Some, None, List, [], ◌∷◌, map, option_map}
 use Rattle.pli_declare_outline.specs.Outlines.{PlacedMark}
 use Rattle.pli_map.specs.views.DescriptionView.{description_view}
+use Rattle.pli_map.specs.views.ParameterView.{type_view}
 use Rattle.pli_type.specs.NamedUnits as units
 use Rattle.pli_type_templates.specs.ItemNames.{HasEntry}
 use Rattle.pli_type_templates.specs.declared.placed_globals.PlacedGlobal.{PlacedGlobal}
@@ -17,7 +18,7 @@ unit_global_view (globals.ExternalVariable name kind made) =
     plain.ExternalVariable name kind (made_template made)
 unit_global_view (globals.EntryPoint name parameters returned) =
     plain.EntryPoint name (record {
-      parameters = map description_view parameters.now;
+      parameters = map type_view parameters.now;
       result = option_map (λ d. description_view d.now) returned;
     })
 
@@ -39,8 +40,7 @@ abbrev pub HasGlobal : List PlacedMark → (at : ℕ) → UnitGlobal → Type 0
 HasGlobal marks at (globals.OwnVariable kind made) = HasMadeItem marks made
 HasGlobal marks at (globals.ExternalVariable name kind made) = HasMadeItem marks made
 HasGlobal marks at (globals.EntryPoint name parameters returned) =
-    HasEntry marks at (map description_view parameters.now)
-    (option_map (λ d. description_view d.now) returned)
+    HasEntry marks at (map type_view parameters.now) (option_map (λ d. description_view d.now) returned)
 
 -- the same of a global with its token
 abbrev pub HasGlobalItem : List PlacedMark → PlacedGlobal → Type 0

@@ -14,7 +14,7 @@ use Rattle.pli_type_tree.specs.declared.expression.Callee.{Callee}
 use Rattle.pli_type_tree.specs.declared.expression.TypedExpression.{TypedExpression, Calculated, Called}
 use Rattle.pli_type_tree.specs.declared.expression.TypedExpression.{AsPointer, AsOffset}
 use Rattle.pli_type_tree.specs.declared.expression.TypedOperation.{TypedOperation}
-use Rattle.pli_type_tree.specs.declared.expression.TypedReference.{TypedReference, Part}
+use Rattle.pli_type_tree.specs.declared.expression.TypedReference.{TypedReference, Part, ElementOf}
 use Rattle.pli_type_tree.specs.declared.expression.TypedSubscript.{TypedSubscript}
 use Rattle.pli_type_tree.specs.declared.expression.TypedArgument.{TypedArgument}
 use Rattle.pli_type_tree.specs.declared.expression.Root.TheBlock as block
@@ -68,6 +68,15 @@ part_made root offset description subscripts =
     ap (plain.Part (root_view root) offset (description_view description))
     (subscripts_row _ (block.hidden-the_row-TypedSubscript-2 subscripts)
     ∙ ap subscripts_view (block.items_hidden-the_row-TypedSubscript-2 subscripts))
+
+-- an element of an array whose extents are those of the argument
+pub element_made : (root : Root) (subscripts : Vec TypedExpression Global)
+    → reference_view (ElementOf root subscripts)
+    ≡ plain.ElementOf (root_view root) (operands_view subscripts.items)
+element_made root subscripts =
+    ap (plain.ElementOf (root_view root))
+    (operands_row _ (block.hidden-the_row-TypedExpression-0 subscripts)
+    ∙ ap operands_view (block.items_hidden-the_row-TypedExpression-0 subscripts))
 
 -- at what a pointer leads to
 pub located_made : (locator : Box TypedExpression Global) (description : Description)

@@ -2,6 +2,7 @@
 use Rattle.std.specs.Prelude.{List, option_map, map}
 use Rattle.std.specs.List.{flat_map}
 use Rattle.pli_map.specs.views.DescriptionView.{description_view}
+use Rattle.pli_map.specs.views.ParameterView.{type_view}
 use Rattle.pli_type_tree.specs.TypedTree as plain
 use Rattle.pli_type_tree.specs.views.TemplateView.{template_view, group_view}
 use Rattle.pli_type_tree.specs.declared.unit.GlobalGroup.{GlobalGroup}
@@ -11,7 +12,7 @@ use Rattle.pli_type_tree.specs.declared.unit.Signature.{Signature}
 -- what an external procedure takes and gives
 abbrev pub signature_view : Signature → plain.Signature
 signature_view s = record {
-  parameters = map description_view s.parameters.items;
+  parameters = map type_view s.parameters.items;
   result = option_map description_view s.result;
 }
 

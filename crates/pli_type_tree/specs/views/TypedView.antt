@@ -14,7 +14,7 @@ use Rattle.pli_type_tree.specs.declared.expression.Stride.{Stride}
 use Rattle.pli_type_tree.specs.declared.expression.TypedExpression.{TypedExpression, Literal, Held}
 use Rattle.pli_type_tree.specs.declared.expression.TypedExpression.{Generations, Address}
 use Rattle.pli_type_tree.specs.declared.expression.TypedExpression.{Calculated', Called'}
-use Rattle.pli_type_tree.specs.declared.expression.TypedExpression.{AsPointer', AsOffset'}
+use Rattle.pli_type_tree.specs.declared.expression.TypedExpression.{AsPointer', AsOffset', Bounded}
 use Rattle.pli_type_tree.specs.declared.expression.Root.TheBlock.{Row_of-TypedExpression}
 use Rattle.pli_type_tree.specs.declared.expression.Root.TheBlock.{end_of-TypedExpression}
 use Rattle.pli_type_tree.specs.declared.expression.Root.TheBlock.{more_of-TypedExpression}
@@ -27,8 +27,8 @@ use Rattle.pli_type_tree.specs.declared.expression.Root.TheBlock.{more_of-TypedA
 use Rattle.pli_type_tree.specs.declared.expression.TypedOperation.{TypedOperation}
 use Rattle.pli_type_tree.specs.declared.expression.TypedOperation.TheVariants as operations
 use Rattle.pli_type_tree.specs.declared.expression.TypedSubscript.{TypedSubscript}
-use Rattle.pli_type_tree.specs.declared.expression.TypedReference.{TypedReference, Whole, Part'}
-use Rattle.pli_type_tree.specs.declared.expression.TypedArgument.{TypedArgument, ByPlace, ByDummy}
+use Rattle.pli_type_tree.specs.declared.expression.TypedReference.{TypedReference, Whole, Part', ElementOf'}
+use Rattle.pli_type_tree.specs.declared.expression.TypedArgument.{TypedArgument, ByPlace, ByDummy, ByString}
 use Rattle.pli_type_tree.specs.declared.iteration.Iteration.{Iteration}
 use Rattle.pli_type_tree.specs.declared.iteration.TypedRange.{TypedRange}
 use Rattle.pli_type_tree.specs.declared.iteration.TypedRange.TheVariants as ranges
@@ -42,7 +42,7 @@ use Rattle.pli_type_tree.specs.declared.statement.Form.{Form, Null, Assign, Assi
 use Rattle.pli_type_tree.specs.declared.statement.Form.{EmptyArea, Put, If', Begin'}
 use Rattle.pli_type_tree.specs.declared.statement.Form.{Group', While', Iterate', Call, Goto, Return}
 use Rattle.pli_type_tree.specs.declared.statement.Form.{ReturnValue, Stop, On, Revert, Signal, Allocate}
-use Rattle.pli_type_tree.specs.declared.statement.Form.{Free}
+use Rattle.pli_type_tree.specs.declared.statement.Form.{Free, AssignString}
 use Rattle.pli_type_tree.specs.declared.statement.Form.{Held-Form-If-2, None', Some', Row_of-TypedStatement}
 use Rattle.pli_type_tree.specs.declared.statement.Form.{end_of-TypedStatement, more_of-TypedStatement}
 use Rattle.pli_type_tree.specs.declared.unit.TypedProcedure.{TypedProcedure}
@@ -77,6 +77,8 @@ abbrev mutual
       plain.AsPointer (reference_view area) (expression_view offset)
   expression_view (AsOffset' area p pointer) =
       plain.AsOffset (reference_view area) (expression_view pointer)
+  expression_view (Bounded which dimension variable) =
+      plain.Bounded which dimension (reference_view variable)
 
   -- where a reference begins
   pub root_view : Root → plain.Root
@@ -91,6 +93,8 @@ abbrev mutual
   reference_view (Whole root) = plain.Whole (root_view root)
   reference_view (Part' root offset description shape subscripts) =
       plain.Part (root_view root) offset (description_view description) (subscript_row subscripts)
+  reference_view (ElementOf' root shape subscripts) =
+      plain.ElementOf (root_view root) (operand_row subscripts)
 
   -- operands as they lie in a list
   pub operand_row : {m : _} → Row_of-TypedExpression m → plain.Operands
@@ -113,6 +117,7 @@ abbrev mutual
   argument_before (ByPlace variable) more = plain.ByPlace (reference_view variable) more
   argument_before (ByDummy description value) more =
       plain.ByDummy (description_view description) (expression_view value) more
+  argument_before (ByString form value) more = plain.ByString form (expression_view value) more
 
 -- lists as they stand in vectors
 abbrev pub operands_view : List TypedExpression → plain.Operands
@@ -146,6 +151,7 @@ conversion_view (conversions.ByOperations list) =
     plain.ByOperations (map operation_view list.items)
 conversion_view (conversions.AsPointerIn area) = plain.AsPointerIn (reference_view area)
 conversion_view (conversions.AsOffsetIn area) = plain.AsOffsetIn (reference_view area)
+conversion_view (conversions.ToPlace list) = plain.ToPlace (map operation_view list.items)
 
 -- TO and BY, or REPEAT
 abbrev pub range_view : TypedRange → plain.TypedRange
@@ -153,6 +159,7 @@ range_view ranges.Once = plain.Once
 range_view (ranges.ToBy to by) = plain.ToBy (expression_view to) (option_map expression_view by)
 range_view (ranges.ByTo by to) = plain.ByTo (expression_view by) (option_map expression_view to)
 range_view (ranges.Repeated next) = plain.Repeated (expression_view next)
+range_view (ranges.RepeatedString next) = plain.RepeatedString (expression_view next)
 
 -- what controls an iteration
 abbrev pub iteration_view : Iteration → plain.Iteration
@@ -186,6 +193,8 @@ abbrev mutual
   pub form_view : Form → plain.Form
   form_view Null = plain.Null
   form_view (Assign target value) = plain.Assign (reference_view target) (expression_view value)
+  form_view (AssignString target value) =
+      plain.AssignString (reference_view target) (expression_view value)
   form_view (AssignAggregate target source) =
       plain.AssignAggregate (reference_view target) (reference_view source)
   form_view (AssignArea target source) = plain.AssignArea (reference_view target) (reference_view source)

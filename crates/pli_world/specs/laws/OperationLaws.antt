@@ -5,6 +5,7 @@ use Rattle.std.specs.Prelude.{Some, None, List, [], ◌∷◌, ◌++◌, length,
 use Rattle.std.proofs.Common.{◌≡◌, ◌<◌, ◌≤◌, sym, ap, ◌∙◌, subst, arith, append_assoc, append-nil, le-leb}
 use Rattle.std.proofs.lemmas.Bool.{lt-leb}
 use Rattle.pli_map.specs.Description.{Description}
+use Rattle.pli_map.specs.Dimensions.{ArrayDimension, dimension_at}
 use Rattle.pli_run.specs.Print.{print}
 use Rattle.pli_run.specs.declared.ending.RunError.TheVariants.{StorageLimit, SubscriptRange}
 use Rattle.pli_run.specs.declared.ending.RunError.TheVariants.{DescriptionMismatch, FixedOverflow}
@@ -18,6 +19,7 @@ use Rattle.pli_value.specs.declared.locator.Locator.{Locator}
 use Rattle.pli_value.specs.declared.locator.Locator.TheVariants.{Null, Pointer, Offset}
 use Rattle.pli_value.specs.declared.number.Raised.TheVariants as raised
 use Rattle.pli_operation.specs.Operations.{Calculates, RaisesCondition, OutOfString, Misfits}
+use Rattle.pli_operation.specs.Operations.{string_fitted_to}
 use Rattle.pli_world.specs.Activations.{Activation, activation_at, outward_from, with_newest, without_newest}
 use Rattle.pli_world.specs.Activations.{with_on_unit}
 use Rattle.pli_world.specs.Storage.{Block, Generation, Automatic, Static as AsStatic, Controlled, Based}
@@ -52,9 +54,12 @@ use Rattle.pli_world.specs.Locating.{pointer_within}
 use Rattle.pli_world.specs.Stacks.{stack_of, stacked, without_newest_of, unstacked}
 use Rattle.pli_world.specs.Stacks.{count_limit, counted, stack_standing, stack_named}
 use Rattle.pli_world.specs.Stacks.{generation_stacked, generation_unstacked, generations_counted}
+use Rattle.pli_world.specs.Strings.{StringDummy, string_dummy, made_dummy, string_dummy_of, subscripted_in}
+use Rattle.pli_world.specs.Strings.{subscripted_by, bound_at, bound_of_place, string_as}
 use Rattle.pli_world.specs.laws.Operations.{IsPrefix, Follows, AnswerFollows, MakingKeeps, LoadingKeeps}
 use Rattle.pli_world.specs.laws.Operations.{StoringKeeps, PartsHeldKeep, PartsStoredKeep, CopyingKeeps}
 use Rattle.pli_world.specs.laws.Operations.{LeadingKeeps, SubscriptKeeps, CalculatingKeeps, WalkingKeeps}
+use Rattle.pli_world.specs.laws.Operations.{DimensionKeeps, BoundKeeps, FittingKeeps, StringDummyKeeps}
 use Rattle.pli_world.specs.laws.Operations.{SlotKeeps}
 use Rattle.pli_world.specs.laws.Operations.{StaticKeeps, StaticsKeep, StackingKeeps, UnstackingKeeps}
 use Rattle.pli_world.specs.laws.Operations.{CountingKeeps, BasedKeeps, AllocatingKeeps, FreeingKeeps}
@@ -234,15 +239,36 @@ leading_keeps offset d p w =
     guarded (height w) w (nat_le (p.offset + offset) offset_limit) (Yields (field_of offset d p) w)
     (follows_same w)
 
+-- where a subscript is within its bounds
+within_bounds : (w : World) (a : Answer Place) (within : Bool) → AnswerFollows (height w) w a
+    → AnswerFollows (height w) w (if within then a else Raises SubscriptRange w)
+within_bounds w a true f = f
+within_bounds w a false f = follows_same w
+
 pub subscript_keeps : SubscriptKeeps
 subscript_keeps low high multiplier x p w =
-    by (led_on (unsigned_abs (x -ℤ low) * multiplier) p.description p w) (int_le low x && int_le x high)
+    within_bounds w (led_on (unsigned_abs (x -ℤ low) * multiplier) p.description p w)
+    (int_le low x && int_le x high)
     (leading_keeps (unsigned_abs (x -ℤ low) * multiplier) p.description p w)
+
+pub dimension_keeps : DimensionKeeps
+unfolding subscripted_by
+dimension_keeps k x p w = by (dimension_at p.description k)
   where
-    by : (a : Answer Place) (within : Bool) → AnswerFollows (height w) w a
-        → AnswerFollows (height w) w (if within then a else Raises SubscriptRange w)
-    by a true f = f
-    by a false f = follows_same w
+    by : (o : Option ArrayDimension) → AnswerFollows (height w) w (subscripted_in o x p w)
+    by None = tt
+    by (Some d) =
+        within_bounds w (led_on (unsigned_abs (x -ℤ d.bounds.low) * d.multiplier) d.after p w)
+        (int_le d.bounds.low x && int_le x d.bounds.high)
+        (leading_keeps (unsigned_abs (x -ℤ d.bounds.low) * d.multiplier) d.after p w)
+
+pub bound_keeps : BoundKeeps
+unfolding bound_of_place
+bound_keeps which k p w = by (dimension_at p.description k)
+  where
+    by : (o : Option ArrayDimension) → AnswerFollows (height w) w (bound_at which o w)
+    by None = tt
+    by (Some d) = follows_same w
 
 pub calculating_keeps : CalculatingKeeps
 calculating_keeps (Calculates v) w = follows_same w
@@ -250,6 +276,10 @@ calculating_keeps (RaisesCondition raised.Overflow) w = follows_same w
 calculating_keeps (RaisesCondition raised.ZeroDivide) w = follows_same w
 calculating_keeps OutOfString w = follows_same w
 calculating_keeps Misfits w = tt
+
+pub fitting_keeps : FittingKeeps
+unfolding string_as
+fitting_keeps p v w = calculating_keeps (string_fitted_to p.description v) w
 
 -- activations
 
@@ -340,6 +370,14 @@ dummy_keeps d v w =
     (further_follows (height w) (height w) w (made_of d Dummy (v ∷ []) w) _ (making_keeps d Dummy (v ∷ []) w)
     refl
     (λ p u f. newest_behind (height w) _ w u f))
+
+pub string_dummy_keeps : StringDummyKeeps
+unfolding string_dummy_of
+string_dummy_keeps form v w = by (string_dummy form v)
+  where
+    by : (o : Option StringDummy) → AnswerFollows (height w) w (made_dummy o w)
+    by None = tt
+    by (Some d) = dummy_keeps d.description d.value w
 
 -- an operation that keeps, behind another
 one_after_another : {A B : Type 0} (a : World → Answer A) (go : A → World → Answer B)

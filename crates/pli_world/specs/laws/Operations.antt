@@ -3,6 +3,8 @@
 use Rattle.std.specs.Prelude.{◌≡◌, ℕ, suc, ◌-◌, Bool, ℤ, Option, List, ◌++◌}
 use Rattle.pli_base.specs.declared.statement.Condition.{Condition}
 use Rattle.pli_map.specs.Description.{Description}
+use Rattle.pli_map.specs.declared.dimension.WhichBound.{WhichBound}
+use Rattle.pli_map.specs.declared.parameter.StringForm.{StringForm}
 use Rattle.pli_value.specs.Value.{Value}
 use Rattle.pli_operation.specs.Operations.{Calculation}
 use Rattle.pli_world.specs.Storage.{Made, Place}
@@ -18,6 +20,7 @@ use Rattle.pli_world.specs.Conditions.{established, reverted, signalled}
 use Rattle.pli_world.specs.Locating.{place_by, freed_by, pointer_made, block_made, address_of, offset_made}
 use Rattle.pli_world.specs.Locating.{pointer_within}
 use Rattle.pli_world.specs.Stacks.{generation_stacked, generation_unstacked, generations_counted}
+use Rattle.pli_world.specs.Strings.{string_dummy_of, subscripted_by, bound_of_place, string_as}
 use Rattle.pli_map.specs.Variables.{Variable}
 
 -- a list begins another
@@ -75,9 +78,21 @@ abbrev pub SubscriptKeeps : Type 0
 SubscriptKeeps =
     (low high : ℤ) (multiplier : ℕ) (x : ℤ) (p : Place) → Keeps (subscripted low high multiplier x p)
 
+-- so is leading one on by a subscript of the array that it is
+abbrev pub DimensionKeeps : Type 0
+DimensionKeeps = (dimension : ℕ) (x : ℤ) (p : Place) → Keeps (subscripted_by dimension x p)
+
+-- and asking for a bound of that array
+abbrev pub BoundKeeps : Type 0
+BoundKeeps = (which : WhichBound) (dimension : ℕ) (p : Place) → Keeps (bound_of_place which dimension p)
+
 -- taking what an operation of expressions comes to is such an operation
 abbrev pub CalculatingKeeps : Type 0
 CalculatingKeeps = (c : Calculation) → Keeps (calculation c)
+
+-- fitting a string to the one at a place is such an operation
+abbrev pub FittingKeeps : Type 0
+FittingKeeps = (p : Place) (v : Value) → Keeps (string_as p v)
 
 -- looking for the activation so many static links outward is such an operation
 abbrev pub WalkingKeeps : Type 0
@@ -90,6 +105,10 @@ SlotKeeps = (outward slot : ℕ) → Keeps (slot_place outward slot)
 -- making a dummy argument is such an operation
 abbrev pub DummyKeeps : Type 0
 DummyKeeps = (d : Description) (v : Value) → Keeps (dummy_of d v)
+
+-- so is making one for a string of any length
+abbrev pub StringDummyKeeps : Type 0
+StringDummyKeeps = (form : StringForm) (v : Value) → Keeps (string_dummy_of form v)
 
 -- asking for the place of a variable that is made once is such an operation
 abbrev pub StaticKeeps : Type 0

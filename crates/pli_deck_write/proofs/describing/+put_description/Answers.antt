@@ -5,13 +5,14 @@ use Rattle.pli_code.specs.Versions.{written}
 use Rattle.pli_deck_write.specs.Descriptions.{dimensions, description_within}
 use Rattle.std.proofs.lemmas.Result.{on_ok_weaker}
 use Rattle.pli_deck_write.proofs.DescriptionPuts.{too_deep_bytes, fixed_bytes, character_bytes, varying_bytes, bit_bytes, pointer_bytes, offset_bytes, area_bytes, array_bytes, structure_bytes}
+use Rattle.pli_map.specs.ParameterTypes.{Stated}
 use Rattle.pli_map.specs.views.DescriptionView.{description_view}
 use Rattle.pli_code.proofs.PutLemmas.{then_put}
 use Rattle.pli_deck_write.proofs.describing.+put_description.Goals as goal
 
 pub put_within-returns-then-levels-eq0 : goal.put_within-returns-then-levels-eq0
 put_within-returns-then-levels-eq0 t c =
-    on_ok_weaker c.put_byte.result (λ e. e ∙ ap (λ bs. c.args.out.now.items ++ bs) (sym (too_deep_bytes c.args.levels (description_view c.args.value.now) (omega (arith, c.if-levels-eq0.true))))) c.put_byte.ensures
+    on_ok_weaker c.put_byte.result (λ e. e ∙ ap (λ bs. c.args.out.now.items ++ bs) (sym (too_deep_bytes c.args.levels (Stated (description_view c.args.value.now)) (omega (arith, c.if-levels-eq0.true))))) c.put_byte.ensures
 
 pub put_within-returns-in-FixedBinary : goal.put_within-returns-in-FixedBinary
 put_within-returns-in-FixedBinary t c =
@@ -52,7 +53,7 @@ put_within-returns-in_ok-put_dimensions-in-Array t c =
     (c.in_ok-put_dimensions-in-Array.ensures ∙ ap (λ bs. tagged ++ dimensions.bytes_of bs) c.deref.ensures.value) in
     on_ok_weaker c.put_within.result
     (λ e. then_put _ _ _ _ _ _ first (array_bytes c.args.levels c.args.value.now bounds element some c.in-Array.is)
-    (e ∙ ap (λ d. sized ++ (description_within written (c.args.levels - 1)).bytes_of (description_view d)) c.deref-in-Array.ensures))
+    (e ∙ ap (λ d. sized ++ (description_within written (c.args.levels - 1)).bytes_of (Stated (description_view d))) c.deref-in-Array.ensures))
     c.put_within.ensures
 
 pub put_within-returns-in_ok-put_count-in-Structure : goal.put_within-returns-in_ok-put_count-in-Structure
@@ -67,5 +68,5 @@ put_within-returns-in_ok-put_count-in-Structure t c =
     (c.in_ok-put_count-in-Structure.ensures ∙ ap (λ n. tagged ++ big_bytes 2 n) long) in
     on_ok_weaker c.put_members.result
     (λ e. then_put _ _ _ _ _ _ first (structure_bytes c.args.levels c.args.value.now members some c.in-Structure.is)
-    (e ∙ ap (λ ds. counted ++ flat_map (description_within written (c.args.levels - 1)).bytes_of (map description_view ds)) c.deref-in-Structure.ensures.value))
+    (e ∙ ap (λ ds. counted ++ flat_map (λ d. (description_within written (c.args.levels - 1)).bytes_of (Stated d)) (map description_view ds)) c.deref-in-Structure.ensures.value))
     c.put_members.ensures

@@ -1,6 +1,6 @@
 use Rattle.std.proofs.Common.{◌++◌, refl, ap, ◌∙◌}
 use Rattle.std.proofs.lemmas.Result.{on_ok_weaker}
-use Rattle.pli_map.specs.views.DescriptionView.{description_view}
+use Rattle.pli_map.specs.views.ParameterView.{type_view}
 use Rattle.pli_code.specs.views.CodeView.{block_view, code_view, coded_template_view, global_view}
 use Rattle.pli_value.specs.Value.{value_view}
 use Rattle.pli_deck_write.specs.DeckFields.{signature, template, constant, global, block, code}
@@ -28,7 +28,7 @@ returns c =
     let g = (list block).bytes_of said.blocks in
     let h = (list (instruction_in v)).bytes_of said.instructions in
     let second = then_put out _ _ a b (a ++ b) c.in_ok-put_signature.ensures refl
-    (descriptions_put v _ _ said.descriptions (list_put description_view (description written).bytes_of _ _ _ of.descriptions.items c.in_ok-put_list.ensures c.as_slice.ensures.value)) in
+    (descriptions_put v _ _ said.descriptions (list_put type_view (description written).bytes_of _ _ _ of.descriptions.items c.in_ok-put_list.ensures c.as_slice.ensures.value)) in
     let third = then_put out _ _ (a ++ b) d ((a ++ b) ++ d) second refl
     (list_put coded_template_view (template v).bytes_of _ _ _ of.templates.items c.in_ok-put_list-2.ensures c.as_slice-2.ensures.value) in
     let fourth = then_put out _ _ ((a ++ b) ++ d) e (((a ++ b) ++ d) ++ e) third refl

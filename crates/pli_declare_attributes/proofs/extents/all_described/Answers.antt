@@ -1,11 +1,12 @@
 use Rattle.std.proofs.Common.{false, None}
 use Rattle.pli_base.specs.declared.declaration.WrittenBounds.{WrittenBounds}
+use Rattle.pli_base.specs.declared.declaration.WrittenBounds.TheVariants as limits
 use Rattle.pli_declare_attributes.proofs.BoundsDescribed.{good_next, described_next}
 use Rattle.pli_declare_attributes.proofs.extents.all_described.Goals as goal
 
 -- bounds of no dimension
 abbrev none : WrittenBounds
-none = record { low = None; high = record { negative = false; value = 0 } }
+none = limits.Stated None (record { negative = false; value = 0 })
 
 pub described-requires : goal.described-requires
 described-requires c =

@@ -2,6 +2,7 @@ use Rattle.std.proofs.Common.{◌≡◌, ◌*◌, ◌+◌, ◌∙◌, ◌&&◌, 
 use Rattle.std.proofs.lemmas.List.{at_drop_more}
 use Rattle.std.specs.List.{list_all}
 use Rattle.pli_base.specs.declared.declaration.WrittenBounds.{WrittenBounds}
+use Rattle.pli_base.specs.declared.declaration.WrittenBounds.TheVariants as limits
 use Rattle.pli_map.specs.Sizes.{count_of, extent_of}
 use Rattle.pli_declare_attributes.specs.Extents.{all_bounds, are_good}
 use Rattle.pli_declare_attributes.proofs.CountLemmas.{count_left}
@@ -12,7 +13,7 @@ second true b h = h
 second false b h = cc
 
 abbrev none : WrittenBounds
-none = record { low = None; high = record { negative = false; value = 0 } }
+none = limits.Stated None (record { negative = false; value = 0 })
 
 pub loop-bounds-preserved : goal.loop-bounds-preserved
 loop-bounds-preserved c =

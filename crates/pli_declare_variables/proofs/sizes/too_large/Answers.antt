@@ -1,11 +1,11 @@
-use Rattle.std.proofs.Common.{◌≡◌, ℕ, ◌&&◌, Bool, Option, List, get_or, length, sym, ap, ◌∙◌, subst}
+use Rattle.std.proofs.Common.{◌≡◌, ℕ, ◌&&◌, Bool, not, Option, List, get_or, length, sym, ap, ◌∙◌, subst}
 use Rattle.std.specs.Option.{is_none}
 use Rattle.std.proofs.lemmas.List.{length-map}
 use Rattle.pli_base.specs.declared.code.Code.{Code}
 use Rattle.pli_declare_tables.specs.Tables as tables
 use Rattle.pli_declare_tables.specs.views.TableView.{entry_view, entries_view}
-use Rattle.pli_declare_variables.specs.Places.{is_variable}
-use Rattle.pli_declare_variables.specs.Descriptions.{described, is_large, is_large_at}
+use Rattle.pli_declare_variables.specs.Places.{is_variable, item_in}
+use Rattle.pli_declare_variables.specs.Descriptions.{described, is_large, is_starred, is_large_at}
 use Rattle.pli_declare_variables.specs.answers.Measures.{IsMeasured}
 use Rattle.pli_declare_variables.specs.declared.sizes.Measured.{Measured}
 use Rattle.pli_declare_variables.specs.declared.sizes.Measured.TheVariants.{Unknown}
@@ -15,10 +15,10 @@ use Rattle.pli_declare_variables.proofs.sizes.too_large.Goals as goal
 
 -- what is told of an entry, by what it takes
 told : (entries : List tables.Entry) (codes : List (Option Code)) (n size : ℕ) (e : tables.Entry) (answer over : Bool) → size ≡ length entries → get_or entries n tables.no_entry ≡ e
-    → answer ≡ (is_none e.owner && is_variable e.entity && over) → over ≡ is_large (described size entries codes n) → answer ≡ is_large_at entries codes n
+    → answer ≡ (is_none e.owner && is_variable e.entity && over && not (is_starred (item_in e.entity))) → over ≡ is_large (described size entries codes n) → answer ≡ is_large_at entries codes n
 told entries codes n size e answer over counted read says is =
-    says ∙ ap (λ (b : Bool). is_none e.owner && is_variable e.entity && b) (is ∙ ap (λ bound. is_large (described bound entries codes n)) counted)
-    ∙ ap (λ (x : tables.Entry). is_none x.owner && is_variable x.entity && is_large (described (length entries) entries codes n)) (sym read)
+    says ∙ ap (λ (b : Bool). is_none e.owner && is_variable e.entity && b && not (is_starred (item_in e.entity))) (is ∙ ap (λ bound. is_large (described bound entries codes n)) counted)
+    ∙ ap (λ (x : tables.Entry). is_none x.owner && is_variable x.entity && is_large (described (length entries) entries codes n) && not (is_starred (item_in x.entity))) (sym read)
 
 pub loop-number-preserved : goal.loop-number-preserved
 loop-number-preserved c =

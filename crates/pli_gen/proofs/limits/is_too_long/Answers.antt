@@ -2,7 +2,7 @@ use Rattle.std.proofs.Common.{◌≡◌, ◌||◌, ◌&&◌, ◌∙◌, not, nat
 use Rattle.std.specs.List.{list_all, list_any, sum_by}
 use Rattle.pli_type_tree.specs.views.GlobalView.{globals_view}
 use Rattle.pli_type_tree.specs.views.TypedView.{unit_view}
-use Rattle.pli_gen.specs.Limits.{is_over, has_many_members}
+use Rattle.pli_gen.specs.Limits.{is_over, has_many_types}
 use Rattle.pli_gen.specs.answers.Pieces.{block_fits, takes_many_slots, template_bytes}
 use Rattle.pli_gen.proofs.LimitLemmas.{long_tables, long_lists, large_parts, limits_apart, lists_viewed}
 use Rattle.pli_gen.proofs.UnitEmitted.{blocks, code, tables, have, limits, counts, narrow}
@@ -43,7 +43,7 @@ returns-else-has_long_list c =
           ∙ ap (λ x. x || b) (sym w.if-has_long_table.false ∙ c.has_long_table.ensures)
     ] in
     c.has_large_part.ensures
-    ∙ ap (λ n. list_any takes_many_slots bs || list_any has_many_members t.descriptions || nat_lt 16777216 (sum_by template_bytes t.templates) || not (list_all block_fits bs && n))
+    ∙ ap (λ n. list_any takes_many_slots bs || list_any has_many_types t.descriptions || nat_lt 16777216 (sum_by template_bytes t.templates) || not (list_all block_fits bs && n))
     (narrow u e c.requires)
     ∙ ap (λ x. x || large_parts t u bs is stand) (sym c.if-has_long_list.false ∙ v) ∙ limits_apart t u bs is stand
     ∙ limits u e c.requires

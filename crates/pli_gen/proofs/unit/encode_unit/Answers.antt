@@ -1,7 +1,7 @@
 use Rattle.std.proofs.Common.{ℕ, ◌<◌, ◌≤◌, ◌++◌, ◌∙◌, List, Option, ap, sym, subst, get_or, length, map, arith}
 use Rattle.std.specs.List.{list_all}
 use Rattle.std.proofs.lemmas.List.{length-map}
-use Rattle.pli_map.specs.views.DescriptionView.{description_view}
+use Rattle.pli_map.specs.views.ParameterView.{type_view}
 use Rattle.pli_type_tree.specs.views.GlobalView.{globals_view}
 use Rattle.pli_type_tree.specs.views.TypedView.{unit_view}
 use Rattle.pli_code.specs.CodeTables.{Code, CodedSignature}
@@ -54,13 +54,13 @@ returns c =
     let none = c.requires.empty in
     let emitted = c.extend_from_slice.new.self.items in
     let number = description_number t in
-    let taken = ap (λ (x : Code). x.signature.parameters ++ map number (map description_view c.as_slice-taken.result.now)) none
-    ∙ ap (λ ds. map number (map description_view ds)) c.as_slice-taken.ensures.value in
+    let taken = ap (λ (x : Code). x.signature.parameters ++ map number (map type_view c.as_slice-taken.result.now)) none
+    ∙ ap (λ ds. map number (map type_view ds)) c.as_slice-taken.ensures.value in
     unit_coded t u bs (instructions_of bs) e.entries.items
     _ _ _ _ _ _ _ c.requires.emitted.entries
-    (ap (λ ps. signed ps c.result_number-code.result) (c.in_ok-encode_descriptions.ensures ∙ taken)
+    (ap (λ ps. signed ps c.result_number-code.result) (c.in_ok-encode_types.ensures ∙ taken)
     ∙ ap (λ r. signed (map number u.signature.parameters) r) c.result_number-code.ensures)
-    (c.in_ok-copy_descriptions.ensures ∙ ap (λ (x : Code). x.descriptions ++ t.descriptions) none)
+    (c.in_ok-copy_types.ensures ∙ ap (λ (x : Code). x.descriptions ++ t.descriptions) none)
     (c.in_ok-encode_templates.ensures ∙ ap (λ (x : Code). x.templates ++ map (template_code t) t.templates) none)
     (c.in_ok-copy_values.ensures ∙ ap (λ (x : Code). x.values ++ t.values) none)
     (c.in_ok-encode_globals.ensures ∙ ap (λ (x : Code). x.globals ++ map (global_code t) (globals_view c.as_slice.result.now)) none

@@ -1,12 +1,13 @@
-use Rattle.std.proofs.Common.{◌++◌, ◌∷◌, [], List, length, arith, refl, ap, ◌∙◌, sym, append_assoc}
+use Rattle.std.proofs.Common.{◌+◌, ◌++◌, ◌∷◌, [], suc, List, length, drop, arith, refl, ap, ◌∙◌, sym, append_assoc, add-one}
+use Rattle.std.proofs.lemmas.List.{at_drop_more}
 use Rattle.pli_program.specs.Program as op
 use Rattle.pli_map.specs.views.DescriptionView.{description_view}
 use Rattle.pli_type_tree.specs.TypedTree.{NoArgument}
 use Rattle.pli_type_tree.specs.declared.expression.TypedSubscript.{TypedSubscript}
 use Rattle.pli_type_tree.specs.views.TypedView.{root_view, callee_view, operation_view, argument_before, expression_view, reference_view, operands_view, arguments_view, subscripts_view}
-use Rattle.pli_gen_emit.specs.TreeTranslation.{root_code, call_instruction, operation_code, arguments_code, operands_code, subscripts_code, value_code, place_code}
-use Rattle.pli_gen_emit.proofs.EmitLemmas.{emits_both, then_emits, amid_next}
-use Rattle.pli_gen_emit.proofs.TreeCode.{argument_first, operation_code_made, call_code_made, as_pointer_code_made, as_offset_code_made, located_code_made, part_code_made}
+use Rattle.pli_gen_emit.specs.TreeTranslation.{root_code, call_instruction, operation_code, arguments_code, operands_code, subscripts_code, dimensions_code, value_code, place_code}
+use Rattle.pli_gen_emit.proofs.EmitLemmas.{emits_both, then_emits, amid_more, amid_next}
+use Rattle.pli_gen_emit.proofs.TreeCode.{argument_first, operation_code_made, call_code_made, as_pointer_code_made, as_offset_code_made, located_code_made, part_code_made, element_code_made}
 use Rattle.pli_gen_emit.proofs.expression.+emit.Goals as goal
 
 pub emit_arguments-loop-argument-preserved : goal.emit_arguments-loop-argument-preserved
@@ -96,3 +97,28 @@ emit_place-returns-in-Part t c =
     c.emit_subscripts.ensures
     (append_assoc root field subscripts ∙ ap (λ xs. root ++ (field ++ subscripts_code (subscripts_view xs))) c.as_slice.ensures.value
     ∙ sym (ap (λ r. place_code (reference_view r)) b.is ∙ part_code_made b.root b.offset b.description b.subscripts))
+
+pub emit_place-returns-in-ElementOf : goal.emit_place-returns-in-ElementOf
+emit_place-returns-in-ElementOf t c =
+    let b = c.in-ElementOf in
+    then_emits c.args.code.now c.emit_root-in-ElementOf.new.code c.emit_dimensions.new.code (root_code (root_view b.root)) _ _
+    c.emit_root-in-ElementOf.ensures c.emit_dimensions.ensures
+    (ap (λ xs. root_code (root_view b.root) ++ dimensions_code 1 (operands_view xs)) c.as_slice-in-ElementOf.ensures.value
+    ∙ sym (ap (λ r. place_code (reference_view r)) b.is ∙ element_code_made b.root b.subscripts))
+
+pub emit_dimensions-loop-at-preserved : goal.emit_dimensions-loop-at-preserved
+emit_dimensions-loop-at-preserved t c =
+    let l = c.loop-at in
+    let xs = c.args.subscripts.now in
+    let x = c.index-subscripts-at.result in
+    let new = c.subscript_in.new.self in
+    let rest = dimensions_code (suc (l.at + 1)) (operands_view (drop (l.at + 1) xs)) in
+    let here = value_code (expression_view x) ++ op.SubscriptIn (l.at + 1) ∷ [] in
+    let splits =
+    at_drop_more (λ ys. dimensions_code (suc l.at) (operands_view ys)) xs l.at x (omega arith)
+    ∙ ap (λ y. value_code (expression_view y) ++ op.SubscriptIn (suc l.at) ∷ dimensions_code (suc (suc l.at)) (operands_view (drop (l.at + 1) xs))) (sym c.index-subscripts-at.is)
+    ∙ ap (λ n. value_code (expression_view x) ++ op.SubscriptIn n ∷ dimensions_code (suc n) (operands_view (drop (l.at + 1) xs))) (sym (add-one l.at))
+    ∙ sym (append_assoc (value_code (expression_view x)) (op.SubscriptIn (l.at + 1) ∷ []) rest) in
+    amid_more c.args.code.now l.code new here rest (dimensions_code (suc l.at) (operands_view (drop l.at xs))) (dimensions_code 1 (operands_view xs))
+    (emits_both l.code c.emit_value.new.code new (value_code (expression_view x)) (op.SubscriptIn (l.at + 1) ∷ []) c.emit_value.ensures c.subscript_in.ensures)
+    splits l.invariant

@@ -1,6 +1,6 @@
-use Rattle.std.proofs.Common.{drop}
+use Rattle.std.proofs.Common.{drop, suc}
 use Rattle.pli_type_tree.specs.views.TypedView.{operands_view, subscripts_view, arguments_view}
-use Rattle.pli_gen_emit.specs.TreeTranslation.{operands_code, subscripts_code, arguments_code}
+use Rattle.pli_gen_emit.specs.TreeTranslation.{operands_code, subscripts_code, dimensions_code, arguments_code}
 use Rattle.pli_gen_emit.proofs.EmitLemmas.{IsAmid}
 use Rattle.pli_gen_emit.proofs.expression.+emit.Given as goal
 
@@ -15,3 +15,7 @@ invariant-emit_subscripts-loop-subscript l =
 abbrev pub invariant-emit_arguments-loop-argument : goal.invariant-emit_arguments-loop-argument
 invariant-emit_arguments-loop-argument l =
     IsAmid l.initial.code l.code (arguments_code (arguments_view (drop l.argument-index l.arguments))) (arguments_code (arguments_view l.arguments))
+
+abbrev pub invariant-emit_dimensions-loop-at : goal.invariant-emit_dimensions-loop-at
+invariant-emit_dimensions-loop-at l =
+    IsAmid l.initial.code l.code (dimensions_code (suc l.at) (operands_view (drop l.at l.subscripts))) (dimensions_code 1 (operands_view l.subscripts))

@@ -1,5 +1,6 @@
 use Rattle.std.proofs.Common.{◌≡◌, [], length, map, replicate, sym, subst, ◌∙◌, arith, vec_len}
 use Rattle.std.specs.List.{flat_map}
+use Rattle.pli_map.specs.ParameterTypes.{Stated}
 use Rattle.pli_type_tree.specs.TypedTree.{OwnVariable}
 use Rattle.pli_type_tree.specs.views.GlobalView.{global_group_view}
 use Rattle.pli_type_tree.specs.views.TemplateView.{template_view, group_view}
@@ -16,7 +17,7 @@ returns-in-OwnVariables c =
     let new = c.number_group.new.tables in
     subst (λ g. Numbers old new (flat_map global_descriptions (global_group_view g)) (flat_map global_templates (global_group_view g)) []) (sym b.is)
     (subst (λ ds. Numbers old new ds (flat_map global_templates (map (OwnVariable b.kind) ts)) []) (own_described b.kind ts)
-    (subst (λ us. Numbers old new (map (λ t. t.description) ts) us []) (own_templated b.kind ts) c.number_group.ensures))
+    (subst (λ us. Numbers old new (map (λ t. Stated t.description) ts) us []) (own_templated b.kind ts) c.number_group.ensures))
 
 pub returns-in-ExternalVariables : goal.returns-in-ExternalVariables
 returns-in-ExternalVariables c =
@@ -29,5 +30,5 @@ returns-in-ExternalVariables c =
     let new = c.number_repeated.new.tables in
     subst (λ g. Numbers old new (flat_map global_descriptions (global_group_view g)) (flat_map global_templates (global_group_view g)) []) (sym b.is)
     (subst (λ ds. Numbers old new ds (flat_map global_templates (external b.kind t names)) []) (external_described b.kind t names)
-    (subst (λ us. Numbers old new (map (λ t. t.description) ts) us []) (external_templated b.kind t names)
-    (subst (λ n. Numbers old new (map (λ t. t.description) (replicate n t)) (replicate n t) []) (c.len.ensures ∙ size) c.number_repeated.ensures)))
+    (subst (λ us. Numbers old new (map (λ t. Stated t.description) ts) us []) (external_templated b.kind t names)
+    (subst (λ n. Numbers old new (map (λ t. Stated t.description) (replicate n t)) (replicate n t) []) (c.len.ensures ∙ size) c.number_repeated.ensures)))

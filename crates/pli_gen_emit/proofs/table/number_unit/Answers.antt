@@ -1,5 +1,6 @@
 use Rattle.std.proofs.Common.{◌++◌, [], map, subst}
 use Rattle.std.specs.List.{flat_map}
+use Rattle.pli_map.specs.ParameterTypes.{Stated}
 use Rattle.pli_type_tree.specs.views.GlobalView.{globals_view}
 use Rattle.pli_type_tree.specs.views.TypedView.{unit_view}
 use Rattle.pli_gen_emit.specs.views.BlockView.{block_trees}
@@ -18,7 +19,7 @@ returns c =
     let three = c.number_block_variables.new.tables in
     let from_signature = signature_descriptions u.signature in
     let from_globals = flat_map global_descriptions u.globals in
-    let from_blocks = map (λ t. t.description) (block_templates bs) in
+    let from_blocks = map (λ t. Stated t.description) (block_templates bs) in
     let outside = flat_map global_templates u.globals in
     let globals : Numbers one two from_globals outside [] =
     subst (λ gs. Numbers one two (flat_map global_descriptions (globals_view gs)) (flat_map global_templates (globals_view gs)) []) c.as_slice.ensures.value c.number_globals.ensures in

@@ -1,4 +1,5 @@
 use Rattle.std.proofs.Common.{Some, map, sym, ap, ◌∙◌}
+use Rattle.std.specs.Prelude.{option_map}
 use Rattle.pli_map.specs.views.DescriptionView.{description_view}
 use Rattle.pli_type_tree.specs.views.TemplateView.{initial_view}
 use Rattle.pli_code.specs.CodeTables.{described, with_description}
@@ -12,8 +13,8 @@ returns c =
     let template = c.in_ok-template.template.now in
     let description = c.in_ok-description.description.now in
     let first = c.in_ok-template.ensures.lookup in
-    let second = c.in_ok-description.ensures.lookup in
+    let second = sym (ap (option_map (λ d. description_view d.now)) c.in_ok-description.was) ∙ c.description.ensures in
     ap (with_description (code_view code)) (found coded_template_view code.templates.items c.deref.result.now c.deref.ensures.value c.args.number template first.3.0 first.1)
     ∙ ap (described (code_view code) (map initial_view template.initial.items))
-    (found description_view code.descriptions.items c.deref-2.result.now c.deref-2.ensures.value template.description description second.3.0 second.1)
-    ∙ ap (λ initial. described (code_view code) (map initial_view initial) (Some (description_view description))) (sym c.deref-3.ensures.value)
+    (sym second)
+    ∙ ap (λ initial. described (code_view code) (map initial_view initial) (Some (description_view description))) (sym c.deref-2.ensures.value)

@@ -5,7 +5,7 @@ use Rattle.pli_code.specs.CodeTables.{template_at}
 use Rattle.pli_code.specs.views.CodeView.{code_view}
 use Rattle.pli_machine_activations.specs.answers.LaidTemplates.{AreLaid}
 use Rattle.pli_stacks.specs.answers.LaidBytes.{IsLaid}
-use Rattle.pli_machine_loading.proofs.LaidTables.{each_more}
+use Rattle.pli_store.proofs.OneMore.{each_more}
 use Rattle.pli_machine_loading.proofs.laying.lay_unit.Goals as goal
 
 pub loop-number-preserved : goal.loop-number-preserved

@@ -3,7 +3,7 @@ use Rattle.std.proofs.lemmas.Option.{same_Some, slice_get_read}
 use Rattle.pli_code.specs.declared.module.Member.{Member}
 use Rattle.pli_code.specs.views.CodeView.{code_view}
 use Rattle.pli_machine_activations.specs.answers.LaidTemplates.{AreLaid, UnitsLaid}
-use Rattle.pli_machine_loading.proofs.LaidTables.{each_more}
+use Rattle.pli_store.proofs.OneMore.{each_more}
 use Rattle.pli_machine_loading.proofs.laying.lay_units.Goals as goal
 
 pub loop-unit-preserved : goal.loop-unit-preserved

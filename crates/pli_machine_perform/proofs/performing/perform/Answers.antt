@@ -1,9 +1,10 @@
-use Rattle.std.proofs.Common.{Some, refl, rules, w32, SFits}
+use Rattle.std.proofs.Common.{◌≡◌, Some, refl, ap, sym, ◌∙◌, rules, w32, SFits}
 use Rattle.std.proofs.lemmas.Int.{to_z-of_z}
 use Rattle.std.proofs.lemmas.Result.{IfOk-weaker}
 use Rattle.pli_code.specs.Modules.{unit_of}
 use Rattle.pli_code.specs.declared.instruction.Instruction.TheVariants as coded
 use Rattle.pli_code.specs.views.CodeView.{member_view}
+use Rattle.pli_machine_activations.specs.answers.Served.{is_served}
 use Rattle.pli_machine_activations.specs.views.ImageView.{image_of}
 use Rattle.pli_machine_activations.specs.declared.machine.Stop.TheVariants as stop
 use Rattle.pli_machine_perform.proofs.InstructionsDo.{performs_as, one_performs, does_performs, moves_performs, same_performs}
@@ -188,3 +189,23 @@ pub returns-in-Signal : goal.returns-in-Signal
 returns-in-Signal c =
     same_performs (image_of c.args.unit.now.loaded.now) (member_view c.args.unit.now.linked.now) c.args.instruction (coded.Signal c.in-Signal.condition) c.args.machine.now c.signal.new.machine c.signal.result c.in-Signal.is
     (IfOk-weaker c.signal.result _ _ (λ s moves. moves (unit_of (member_view c.args.unit.now.linked.now))) c.signal.ensures)
+
+pub returns-in-SubscriptIn : goal.returns-in-SubscriptIn
+returns-in-SubscriptIn c =
+    does_performs (image_of c.args.unit.now.loaded.now) (member_view c.args.unit.now.linked.now) c.args.instruction (coded.SubscriptIn c.in-SubscriptIn.dimension) c.args.machine.now c.subscript_in.new.machine c.subscript_in.result c.in-SubscriptIn.is c.subscript_in.ensures
+
+pub returns-in-BoundOf : goal.returns-in-BoundOf
+returns-in-BoundOf c =
+    does_performs (image_of c.args.unit.now.loaded.now) (member_view c.args.unit.now.linked.now) c.args.instruction (coded.BoundOf c.in-BoundOf.which c.in-BoundOf.dimension) c.args.machine.now c.bound_of.new.machine c.bound_of.result c.in-BoundOf.is c.bound_of.ensures
+
+pub make_string_dummy-requires : goal.make_string_dummy-requires
+make_string_dummy-requires c = ap (is_served c.args.unit.now.loaded.now.strings.now) (sym c.in-MakeStringDummy.is) ∙ c.requires.served
+
+pub returns-in-MakeStringDummy : goal.returns-in-MakeStringDummy
+returns-in-MakeStringDummy c =
+    does_performs (image_of c.args.unit.now.loaded.now) (member_view c.args.unit.now.linked.now) c.args.instruction (coded.MakeStringDummy c.in-MakeStringDummy.form) c.args.machine.now c.make_string_dummy.new.machine c.make_string_dummy.result c.in-MakeStringDummy.is c.make_string_dummy.ensures
+
+pub returns-in-FitToPlace : goal.returns-in-FitToPlace
+returns-in-FitToPlace c =
+    same_performs (image_of c.args.unit.now.loaded.now) (member_view c.args.unit.now.linked.now) c.args.instruction coded.FitToPlace c.args.machine.now c.fit_to_place.new.machine c.fit_to_place.result c.in-FitToPlace.is
+    (IfOk-weaker c.fit_to_place.result _ _ (λ s moves. moves (unit_of (member_view c.args.unit.now.linked.now))) c.fit_to_place.ensures)

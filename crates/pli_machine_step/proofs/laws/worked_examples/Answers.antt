@@ -1,5 +1,6 @@
 use Rattle.pli_machine_step.proofs.AreasRun as areas
 use Rattle.pli_machine_step.proofs.ExamplesRun as run
+use Rattle.pli_machine_step.proofs.ExtentsRun as extents
 use Rattle.pli_machine_step.proofs.laws.worked_examples.Goals as goal
 
 pub returns-clause-smallest_stops : goal.returns-clause-smallest_stops
@@ -166,3 +167,27 @@ returns-clause-areas_fault c = areas.areas_fault
 
 pub returns-clause-copies_fail : goal.returns-clause-copies_fail
 returns-clause-copies_fail c = areas.copies_fail
+
+pub returns-clause-dimension_leads : goal.returns-clause-dimension_leads
+returns-clause-dimension_leads c = extents.dimension_leads
+
+pub returns-clause-no_dimension_faults : goal.returns-clause-no_dimension_faults
+returns-clause-no_dimension_faults c = extents.no_dimension_faults
+
+pub returns-clause-bounds_print : goal.returns-clause-bounds_print
+returns-clause-bounds_print c = extents.bounds_print
+
+pub returns-clause-string_dummy_holds : goal.returns-clause-string_dummy_holds
+returns-clause-string_dummy_holds c = extents.string_dummy_holds
+
+pub returns-clause-string_dummy_faults : goal.returns-clause-string_dummy_faults
+returns-clause-string_dummy_faults c = extents.string_dummy_faults
+
+pub returns-clause-fits_to_place : goal.returns-clause-fits_to_place
+returns-clause-fits_to_place c = extents.fits_to_place
+
+pub returns-clause-fitting_faults : goal.returns-clause-fitting_faults
+returns-clause-fitting_faults c = extents.fitting_faults
+
+pub returns-clause-string_dummy_is_dead : goal.returns-clause-string_dummy_is_dead
+returns-clause-string_dummy_is_dead c = extents.string_dummy_is_dead

@@ -1,6 +1,7 @@
 use Rattle.pli_meaning_tree.proofs.AreasHold as areas
 use Rattle.pli_meaning_tree.proofs.ConditionsHold as conditions
 use Rattle.pli_meaning_tree.proofs.ExamplesHold as holds
+use Rattle.pli_meaning_tree.proofs.ExtentsHold as extents
 use Rattle.pli_meaning_tree.proofs.laws.worked_examples.Goals as goal
 
 pub returns-clause-loop_ends : goal.returns-clause-loop_ends
@@ -164,3 +165,18 @@ returns-clause-group_around_is_reached c = conditions.group_around_is_reached
 
 pub returns-clause-goto_leaves_units : goal.returns-clause-goto_leaves_units
 returns-clause-goto_leaves_units c = conditions.goto_leaves_units
+
+pub returns-clause-string_is_handed : goal.returns-clause-string_is_handed
+returns-clause-string_is_handed c = extents.string_is_handed
+
+pub returns-clause-nothing_is_handed : goal.returns-clause-nothing_is_handed
+returns-clause-nothing_is_handed c = extents.nothing_is_handed
+
+pub returns-clause-string_is_fitted : goal.returns-clause-string_is_fitted
+returns-clause-string_is_fitted c = extents.string_is_fitted
+
+pub returns-clause-bounds_are_arguments : goal.returns-clause-bounds_are_arguments
+returns-clause-bounds_are_arguments c = extents.bounds_are_arguments
+
+pub returns-clause-control_is_fitted : goal.returns-clause-control_is_fitted
+returns-clause-control_is_fitted c = extents.control_is_fitted

@@ -21,3 +21,6 @@ returns-clause-areas c = law.areas_are
 
 pub returns-clause-conditions : goal.returns-clause-conditions
 returns-clause-conditions c = law.conditions_are
+
+pub returns-clause-stars : goal.returns-clause-stars
+returns-clause-stars c = law.stars_are

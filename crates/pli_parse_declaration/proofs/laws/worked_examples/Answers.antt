@@ -1,4 +1,4 @@
-use Rattle.pli_parse_declaration.proofs.DeclarationExamples.{name_that_is_keyword, levels, nest, values, wrong_word, no_level_in_parentheses, no_scale_but_zero, no_factor_of_string, no_description, no_description_behind_comma, no_attribute_in_nest, text_ends}
+use Rattle.pli_parse_declaration.proofs.DeclarationExamples.{name_that_is_keyword, levels, nest, asterisks, no_asterisk_behind_colon, no_asterisk_as_precision, values, wrong_word, no_level_in_parentheses, no_scale_but_zero, no_factor_of_string, no_description, no_description_behind_comma, no_attribute_in_nest, text_ends}
 use Rattle.pli_parse_declaration.proofs.laws.worked_examples.Goals as goal
 
 pub returns : goal.returns
@@ -7,6 +7,9 @@ returns c =
       name_that_is_keyword = name_that_is_keyword;
       levels = levels;
       nest = nest;
+      asterisks = asterisks;
+      no_asterisk_behind_colon = no_asterisk_behind_colon;
+      no_asterisk_as_precision = no_asterisk_as_precision;
       values = values;
       wrong_word = wrong_word;
       no_level_in_parentheses = no_level_in_parentheses;

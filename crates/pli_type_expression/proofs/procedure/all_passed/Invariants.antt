@@ -2,20 +2,20 @@ use Rattle.std.proofs.Common.{◌≡◌, length, map, option_map}
 use Rattle.std.specs.Iterator.Adapters.{zip_first, zip_second}
 use Rattle.std.specs.Slice.Iter.{iter_rest}
 use Rattle.std.specs.Vec.Iter.{into_iter_items}
-use Rattle.pli_map.specs.views.DescriptionView.{description_view}
+use Rattle.pli_map.specs.views.ParameterView.{type_seen}
 use Rattle.pli_type.specs.ProcedureCalls.{all_passed}
 use Rattle.pli_type_expression.specs.views.TypingView.{argument_view}
 use Rattle.pli_type_expression.proofs.PassingLemmas.{arguments_before}
 use Rattle.pli_type_expression.proofs.procedure.all_passed.Given as goal
 
 -- the arguments so far in front of those that are left
-abbrev pub invariant-loop-description : goal.invariant-loop-description
-invariant-loop-description l =
-    let parameters = iter_rest (zip_first l.description-iterator) in
-    let arguments = into_iter_items (zip_second l.description-iterator) in
+abbrev pub invariant-loop-taken : goal.invariant-loop-taken
+invariant-loop-taken l =
+    let parameters = iter_rest (zip_first l.taken-iterator) in
+    let arguments = into_iter_items (zip_second l.taken-iterator) in
     record {
       lengths : length arguments ≡ length parameters;
-      passed : all_passed l.greatest (map (λ d. description_view d.now) l.parameters) (map argument_view l.fn.arguments.items)
+      passed : all_passed l.greatest (map type_seen l.parameters) (map argument_view l.fn.arguments.items)
           ≡ option_map (arguments_before l.made.items)
-          (all_passed l.greatest (map (λ d. description_view d.now) parameters) (map argument_view arguments));
+          (all_passed l.greatest (map type_seen parameters) (map argument_view arguments));
     }

@@ -38,7 +38,7 @@ loop-number-preserved c =
     let s = c.index-symbols-number.result in
     let kind = symbol_kind_view s.kind in
     let global = c.index-global.result.now in
-    let f : ℕ → plain.Symbol → Kept = λ number x. kind_kept (own_variables facts) number (global_at facts number) x.kind in
+    let f : ℕ → plain.Symbol → Kept = λ number x. kind_kept facts.parameters (own_variables facts) number (global_at facts number) x.kind in
     let g : ℕ → plain.Symbol → ℕ = λ number x. global_at facts number in
     let same : kind ≡ symbol_kind_view (get_or ss n s).kind = ap (λ x. symbol_kind_view x.kind) c.index-symbols-number.is in
     let counted : global ≡ global_at facts n =
@@ -48,10 +48,10 @@ loop-number-preserved c =
     ∙ number_there g ss n global s c.loop-number-test.true in
     let is =
     c.in_ok-meaning.ensures.meaning
-    ∙ ap (λ xs. kind_kept (map (option_map own_view) xs) n global kind) c.deref.ensures.value
-    ∙ ap (λ vs. kind_kept vs n global kind) c.in_ok-variables.ensures.variables
-    ∙ ap (λ k. kind_kept (own_variables facts) n k kind) counted
-    ∙ ap (λ k. kind_kept (own_variables facts) n (global_at facts n) k) same in
+    ∙ ap (λ xs. kind_kept facts.parameters (map (option_map own_view) xs) n global kind) c.deref.ensures.value
+    ∙ ap (λ vs. kind_kept facts.parameters vs n global kind) c.in_ok-variables.ensures.variables
+    ∙ ap (λ k. kind_kept facts.parameters (own_variables facts) n k kind) counted
+    ∙ ap (λ k. kind_kept facts.parameters (own_variables facts) n (global_at facts n) k) same in
     record {
       meanings = ap (λ xs. map meant_view xs ++ each_from f (n + 1) (map symbol_view (drop (n + 1) ss))) c.in_ok-push.ensures.items
           ∙ numbered_more meant_view f ss n s l.meanings.items c.in_ok-meaning.meaning (kept_symbols facts) c.loop-number-test.true is

@@ -16,7 +16,7 @@ invariant-loop-number l =
     let f : BlockFacts = record { parameters = l.parameters; places = l.places; globals = l.fn.globals; symbols = map symbol_view l.symbols } in
     record {
       meanings : map meant_view l.meanings.items
-          ++ each_from (λ number s. kind_kept (own_variables f) number (global_at f number) s.kind) l.number (map symbol_view (drop l.number l.symbols))
+          ++ each_from (λ number s. kind_kept f.parameters (own_variables f) number (global_at f number) s.kind) l.number (map symbol_view (drop l.number l.symbols))
           ≡ kept_symbols f;
       levels : All (IsLevel (map (option_map own_view) l.variables.items)) l.levels.items;
     }

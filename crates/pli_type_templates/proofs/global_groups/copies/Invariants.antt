@@ -1,9 +1,9 @@
 use Rattle.std.proofs.Common.{◌≡◌, ◌++◌, drop, map}
-use Rattle.pli_map.specs.views.DescriptionView.{description_view}
+use Rattle.pli_map.specs.views.ParameterView.{type_view}
 use Rattle.pli_type_templates.proofs.global_groups.copies.Given as goal
 
 -- the copies so far, with those of what is left
-abbrev pub invariant-loop-description : goal.invariant-loop-description
-invariant-loop-description l =
-    map description_view l.made.items ++ map description_view (drop l.description-index l.descriptions)
-    ≡ map description_view l.descriptions
+abbrev pub invariant-loop-taken : goal.invariant-loop-taken
+invariant-loop-taken l =
+    map type_view l.made.items ++ map type_view (drop l.taken-index l.types)
+    ≡ map type_view l.types

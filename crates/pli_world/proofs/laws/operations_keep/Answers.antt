@@ -111,3 +111,15 @@ returns-clause-reverting c = law.reverting_keeps
 
 pub returns-clause-line : goal.returns-clause-line
 returns-clause-line c = law.line_keeps
+
+pub returns-clause-dimension : goal.returns-clause-dimension
+returns-clause-dimension c = law.dimension_keeps
+
+pub returns-clause-bound : goal.returns-clause-bound
+returns-clause-bound c = law.bound_keeps
+
+pub returns-clause-fitting : goal.returns-clause-fitting
+returns-clause-fitting c = law.fitting_keeps
+
+pub returns-clause-string_dummy : goal.returns-clause-string_dummy
+returns-clause-string_dummy c = law.string_dummy_keeps

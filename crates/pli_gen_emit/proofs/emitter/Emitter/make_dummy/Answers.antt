@@ -1,4 +1,5 @@
 use Rattle.std.proofs.Common.{ap, ◌∙◌, ◌∷◌, [], min, refl}
+use Rattle.pli_map.specs.ParameterTypes.{Stated}
 use Rattle.pli_map.specs.views.DescriptionView.{description_view}
 use Rattle.pli_program.specs.Program as op
 use Rattle.pli_type_keys.specs.Same.{same_template}
@@ -15,6 +16,6 @@ returns c =
     let one = c.number_description in
     let two = c.number_template-template in
     named_emitted old (record old { tables = two.new.tables }) c.put.new.self (op.MakeDummy d) _
-    (numbers_both old.tables one.new.tables two.new.tables (d ∷ []) [] [] (dummy d ∷ []) [] [] one.ensures.numbers two.ensures.numbers)
+    (numbers_both old.tables one.new.tables two.new.tables (Stated d ∷ []) [] [] (dummy d ∷ []) [] [] one.ensures.numbers two.ensures.numbers)
     (λ h. ap coded.MakeDummy (two.ensures.number h ∙ ap (λ ts. min (number_in same_template ts (dummy d)) 65535) (one.ensures.numbers.templates (two.ensures.numbers.memory h))))
     refl refl refl refl c.put.ensures

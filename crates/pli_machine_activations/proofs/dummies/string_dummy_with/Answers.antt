@@ -1,0 +1,34 @@
+use Rattle.std.proofs.Common.{◌∷◌, [], ◌++◌, refl, sym, ap, ◌∙◌}
+use Rattle.pli_value.specs.Value.{value_view}
+use Rattle.pli_world.specs.Strings.{string_dummy_of}
+use Rattle.pli_store.specs.views.StorageView.{place_view, with_storage}
+use Rattle.pli_machine_step.specs.Machine.{OfValue, AtDummy, At, pushes, with_operands}
+use Rattle.pli_machine_activations.specs.views.MachineView.{Running, activation_view, activations_of, frame_view, frames_of, world_of, left_of}
+use Rattle.pli_machine_operate.specs.views.OperandView.{stack}
+use Rattle.pli_machine_activations.proofs.DummyArguments.{string_dummy_goes}
+use Rattle.pli_machine_activations.proofs.StorageAnswers.{answer_stops}
+use Rattle.pli_machine_activations.proofs.dummies.string_dummy_with.Goals as goal
+
+pub returns-in_ok-push-in-Ok-2 : goal.returns-in_ok-push-in-Ok-2
+returns-in_ok-push-in-Ok-2 c = λ image put.
+    let m = c.args.machine.now in
+    let frames = frames_of m.waiting.items in
+    let ops = stack m.here.operands.items in
+    let behind = with_storage c.push_string.new.self (world_of image m put) in
+    let left = left_of m in
+    string_dummy_goes c.args.form (value_view c.args.value) (place_view c.in-Ok.place)
+    (OfValue (value_view c.args.value) ∷ ops) ops (frame_view m.here) frames (world_of image m put) _ left
+    refl (c.in-Ok.ensures.made (world_of image m put))
+    ∙ ap (λ ops. Running (At (with_operands ops (frame_view m.here)) frames
+    (record behind { activations = record (activation_view m.here) { pending = m.here.pending.items ++ c.in-Ok.place.generation ∷ [] } ∷ activations_of m.waiting.items }) left)) (sym c.in_ok-push-in-Ok-2.ensures)
+    ∙ ap (λ ns. Running (At (with_operands (stack c.push-in-Ok.new.operands.items) (frame_view m.here)) frames
+    (record behind { activations = record (activation_view m.here) { pending = ns } ∷ activations_of m.waiting.items }) left)) (sym c.in_ok-push-in-Ok.ensures.items)
+
+pub returns-in_ok-stop_at-in-Err : goal.returns-in_ok-stop_at-in-Err
+returns-in_ok-stop_at-in-Err c = λ image put.
+    let m = c.args.machine.now in
+    let w = world_of image m put in
+    answer_stops place_view c.in-Err.fault c.in_ok-stop_at-in-Err.field-0 m.storage c.push_string.new.self c.push_string.new.self w
+    (string_dummy_of c.args.form (value_view c.args.value) w)
+    (λ p w. pushes (frame_view m.here) (frames_of m.waiting.items) (AtDummy p) (stack m.here.operands.items) w) (frame_view m.here) (frames_of m.waiting.items) (left_of m)
+    c.in_ok-stop_at-in-Err.ensures (c.in-Err.ensures.made w)

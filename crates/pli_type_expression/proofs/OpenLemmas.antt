@@ -1,0 +1,60 @@
+-- Parameters in which a `*` stands: what is meant of them, and which of them are locators.
+use Rattle.std.proofs.Common.{◌≡◌, ℕ, zero, suc, ◌<◌, Result, Ok, Err, IfOk, Option, Some, None, List, [], ◌∷◌, length, refl, sym, ap, ◌∙◌, arith}
+use Rattle.pli_map.specs.Description.{Description}
+use Rattle.pli_map.specs.declared.description.Description as described
+use Rattle.pli_map.specs.declared.parameter.ParameterType as program
+use Rattle.pli_map.specs.declared.parameter.ParameterType.TheFolds as folds
+use Rattle.pli_map.specs.declared.parameter.ParameterType.TheVariants as made
+use Rattle.pli_map.specs.declared.parameter.StringForm.{StringForm}
+use Rattle.pli_map.specs.views.DescriptionView.{description_view}
+use Rattle.pli_map.specs.views.ParameterView.{level_view, type_view}
+use Rattle.pli_map.specs.ParameterTypes.{ParameterType, Stated, AnyString, AnyArray, ArrayOf, StructureOf, stated, element_type}
+use Rattle.pli_type.specs.References.{locator_at, open_part, open_reference}
+use Rattle.pli_type.specs.ExpressionTypes.{all_operands}
+use Rattle.pli_type.specs.declared.beginning.Beginning.{Beginning}
+use Rattle.pli_type_tree.specs.TypedTree.{Root, ElementOf, TypedExpression, TypedReference}
+
+pub whole_part_open : (t : ParameterType) (n : ℕ) → n ≡ 0 → Some t ≡ open_part t n
+whole_part_open t n e = ap (open_part t) (sym e)
+
+pub element_part_open : (t : ParameterType) (n : ℕ) → (n ≡ 0 → ⊥) → element_type n t ≡ open_part t n
+element_part_open t zero h = absurd (h refl)
+element_part_open t (suc n) h = refl
+
+-- with subscripts it is an element
+pub element_referred : (root : Root) (xs : List TypedExpression) → 0 < length xs → ElementOf root (all_operands xs) ≡ open_reference root xs
+element_referred root [] h = absurd (omega (arith, h))
+element_referred root (x ∷ xs) h = refl
+
+-- what is stated
+pub stated_so : (t : ParameterType) (d : Description) → Some d ≡ stated t → Stated d ≡ t
+stated_so (Stated e) d h = ap Stated (same d e h)
+  where
+    same : (d e : Description) → Some d ≡ Some e → d ≡ e
+    same d e h = cc
+stated_so (AnyString form) d h = cc
+stated_so (AnyArray k e) d h = cc
+stated_so (ArrayOf bs e) d h = cc
+stated_so (StructureOf ts) d h = cc
+
+-- what is open is no locator
+pub open_no_locator : (reference : TypedReference) (t : ParameterType) (area : Option Beginning) → None ≡ stated t → None ≡ locator_at reference t area
+open_no_locator reference (Stated d) area h = cc
+open_no_locator reference (AnyString form) area h = refl
+open_no_locator reference (AnyArray k e) area h = refl
+open_no_locator reference (ArrayOf bs e) area h = refl
+open_no_locator reference (StructureOf ts) area h = refl
+
+-- what types of the program say
+pub stated_view : (t : program.ParameterType) (d : described.Description) → t ≡ made.Stated d → type_view t ≡ Stated (description_view d)
+stated_view t d e = ap type_view (e ∙ sym (made.rolls-Stated d))
+    ∙ folds.fold-roll-ParameterType ParameterType level_view (program.ParameterType-F.Stated d)
+
+pub string_view : (t : program.ParameterType) (form : StringForm) → t ≡ made.AnyString form → type_view t ≡ AnyString form
+string_view t form e = ap type_view (e ∙ sym (made.rolls-AnyString form))
+    ∙ folds.fold-roll-ParameterType ParameterType level_view (program.ParameterType-F.AnyString form)
+
+-- what is so of every limit is so of one
+pub at_one : {X E : Type 0} {G : Type 0} (P : G → X → Type 0) (r : Result X E) (g : G) → IfOk r (λ x. (g : G) → P g x) → IfOk r (P g)
+at_one P (Ok x) g h = h g
+at_one P (Err e) g h = tt
