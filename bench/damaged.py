@@ -1,5 +1,5 @@
 #!/usr/bin/env python3
-"""damaged.py [--write]: what is wrong with some 32,000 damaged modules, by a plain reader of decks and modules of its own.
+"""damaged.py [--write]: what is wrong with some 33,500 damaged modules, by a plain reader of decks and modules of its own.
 
 The reader is written from docs/FORMAT.md alone: it reads from the front on, byte by byte, and looks at the limits at the end. It shares nothing
 with the compiler. The modules are those that the tests of damaged.rt in crates/pli_bench_tests make, of the modules that
