@@ -13,8 +13,8 @@ is_byte n = nat_le n 255
 abbrev pub is_short : ℕ → Bool
 is_short n = nat_le n 65535
 
--- blocks, globals, slots and temporaries are numbers of two bytes, arguments and static links of one; numbers
--- of entries and targets are within two bytes by the limits of tables
+-- blocks, globals, slots and temporaries are numbers of two bytes, arguments, static links and dimensions of
+-- one; numbers of entries and targets are within two bytes by the limits of tables
 abbrev pub instruction_fits : Instruction → Bool
 instruction_fits (coded.Goto outward target) = is_byte outward
 instruction_fits (coded.Call block arguments) = is_short block && is_byte arguments
@@ -28,6 +28,7 @@ instruction_fits (coded.AllocateControlled global) = is_short global
 instruction_fits (coded.FreeControlled global) = is_short global
 instruction_fits (coded.CountGenerations global) = is_short global
 instruction_fits (coded.On c block) = is_short block
+instruction_fits (coded.SubscriptIn dimension) = is_byte dimension
 instruction_fits (coded.SetTemporary number) = is_short number
 instruction_fits (coded.TakeTemporary number) = is_short number
 instruction_fits other = true

@@ -6,11 +6,10 @@ use Rattle.std.proofs.lemmas.Bool.{le-leb, lt-ltb}
 use Rattle.std.proofs.lemmas.List.{length-map}
 use Rattle.pli_program.specs.Program as op
 use Rattle.pli_type_tree.specs.TypedTree.{TypedUnit}
-use Rattle.pli_code.specs.CodeFields.{is_byte, is_short, parent_fits, block_fits}
+use Rattle.pli_code.specs.CodeFields.{is_byte, is_short, parent_fits, block_fits, instruction_fits}
 use Rattle.pli_code.specs.declared.instruction.Instruction.{Instruction}
 use Rattle.pli_gen_emit.specs.TreeTranslation.{BlockTree, behind, block_code, blocks_code, blocks_of, instructions_of}
 use Rattle.pli_gen_emit.specs.Encoding.{NumberedTables, tables_for, instruction_code, global_code, coded_block, coded_blocks, code_of}
-use Rattle.pli_gen.specs.Limits.{is_narrow}
 use Rattle.pli_gen.proofs.CodeEnds.{both_within}
 use Rattle.pli_gen.proofs.LimitLemmas.{few, blocks_counted}
 use Rattle.pli_deck_laws.specs.DeckLaws.{HasShortTables, NumbersFit}
@@ -33,7 +32,7 @@ link n h = byte n (omega (arith, h))
 module _ (tables : NumberedTables) (globals blocks last : ℕ) (few_globals : globals ≤ 65535) (few_blocks : blocks ≤ 65535) where
   -- an instruction whose numbers fit
   abbrev Fits : Instruction → Type 0
-  Fits i = is_narrow i ≡ true
+  Fits i = instruction_fits i ≡ true
 
   block_number : (n : ℕ) → n < blocks → is_short n ≡ true
   block_number n h = short n (omega (arith, h, few_blocks))
@@ -79,9 +78,9 @@ module _ (tables : NumberedTables) (globals blocks last : ℕ) (few_globals : gl
       both_hold (block_fits (coded_block tables b p)) (list_all block_fits (coded_blocks tables bs q))
       (block_narrow b p (few_temporaries b p 65535 h.0.head.2 w.0) h.0) (blocks_narrow bs q w.1 h.1)
 
-  instructions_narrow : (is : List op.Instruction) → AllByRecursion (Final globals blocks last) is → list_all is_narrow (map (instruction_code tables) is) ≡ true
+  instructions_narrow : (is : List op.Instruction) → AllByRecursion (Final globals blocks last) is → list_all instruction_fits (map (instruction_code tables) is) ≡ true
   instructions_narrow is h =
-      each_holds is_narrow Fits (λ i e. e) (map (instruction_code tables) is)
+      each_holds instruction_fits Fits (λ i e. e) (map (instruction_code tables) is)
       (all_mapped (instruction_code tables) (Final globals blocks last) Fits (λ i f. instruction_narrow i f.0) is h)
 
 few_numbers : (t : TypedUnit) → HasShortTables (code_of t) → HasFew t
@@ -109,4 +108,4 @@ numbers_fit t well formed short_tables =
     let most = limits.instructions in
     let blocks = blocks_narrow tables (length t.globals) (length bs) r.0 limits.globals limits.blocks bs 0 (omega (arith, size, end, most)) within.blocks in
     let instructions = instructions_narrow tables (length t.globals) (length bs) r.0 limits.globals limits.blocks code within.instructions in
-    ap not (both_hold (list_all block_fits (coded_blocks tables bs 0)) (list_all is_narrow (map (instruction_code tables) code)) blocks instructions)
+    ap not (both_hold (list_all block_fits (coded_blocks tables bs 0)) (list_all instruction_fits (map (instruction_code tables) code)) blocks instructions)

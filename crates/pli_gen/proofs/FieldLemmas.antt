@@ -6,7 +6,6 @@ use Rattle.pli_code.specs.CodeFields as fields
 use Rattle.pli_gen_emit.specs.TreeTranslation.{BlockTree, behind, block_code}
 use Rattle.pli_gen_emit.specs.Encoding.{NumberedTables, instruction_code, coded_blocks}
 use Rattle.pli_gen_emit.specs.answers.Instructions.{instruction_fits}
-use Rattle.pli_gen.specs.Limits.{is_narrow}
 use Rattle.pli_gen.specs.answers.Pieces.{block_fits}
 
 pub both_of : (x y : Bool) → (x && y) ≡ true → (x ≡ true) × (y ≡ true)
@@ -24,12 +23,12 @@ module _ (t : NumberedTables) where
   blocks_as_coded [] p = refl
   blocks_as_coded (b ∷ bs) p = ap (λ r. block_fits b && r) (blocks_as_coded bs (behind (block_code b p) p))
 
-  one_as_coded : (i : op.Instruction) → is_narrow (instruction_code t i) ≡ instruction_fits i
+  one_as_coded : (i : op.Instruction) → fields.instruction_fits (instruction_code t i) ≡ instruction_fits i
   one_as_coded (op.Operate operation) = refl
   one_as_coded i = refl
 
-  pub instructions_as_coded : (is : List op.Instruction) → list_all is_narrow (map (instruction_code t) is) ≡ list_all instruction_fits is
+  pub instructions_as_coded : (is : List op.Instruction) → list_all fields.instruction_fits (map (instruction_code t) is) ≡ list_all instruction_fits is
   instructions_as_coded [] = refl
   instructions_as_coded (i ∷ is) =
-      ap (λ b. b && list_all is_narrow (map (instruction_code t) is)) (one_as_coded i)
+      ap (λ b. b && list_all fields.instruction_fits (map (instruction_code t) is)) (one_as_coded i)
       ∙ ap (λ r. instruction_fits i && r) (instructions_as_coded is)

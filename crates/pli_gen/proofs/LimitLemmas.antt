@@ -19,9 +19,10 @@ use Rattle.pli_map.specs.views.DescriptionView.{description_view, members_view}
 use Rattle.pli_type_tree.specs.Templates.{InitialScalar, Template}
 use Rattle.pli_type_tree.specs.TypedTree as typed
 use Rattle.pli_type_tree.specs.TypedTree.{TypedUnit}
+use Rattle.pli_code.specs.CodeFields as fields
 use Rattle.pli_gen_emit.specs.TreeTranslation.{BlockTree, behind, block_code}
 use Rattle.pli_gen_emit.specs.Encoding.{NumberedTables, number_in, template_number, template_code, global_code, instruction_code, coded_blocks, coded_unit}
-use Rattle.pli_gen.specs.Limits.{is_over, member_count, has_many_members, one_has_many, has_many_types, has_many_slots, bytes_of, initial_bytes_of, initial_bytes, is_narrow, has_wide_number, is_too_long}
+use Rattle.pli_gen.specs.Limits.{is_over, member_count, has_many_members, one_has_many, has_many_types, has_many_slots, bytes_of, initial_bytes_of, initial_bytes, has_wide_number, is_too_long}
 use Rattle.pli_gen_emit.specs.answers.Instructions.{instruction_fits}
 use Rattle.pli_gen.specs.answers.Pieces.{block_fits, takes_many_slots, template_bytes, HaveDescriptions}
 use Rattle.pli_gen.proofs.FieldLemmas.{blocks_as_coded, instructions_as_coded, both_of}
@@ -134,7 +135,7 @@ module _ (t : NumberedTables) (u : TypedUnit) (bs : List BlockTree) (code : List
 
   wide_as_coded : has_wide_number (coded_unit t u bs code) ≡ wide_numbers
   wide_as_coded =
-      ap (λ b. not (b && list_all is_narrow (map (instruction_code t) code))) (blocks_as_coded t bs 0)
+      ap (λ b. not (b && list_all fields.instruction_fits (map (instruction_code t) code))) (blocks_as_coded t bs 0)
       ∙ ap (λ b. not (list_all block_fits bs && b)) (instructions_as_coded t code)
 
   abbrev whole : (templates globals blocks instructions : ℕ) (slots : Bool) (bytes : ℕ) (wide : Bool) → Bool

@@ -16,7 +16,7 @@ use Rattle.pli_gen_emit.specs.Encoding.{NumberedTables, tables_for, numbered, de
 use Rattle.pli_type_keys.specs.Same.{same_template, same_value}
 use Rattle.pli_gen_emit.specs.Encoding.{signature_descriptions, global_descriptions, global_templates, block_templates}
 use Rattle.pli_gen_emit.specs.Encoding.{template_code, signature_code, global_code, instruction_code, coded_block, coded_blocks, coded_unit, code_of}
-use Rattle.pli_gen.specs.Limits.{is_over, has_many_slots, has_many_types, initial_bytes, is_narrow, is_too_long}
+use Rattle.pli_gen.specs.Limits.{is_over, has_many_slots, has_many_types, initial_bytes, is_too_long}
 use Rattle.pli_gen.specs.laws.ListLaws.{all_front, all_back}
 use Rattle.pli_gen_emit.specs.answers.Pieces.{entries_of}
 use Rattle.pli_gen_emit.specs.answers.Instructions.{instruction_fits, retargeted}
@@ -168,12 +168,12 @@ limits_again t u bs code other e fit =
     let c = coded_unit t u bs code in
     let number = instruction_code t in
     let count : length (map number code) ≡ length (map number other) = length-map code number ∙ e ∙ sym (length-map other number) in
-    let narrow : list_all is_narrow (map number code) ≡ list_all is_narrow (map number other) =
+    let narrow : list_all fields.instruction_fits (map number code) ≡ list_all fields.instruction_fits (map number other) =
     instructions_as_coded t code ∙ fit ∙ sym (instructions_as_coded t other) in
     let with : ℕ → Bool → Bool = λ n b. is_over c.descriptions || is_over c.templates || is_over c.values || is_over c.globals || is_over c.blocks || nat_lt 65535 n
     || list_any has_many_slots c.blocks || list_any has_many_types c.descriptions || nat_lt 16777216 (initial_bytes c)
     || not (list_all fields.block_fits c.blocks && b) in
-    ap (λ n. with n (list_all is_narrow (map number code))) count ∙ ap (with (length (map number other))) narrow
+    ap (λ n. with n (list_all fields.instruction_fits (map number code))) count ∙ ap (with (length (map number other))) narrow
 
 -- the parts of a unit, as they are made
 module _ (u : TypedUnit) (bs : List BlockTree) (code : List op.Instruction) (t : NumberedTables)

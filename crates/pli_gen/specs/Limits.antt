@@ -8,10 +8,8 @@ use Rattle.std.specs.Option.{option_and_then}
 use Rattle.pli_map.specs.Description.{Description, Array, Structure, Members, NoMembers, MemberThen}
 use Rattle.pli_map.specs.ParameterTypes.{ParameterType, Stated, AnyString, AnyArray, ArrayOf, StructureOf, stated}
 use Rattle.pli_map.specs.Sizes.{size_of}
-use Rattle.pli_code.specs.CodeFields.{is_byte, block_fits, instruction_fits}
+use Rattle.pli_code.specs.CodeFields.{block_fits, instruction_fits}
 use Rattle.pli_code.specs.CodeTables.{CodedTemplate, CodedBlock, Code}
-use Rattle.pli_code.specs.declared.instruction.Instruction.{Instruction}
-use Rattle.pli_code.specs.declared.instruction.Instruction.TheVariants as coded
 
 -- the greatest number of entries
 abbrev pub entry_limit : ℕ
@@ -68,14 +66,9 @@ initial_bytes_of types t = bytes_if t.initial
 abbrev pub initial_bytes : Code → ℕ
 initial_bytes c = sum_by (initial_bytes_of c.descriptions) c.templates
 
--- the numbers of an instruction are within their fields, that of a dimension too
-abbrev pub is_narrow : Instruction → Bool
-is_narrow (coded.SubscriptIn dimension) = is_byte dimension
-is_narrow i = instruction_fits i
-
 -- a number of a block or of an instruction is wider than its field
 abbrev pub has_wide_number : Code → Bool
-has_wide_number c = not (list_all block_fits c.blocks && list_all is_narrow c.instructions)
+has_wide_number c = not (list_all block_fits c.blocks && list_all instruction_fits c.instructions)
 
 -- the code is over one of these limits
 abbrev pub is_too_long : Code → Bool

@@ -1,6 +1,7 @@
--- The code of a unit with its tables: descriptions, templates and values are numbered by first use, and equal
--- ones once (own). Types of parameters with a `*` are numbered among the descriptions. First comes what the external procedure takes and gives, then the globals, then the
--- variables of the blocks, then the instructions, block after block.
+-- The code of a unit with its tables: descriptions, templates and values are numbered by first use, and
+-- equal ones once (own). Types of parameters with a `*` are numbered among the descriptions. First comes
+-- what the external procedure takes and gives, then the globals, then the variables of the blocks, then the
+-- instructions, block after block.
 use Rattle.std.specs.Prelude.{ℕ, suc, Bool, option_map, List, [], ◌∷◌, ◌++◌, map}
 use Rattle.std.specs.Prelude.{length, if◌then◌else◌}
 use Rattle.std.specs.List.{flat_map, list_any}

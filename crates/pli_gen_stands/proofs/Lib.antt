@@ -1,2 +1,3 @@
+pub mod StatementPlaces
 pub mod TranslationStands
 pub mod ProgramsRun

@@ -5,9 +5,8 @@
 //! position of a generation, `known` which parts of a whole need no search; `storage` reads, puts, copies, makes and
 //! ends, by `putting` and `copying`, which change bytes; `bits` tells a lone bit from its byte, `pointers` a pointer
 //! from its bytes; `spare` keeps memory for generations to come. `strings` makes dummy arguments as long as their
-//! strings, which have the descriptions of
-//! `string_descriptions`. `blocks` changes the blocks of one generation, `places_in_blocks` reads, puts and copies
-//! there, and `areas` allocates, frees, empties and assigns.
+//! strings, which have the descriptions of `string_descriptions`. `blocks` changes the blocks of one generation,
+//! `places_in_blocks` reads, puts and copies there, and `areas` allocates, frees, empties and assigns.
 #![tactic(auto)]
 
 mod areas;

@@ -240,8 +240,7 @@ impl<'m> Storage<'m> {
     /// A new generation for a dummy argument that is a string of a form and as long as its value: one element for an
     /// empty one, where VARYING keeps the empty value. The newest activation has to note it among those that it
     /// prepares. `NoRule` where the value is no such string, or longer than 32,767; else `StorageLimit` where there is
-    /// no room for it, or
-    /// `OutOfMemory`. After an error nothing has changed.
+    /// no room for it, or `OutOfMemory`. After an error nothing has changed.
     pub fn push_string(
         &mut self,
         alloc: Global,

@@ -16,16 +16,19 @@ eight first = first ∷ 2 ∷ 3 ∷ 4 ∷ 5 ∷ 6 ∷ 7 ∷ 8 ∷ []
 abbrev pub with_blocks : (capacity : ℕ) → List Block → Blocks
 with_blocks capacity blocks = record { capacity = capacity; blocks = blocks; visited = 0 }
 
--- an area of 32 bytes with no block, with one, with two, and with the second alone
+-- an area of 32 bytes with no block
 abbrev pub no_block : Blocks
 no_block = with_blocks 32 []
 
+-- with a block of 8 bytes, at the first place that fits
 abbrev pub one_block : Blocks
 one_block = with_blocks 32 (with_block [] (block 8 (eight 1)))
 
+-- with a second one after it
 abbrev pub two_blocks : Blocks
 two_blocks = with_blocks 32 (with_block one_block.blocks (block 24 (eight 9)))
 
+-- with the second alone, after the first is freed
 abbrev pub second_block : Blocks
 second_block = with_blocks 32 (without_block two_blocks.blocks 8)
 

@@ -206,21 +206,23 @@ abbrev pub PointersAreWellTyped : Type 0
 PointersAreWellTyped =
     AreTypedStatements 31 (context_in (pointing ∷ []) signatures of_caller caller) following
 
--- A and O, STATIC, in P: PROCEDURE; DECLARE A AREA(64) STATIC, O OFFSET(A) STATIC, X FIXED BINARY(31)
--- BASED(O);
+-- the area of P: PROCEDURE; DECLARE A AREA(64) STATIC, O OFFSET(A) STATIC, X FIXED BINARY(31) BASED(O);
 abbrev pub declared_area : Global
 declared_area = OwnVariable Static (record { description = Area 64; initial = [] })
 
+-- the offset
 abbrev pub declared_offset : Global
 declared_offset = OwnVariable Static (record { description = Offset; initial = [] })
 
--- A, O and X, where they are used
+-- A, where it is used
 abbrev pub area_used : TypedReference
 area_used = Whole (OfProgram 0)
 
+-- O, where it is used
 abbrev pub offset_used : TypedReference
 offset_used = Whole (OfProgram 1)
 
+-- X, in the block of A to which O leads
 abbrev pub block_used : TypedReference
 block_used = Whole (Located (AsPointer area_used (Held offset_used)) number)
 
