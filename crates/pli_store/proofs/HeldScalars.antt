@@ -1,10 +1,10 @@
 -- What is held by scalars alone.
-use Rattle.std.proofs.Common.{◌≡◌, ℕ, true, true≢false, List, refl, sym}
+use Rattle.std.proofs.Common.{◌≡◌, ℕ, Bool, true, true≢false, eqb-true, List, length, refl, sym, ap}
 use Rattle.pli_bytes.specs.Contents.{value_of}
 use Rattle.pli_map.specs.Description.{Description, FixedBinary, Character, Varying, Bit, Pointer, Offset, Area, Array, Structure}
 use Rattle.pli_map.specs.Scalars.{is_scalar, scalars_in}
 use Rattle.pli_map.specs.Values.{holds}
-use Rattle.pli_value.specs.Value.{Value, Characters}
+use Rattle.pli_value.specs.Value.{Value, Characters, Bits}
 
 pub one_scalar : (d : Description) → is_scalar d ≡ true → scalars_in d ≡ 1
 one_scalar (FixedBinary n) e = refl
@@ -23,6 +23,11 @@ scalar_of_held (Area n) v e = absurd (true≢false (sym e))
 scalar_of_held (Array bs d) v e = absurd (true≢false (sym e))
 scalar_of_held (Structure ds) v e = absurd (true≢false (sym e))
 scalar_of_held d v e = refl
+
+-- one that may hold bits
+pub bits_of_held : (d : Description) (bits : List Bool) → holds d (Bits bits) ≡ true → d ≡ Bit (length bits)
+bits_of_held (Bit n) bits e = ap Bit (sym (eqb-true (length bits) n e))
+bits_of_held d bits e = absurd (true≢false (sym e))
 
 -- a description under which bytes hold characters
 pub scalar_of_text : (d : Description) (bytes text : List ℕ) → value_of d bytes ≡ Characters text → is_scalar d ≡ true

@@ -1,12 +1,14 @@
 -- Known parts of generations to which locators lead.
-use Rattle.std.proofs.Common.{◌≡◌, ℕ, ◌+◌, List, length, map, get_or, Option, Some, None, IfSome, option_and_then, if◌then◌else◌, refl, sym, ap, subst, ◌∙◌, arith}
+use Rattle.std.proofs.Common.{◌≡◌, ℕ, ◌+◌, List, length, map, get_or, Some, option_and_then, if◌then◌else◌, refl, sym, ap, subst, ◌∙◌, arith}
 use Rattle.std.specs.Option.{is_some}
 use Rattle.std.proofs.lemmas.Option.{same_Some, slice_get_read}
+use Rattle.pli_map.specs.Description.{Description}
 use Rattle.pli_map.specs.Scalars.{first_scalar}
 use Rattle.pli_map.specs.views.DescriptionView.{description_view}
 use Rattle.pli_map.proofs.ScalarPlaces.{itself}
 use Rattle.pli_run.specs.declared.ending.RunError.TheVariants.{DescriptionMismatch}
 use Rattle.pli_value.specs.declared.locator.Locator.{Locator}
+use Rattle.pli_value.specs.declared.locator.Locator.TheVariants.{Pointer}
 use Rattle.pli_value.specs.Value.{Value}
 use Rattle.pli_world.specs.Locating.{based, located, unless_ended, unless_other}
 use Rattle.pli_world.specs.Storage as plain
@@ -25,10 +27,13 @@ use Rattle.pli_store.proofs.PartAnswers.{number_found}
 use Rattle.pli_store.proofs.PlaceLemmas.{leads_to, within_store}
 use Rattle.pli_store.proofs.Searches.{stands_in_view}
 
--- what holds in each world of what there is, holds of it in each world
-pub some_each : {W X : Type 0} (r : Option X) {P : W → X → Type 0} {Q : X → Type 0} → ((w : W) → IfSome r (P w)) → ((x : X) → ((w : W) → P w x) → Q x) → IfSome r Q
-some_each None each so = tt
-some_each (Some x) each so = so x each
+-- a locator leads to one generation
+pub outside_at : (gs : List plain.Generation) (l : Locator) (d : Description) (number at : ℕ) (s : StandsAt gs number at) → l ≡ Pointer number 0
+    → (o : (k : ℕ) × IsOutside gs l d k) → s.generation.description ≡ d
+outside_at gs l d number at s is o =
+    let same : number ≡ o.1.number = cc (is, o.1.is) in
+    let found : s.generation ≡ o.1.stands.generation = same_Some s.generation o.1.stands.generation (sym s.found ∙ ap (plain.generation_in gs) same ∙ o.1.stands.found) in
+    ap (λ (g : plain.Generation). g.description) found ∙ o.1.described
 
 -- what stands in the list is what is read in the store
 pub generation_described : (items : List Generation) (number at : ℕ) (s : StandsAt (map generation_view items) number at) (g : Generation) → g ≡ get_or items at g

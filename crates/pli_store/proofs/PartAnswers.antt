@@ -1,5 +1,6 @@
 -- What operations on a place answer where it leads to a part, where it leads nowhere, and where it is dead.
-use Rattle.std.proofs.Common.{◌≡◌, ℕ, Bool, true, false, nat_eq, List, [], ◌∷◌, ◌++◌, set, Some, None, Err, if◌then◌else◌, refl, sym, ap, ◌∙◌, subst}
+use Rattle.std.proofs.Common.{◌≡◌, ℕ, Bool, true, false, nat_eq, List, [], ◌∷◌, ◌++◌, set, Some, None, MatchOption, Result, Ok, Err, if◌then◌else◌, refl, sym, ap, ◌∙◌, subst}
+use Rattle.std.specs.Result.{result_ok}
 use Rattle.std.proofs.lemmas.Bool.{eqb-true}
 use Rattle.std.proofs.lemmas.Option.{same_Some, none-some}
 use Rattle.pli_run.specs.declared.ending.RunError.TheVariants.{DeadLocator}
@@ -10,7 +11,7 @@ use Rattle.pli_value.specs.Value.{Value, Characters}
 use Rattle.pli_world.specs.Storage.{Generation, Place, contents_of, generation_in, values_from, with_values, with_values_at, live_bytes}
 use Rattle.pli_world.specs.World.{World, Answer, Yields, Raises, Wrong, used, held, stored, parts_held, parts_stored}
 use Rattle.pli_store.specs.answers.Answered.{Answered}
-use Rattle.pli_store.specs.answers.Found.{PartStands, LeadsTo, LeadsNowhere, Leads}
+use Rattle.pli_store.specs.answers.Found.{PartStands, LeadsTo, LeadsToNone, LeadsNowhere, Leads}
 use Rattle.pli_store.specs.answers.Kept.{rise}
 use Rattle.pli_store.specs.answers.Puts.{ValuesPut, ValuesPutOrSame, LengthenedOrSame}
 use Rattle.pli_store.specs.declared.fault.StoreFault.{StoreFault}
@@ -79,6 +80,20 @@ unfolding parts_stored
 part_unwritten view p vs w after outside (Raised e) l = rw (l.1, l.0) refl
 part_unwritten view p vs w after outside NoRule l = parts_stored_nowhere p vs w (l outside)
 part_unwritten view p vs w after outside OutOfMemory l = tt
+
+pub leads_to_none : (gs : List Generation) (p : Place) (fault : StoreFault) → Leads gs p (Err fault) → LeadsToNone gs p
+leads_to_none gs p (Raised e) l = λ part there. none-some there.there.generation (sym l.1 ∙ there.found)
+leads_to_none gs p NoRule l = λ part there.
+    let n = l there.outside in
+    let same : n.generation ≡ there.there.generation = same_Some n.generation there.there.generation (sym n.found ∙ there.found) in
+    none-some there.there.scalar
+    (sym n.nowhere ∙ ap (λ (g : Generation). first_scalar g.description p.offset p.description) same ∙ there.first)
+leads_to_none gs p OutOfMemory l = absurd l
+
+pub leads_or_not : (gs : List Generation) (p : Place) (r : Result GenerationPart StoreFault) → Leads gs p r
+    → MatchOption (result_ok r) (LeadsToNone gs p) (λ part. LeadsTo gs p part)
+leads_or_not gs p (Ok part) l = l
+leads_or_not gs p (Err fault) l = leads_to_none gs p fault l
 
 -- ---- a place that leads to a part
 

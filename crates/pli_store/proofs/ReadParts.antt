@@ -1,13 +1,11 @@
 -- What is read in the bytes of the store is what places hold.
-use Rattle.std.proofs.Common.{◌≡◌, ℕ, Bool, true, ℤ, List, [], ◌∷◌, get_or, Option, IfSome, Bor, sym, ap, ◌∙◌}
+use Rattle.std.proofs.Common.{◌≡◌, ℕ, ◌+◌, ◌≤◌, true, List, [], ◌∷◌, length, get_or, Option, None, Some, IfSome, MatchOption, Bor, sym, ap, ◌∙◌, arith}
 use Rattle.std.proofs.lemmas.Option.{IfSome_then}
 use Rattle.pli_bytes.specs.Contents.{value_in}
-use Rattle.pli_map.specs.Description.{Description, Bit, FixedBinary, Pointer}
+use Rattle.pli_map.specs.Description.{Description}
 use Rattle.pli_map.specs.Scalars.{is_scalar}
-use Rattle.pli_value.specs.Short.{short_view}
-use Rattle.pli_value.specs.Value.{Value, Bits, Number, Characters, Located}
-use Rattle.pli_value.specs.declared.locator.Locator.{Locator}
-use Rattle.pli_value.specs.declared.short_bits.ShortBits.{ShortBits}
+use Rattle.pli_map.specs.Sizes.{size_of}
+use Rattle.pli_value.specs.Value.{Value, Characters}
 use Rattle.pli_world.specs.Storage as plain
 use Rattle.pli_world.specs.World.{World, Yields, held}
 use Rattle.pli_store.specs.answers.Found.{LeadsTo}
@@ -17,52 +15,41 @@ use Rattle.pli_store.specs.declared.storage.Storage.{Storage}
 use Rattle.pli_store.specs.views.StorageView.{storage_view, with_storage}
 use Rattle.pli_store.proofs.HeldScalars.{scalar_of_text}
 use Rattle.pli_store.proofs.PartAnswers.{held_scalar}
-use Rattle.pli_store.proofs.StandingParts.{read_there, held_there}
+use Rattle.pli_store.proofs.StandingParts.{bytes_within, read_there, held_there}
+
+-- where nothing is found, another reason follows
+pub otherwise : {X : Type 0} (r : Option X) (Found : X → Type 0) {P Q : Type 0} → (P → Q) → MatchOption r P Found → MatchOption r Q Found
+otherwise None Found f h = f h
+otherwise (Some x) Found f h = h
 
 module _ (s : Storage) (p : plain.Place) (part : GenerationPart) (l : LeadsTo (storage_view s) p part)
-    (g : Generation) (read : g ≡ get_or s.generations.items part.at g) (bytes : List ℕ) (same : bytes ≡ g.bytes.items) (w : World) where
+    (g : Generation) (read : g ≡ get_or s.generations.items part.at g) (bytes : List ℕ) (same : bytes ≡ g.bytes.items) where
   pub value_read : (v : Value) → is_scalar p.description ≡ true → value_in bytes (record { offset = part.offset; description = p.description }) ≡ v
-      → held p (with_storage s w) ≡ Yields v (with_storage s w)
-  value_read v scalar value =
+      → (w : World) → held p (with_storage s w) ≡ Yields v (with_storage s w)
+  value_read v scalar value w =
       held_scalar p (with_storage s w) part l v scalar
       (held_there s.generations.items part p.description l.there g (read_there s.generations.items part p.description l.there g read) scalar
       ∙ ap (λ b. value_in b (record { offset = part.offset; description = p.description }) ∷ []) (sym same)
       ∙ ap (λ (u : Value). u ∷ []) value)
 
-  pub number_read : (precision : ℕ) → p.description ≡ FixedBinary precision → (r : Option ℤ)
-      → IfSome r (λ x. value_in bytes (record { offset = part.offset; description = FixedBinary precision }) ≡ Number x)
-      → IfSome r (λ x. held p (with_storage s w) ≡ Yields (Number x) (with_storage s w))
-  number_read precision is r found =
-      IfSome_then r found
-      (λ x value. value_read (Number x) (ap is_scalar is)
-      (ap (λ (d : Description). value_in bytes (record { offset = part.offset; description = d })) is ∙ value))
+  within : (d : Description) → p.description ≡ d → part.offset + size_of d ≤ length bytes
+  within d is =
+      let there = read_there s.generations.items part p.description l.there g read in
+      omega (arith, bytes_within s.generations.items part p.description l.there g there, ap size_of is, ap length same)
 
-  pub bit_read : p.description ≡ Bit 1 → (r : Option Bool)
-      → IfSome r (λ b. value_in bytes (record { offset = part.offset; description = Bit 1 }) ≡ Bits (b ∷ []))
-      → IfSome r (λ b. held p (with_storage s w) ≡ Yields (Bits (b ∷ [])) (with_storage s w))
-  bit_read is r found =
-      IfSome_then r found
-      (λ b value. value_read (Bits (b ∷ [])) (ap is_scalar is)
-      (ap (λ (d : Description). value_in bytes (record { offset = part.offset; description = d })) is ∙ value))
-
-  pub short_read : (count : ℕ) → p.description ≡ Bit count → (r : Option ShortBits)
-      → IfSome r (λ b. value_in bytes (record { offset = part.offset; description = Bit count }) ≡ Bits (short_view b))
-      → IfSome r (λ b. held p (with_storage s w) ≡ Yields (Bits (short_view b)) (with_storage s w))
-  short_read count is r found =
-      IfSome_then r found
-      (λ b value. value_read (Bits (short_view b)) (ap is_scalar is)
-      (ap (λ (d : Description). value_in bytes (record { offset = part.offset; description = d })) is ∙ value))
-
-  pub pointer_read : p.description ≡ Pointer → (r : Option Locator)
-      → IfSome r (λ l. value_in bytes (record { offset = part.offset; description = Pointer }) ≡ Located l)
-      → IfSome r (λ l. held p (with_storage s w) ≡ Yields (Located l) (with_storage s w))
-  pointer_read is r found =
-      IfSome_then r found
-      (λ l value. value_read (Located l) (ap is_scalar is)
-      (ap (λ (d : Description). value_in bytes (record { offset = part.offset; description = d })) is ∙ value))
+  -- a scalar of a description is read, and what is found follows from what its place holds
+  pub scalar_read : {X : Type 0} (d : Description) → p.description ≡ d → is_scalar d ≡ true → (r : Option X) (value : X → Value)
+      {short none : Type 0} {Found : X → Type 0} → (part.offset + size_of d ≤ length bytes → short → none)
+      → ((x : X) → ((w : World) → held p (with_storage s w) ≡ Yields (value x) (with_storage s w)) → Found x)
+      → MatchOption r short (λ x. value_in bytes (record { offset = part.offset; description = d }) ≡ value x) → MatchOption r none Found
+  scalar_read d is scalar None value not so short = not (within d is) short
+  scalar_read d is scalar (Some x) value not so found =
+      so x
+      (value_read (value x) (ap is_scalar is ∙ scalar)
+      (ap (λ (e : Description). value_in bytes (record { offset = part.offset; description = e })) is ∙ found))
 
   pub text_read : (r : Option (Bor (List ℕ)))
       → IfSome r (λ text. value_in bytes (record { offset = part.offset; description = p.description }) ≡ Characters text.now)
-      → IfSome r (λ text. held p (with_storage s w) ≡ Yields (Characters text.now) (with_storage s w))
-  text_read r found =
-      IfSome_then r found (λ text value. value_read (Characters text.now) (scalar_of_text p.description _ text.now value) value)
+      → (w : World) → IfSome r (λ text. held p (with_storage s w) ≡ Yields (Characters text.now) (with_storage s w))
+  text_read r found w =
+      IfSome_then r found (λ text value. value_read (Characters text.now) (scalar_of_text p.description _ text.now value) value w)

@@ -4,6 +4,7 @@ pub mod Blocks
 pub mod Found
 pub mod Inhabited
 pub mod Kept
+pub mod Kinds
 pub mod Known
 pub mod LedOn
 pub mod Puts

@@ -1,5 +1,5 @@
 //! Strings of one bit, in bytes where they lie.
-ghost use Rattle.std.specs.Prelude.{◌≡◌, ◌∷◌, [], IfSome};
+ghost use Rattle.std.specs.Prelude.{◌≡◌, ◌↔◌, ◌≤◌, ◌<◌, ◌∷◌, [], length, IsTrue, MatchOption};
 ghost use Rattle.pli_bytes.specs.Changes.{PutOrSame};
 ghost use Rattle.pli_bytes.specs.Contents.{value_in, value_of};
 ghost use Rattle.pli_map.specs.Description as tree;
@@ -9,7 +9,7 @@ ghost use Rattle.pli_value.specs.Value.{Bits};
 /// does.
 #[inline(always)]
 pub fn bit_at(bytes: &[u8], offset: usize) -> Option<bool>
-    ensures { IfSome result (λ b. value_in bytes.now
+    ensures { MatchOption result (length bytes.now ≤ offset) (λ b. value_in bytes.now
         (record { offset = offset; description = tree.Bit 1 }) ≡ Bits (b ∷ [])) }
 {
     if offset >= bytes.len() {
@@ -29,7 +29,8 @@ fn byte_of(bit: bool) -> u8
 /// A bit put where a scalar of BIT of one bit lies; where the bytes end before it does, nothing changes.
 #[inline(always)]
 pub fn put_bit_at(bytes: &mut [u8], offset: usize, bit: bool) -> bool
-    ensures { PutOrSame result (tree.Bit 1) (Bits (bit ∷ [])) offset bytes.old bytes.new }
+    ensures put { PutOrSame result (tree.Bit 1) (Bits (bit ∷ [])) offset bytes.old bytes.new }
+    ensures room { IsTrue result ↔ (offset < length bytes.old) }
 {
     if offset >= bytes.len() {
         return false;

@@ -1,5 +1,5 @@
 //! Parts that are known to stand in a whole, found by a pointer to that.
-ghost use Rattle.std.specs.Prelude.{◌≡◌, ◌≤◌, true, IfSome};
+ghost use Rattle.std.specs.Prelude.{◌≡◌, ◌≤◌, true, false, IfSome, IfNone, MatchOption};
 ghost use Rattle.std.specs.Option.{is_some};
 ghost use Rattle.pli_map.specs.Scalars.{first_scalar};
 ghost use Rattle.pli_map.specs.views.DescriptionView.{description_view};
@@ -35,6 +35,8 @@ impl<'m> KnownPart<'m> {
         ensures whole { IfSome result (λ k. description_view k.whole.now ≡ description_view whole.now) }
         ensures offset { IfSome result (λ k. k.offset ≡ offset) }
         ensures part { IfSome result (λ k. description_view k.description.now ≡ description_view description.now) }
+        ensures none { IfNone result (offset ≤ 1000000 →
+            is_some (first_scalar (description_view whole.now) offset (description_view description.now)) ≡ false) }
     {
         if offset > OFFSET_LIMIT || !is_part(whole, offset, description) {
             return None;
@@ -48,14 +50,16 @@ impl<'m> KnownPart<'m> {
 }
 
 impl<'m> Storage<'m> {
-    ghost use Rattle.pli_store.specs.answers.Known.{IsOutside, ReadBy};
+    ghost use Rattle.pli_map.specs.Description.{Pointer};
+    ghost use Rattle.pli_store.specs.answers.Known.{IsOutside, IsNotOutside, ReadBy};
     ghost use Rattle.pli_store.specs.views.StorageView.{storage_view};
     ghost use Rattle.pli_value.specs.Value.{Number, Located};
 
     /// Where the generation stands to which a locator leads, if it leads to the whole of one of this description.
     #[inline(always)]
     fn outside(&self, locator: Locator, whole: &Description) -> Option<usize>
-        ensures { IfSome result (IsOutside (storage_view self.now) locator (description_view whole.now)) }
+        ensures { MatchOption result (IsNotOutside (storage_view self.now) locator (description_view whole.now))
+            (IsOutside (storage_view self.now) locator (description_view whole.now)) }
     {
         let Locator::Pointer {
             generation,
@@ -89,7 +93,9 @@ impl<'m> Storage<'m> {
     /// The same of a pointer.
     #[inline]
     pub fn pointer_by(&self, locator: Locator, part: &KnownPart<'_>) -> Option<Locator>
-        ensures { IfSome result (λ l. ReadBy self.now locator part.now (Located l)) }
+        ensures { MatchOption result (description_view part.now.description.now ≡ Pointer
+            → IsNotOutside (storage_view self.now) locator (description_view part.now.whole.now))
+            (λ l. ReadBy self.now locator part.now (Located l)) }
     {
         if !is_pointer(part.description) {
             return None;

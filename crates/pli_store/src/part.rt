@@ -1,10 +1,12 @@
 //! Where a place leads in storage.
-ghost use Rattle.std.specs.Prelude.{◌≡◌, ◌≤◌, ◌<◌, ◌/◌, ◌%◌, ◌∷◌, [], ◌&&◌, true, nat_eq, nat_lt, IfSome};
+ghost use Rattle.std.specs.Prelude.{◌≡◌, ◌≢◌, ◌↔◌, ℕ, ◌≤◌, ◌<◌, ◌/◌, ◌%◌, ◌∷◌, [], ◌&&◌, true, nat_eq, nat_lt};
+ghost use Rattle.std.specs.Prelude.{IsTrue, IfSome, MatchOption};
 ghost use Rattle.std.specs.Option.{is_some};
 ghost use Rattle.pli_map.specs.Description as tree;
 ghost use Rattle.pli_map.specs.Scalars.{first_scalar};
 ghost use Rattle.pli_map.specs.Sizes.{number_bytes, size_of};
 ghost use Rattle.pli_map.specs.views.DescriptionView.{description_view, members_view};
+ghost use Rattle.pli_store.specs.answers.Kinds.{are_numbers};
 
 use pli_map::{Bounds, Description, are_same_scalars, first_scalar, stands_among, stands_in};
 use pli_value::short::SHORT_LIMIT;
@@ -19,7 +21,8 @@ pub struct GenerationPart {
 /// How many binary digits a number has, where a description is of FIXED BINARY.
 #[inline(always)]
 pub fn number_precision(description: &Description) -> Option<u8>
-    ensures { IfSome result (λ precision. description_view description.now ≡ tree.FixedBinary precision) }
+    ensures { MatchOption result ((precision : ℕ) → description_view description.now ≢ tree.FixedBinary precision)
+        (λ precision. description_view description.now ≡ tree.FixedBinary precision) }
 {
     match description {
         Description::FixedBinary(precision) => Some(*precision),
@@ -30,7 +33,8 @@ pub fn number_precision(description: &Description) -> Option<u8>
 /// How many characters a string has at most, where a description is of CHARACTER VARYING.
 #[inline(always)]
 pub fn greatest_length(description: &Description) -> Option<u16>
-    ensures { IfSome result (λ greatest. description_view description.now ≡ tree.Varying greatest) }
+    ensures { MatchOption result ((greatest : ℕ) → description_view description.now ≢ tree.Varying greatest)
+        (λ greatest. description_view description.now ≡ tree.Varying greatest) }
 {
     match description {
         Description::Varying(greatest) => Some(*greatest),
@@ -41,7 +45,7 @@ pub fn greatest_length(description: &Description) -> Option<u16>
 /// Whether a description is of strings of one bit.
 #[inline(always)]
 pub fn is_one_bit(description: &Description) -> bool
-    ensures { result ≡ true → description_view description.now ≡ tree.Bit 1 }
+    ensures { IsTrue result ↔ (description_view description.now ≡ tree.Bit 1) }
 {
     match description {
         Description::Bit(length) => *length == 1,
@@ -52,7 +56,8 @@ pub fn is_one_bit(description: &Description) -> bool
 /// How many bits a string has, where a description is of BIT and these are few.
 #[inline(always)]
 pub fn short_length(description: &Description) -> Option<usize>
-    ensures length { IfSome result (λ count. description_view description.now ≡ tree.Bit count) }
+    ensures length { MatchOption result ((count : ℕ) → count ≤ 63 → description_view description.now ≢ tree.Bit count)
+        (λ count. description_view description.now ≡ tree.Bit count) }
     ensures few { IfSome result (λ count. count ≤ 63) }
 {
     match description {
@@ -66,7 +71,7 @@ pub fn short_length(description: &Description) -> Option<usize>
 /// Whether a description is of strings of so many bits.
 #[inline(always)]
 pub fn is_of_bits(description: &Description, count: usize) -> bool
-    ensures { result ≡ true → description_view description.now ≡ tree.Bit count }
+    ensures { IsTrue result ↔ (description_view description.now ≡ tree.Bit count) }
 {
     match description {
         Description::Bit(length) => usize::from(*length) == count,
@@ -77,7 +82,7 @@ pub fn is_of_bits(description: &Description, count: usize) -> bool
 /// Whether a description is of pointers.
 #[inline(always)]
 pub fn is_pointer(description: &Description) -> bool
-    ensures { result ≡ true → description_view description.now ≡ tree.Pointer }
+    ensures { IsTrue result ↔ (description_view description.now ≡ tree.Pointer) }
 {
     match description {
         Description::Pointer => true,
@@ -88,7 +93,7 @@ pub fn is_pointer(description: &Description) -> bool
 /// Whether so many bytes are a multiple of the width of a number of so many binary digits.
 #[inline(always)]
 fn is_multiple(offset: usize, precision: u8) -> bool
-    ensures { result ≡ true → offset % number_bytes precision ≡ 0 }
+    ensures { IsTrue result ↔ (offset % number_bytes precision ≡ 0) }
 {
     match precision {
         0..=15 => offset % 2 == 0,
@@ -98,12 +103,12 @@ fn is_multiple(offset: usize, precision: u8) -> bool
 }
 
 /// Whether a number of so many binary digits stands so many bytes behind the beginning of a whole of so many bytes:
-/// alone, or as an element of an array.
+/// alone, or as an element of an array. Whether it stands in any other whole is not asked.
 #[inline(always)]
 pub fn is_number_at(whole: &Description, size: usize, offset: usize, precision: u8) -> bool
     requires { size ≡ size_of (description_view whole.now) }
-    ensures { result ≡ true → is_some (first_scalar (description_view whole.now) offset (tree.FixedBinary precision))
-        ≡ true }
+    ensures { result ≡ (are_numbers (description_view whole.now)
+        && is_some (first_scalar (description_view whole.now) offset (tree.FixedBinary precision))) }
 {
     match whole {
         Description::FixedBinary(has) => offset == 0 && *has == precision,

@@ -1,5 +1,5 @@
 //! Pointers, in bytes where they lie.
-ghost use Rattle.std.specs.Prelude.{◌≡◌, ◌≤◌, drop, length, true, IfSome};
+ghost use Rattle.std.specs.Prelude.{◌≡◌, ◌↔◌, ◌+◌, ◌≤◌, ◌<◌, drop, length, true, false, IsTrue, IfSome, MatchOption};
 ghost use Rattle.byteorder.specs.Endian.{big_number};
 ghost use Rattle.pli_bytes.specs.Changes.{IsPut, PutOrSame};
 ghost use Rattle.pli_bytes.specs.Contents.{value_in};
@@ -34,8 +34,8 @@ fn pointer_of(bytes: &[u8]) -> Locator
 /// does.
 #[inline]
 pub fn pointer_at(bytes: &[u8], offset: usize) -> Option<Locator>
-    ensures { IfSome result (λ l. value_in bytes.now (record { offset = offset; description = tree.Pointer })
-        ≡ Located l) }
+    ensures { MatchOption result (length bytes.now < offset + 8)
+        (λ l. value_in bytes.now (record { offset = offset; description = tree.Pointer }) ≡ Located l) }
 {
     if offset > bytes.len() {
         return None;
@@ -47,11 +47,12 @@ pub fn pointer_at(bytes: &[u8], offset: usize) -> Option<Locator>
     Some(pointer_of(&rest[..POINTER_SIZE]))
 }
 
-/// The two numbers that a pointer is in its bytes; `None` for what none is.
+/// The two numbers that a pointer is in its bytes; `None` for an offset, and where four bytes do not hold a number.
 #[inline(always)]
 fn numbers_of(locator: Locator) -> Option<(u32, u32)>
     ensures numbers { IfSome result (λ n. stored.pointer_of n.0 n.1 ≡ locator) }
-    ensures held { IfSome result (λ n. holds tree.Pointer (Located locator) ≡ true) }
+    ensures held { MatchOption result (holds tree.Pointer (Located locator) ≡ false)
+        (λ n. holds tree.Pointer (Located locator) ≡ true) }
 {
     match locator {
         Locator::Null => Some((0, 0)),
@@ -73,12 +74,13 @@ fn put_numbers(bytes: &mut [u8], first: u32, second: u32)
     BigEndian::write_u32(&mut bytes[4..], second);
 }
 
-/// A pointer put where a scalar of POINTER lies; where the bytes end before it does, and for an offset, nothing
-/// changes.
+/// A pointer put where a scalar of POINTER lies; where the bytes end before it does, and for what no scalar of POINTER
+/// holds, as an offset, nothing changes.
 #[inline]
 pub fn put_pointer_at(bytes: &mut [u8], offset: usize, locator: Locator) -> bool
     ensures put { PutOrSame result tree.Pointer (Located locator) offset bytes.old bytes.new }
-    ensures held { result ≡ true → holds tree.Pointer (Located locator) ≡ true }
+    ensures held { IsTrue result
+        ↔ ((holds tree.Pointer (Located locator) ≡ true) × (offset + 8 ≤ length bytes.old)) }
 {
     if offset > bytes.len() {
         return false;
@@ -90,7 +92,7 @@ pub fn put_pointer_at(bytes: &mut [u8], offset: usize, locator: Locator) -> bool
 #[inline(always)]
 fn put_first_pointer(bytes: &mut [u8], locator: Locator) -> bool
     ensures put { PutOrSame result tree.Pointer (Located locator) 0 bytes.old bytes.new }
-    ensures held { result ≡ true → holds tree.Pointer (Located locator) ≡ true }
+    ensures held { IsTrue result ↔ ((holds tree.Pointer (Located locator) ≡ true) × (8 ≤ length bytes.old)) }
 {
     let Some((first, second)) = numbers_of(locator) else {
         return false;

@@ -1,5 +1,5 @@
 //! Values put into generations.
-ghost use Rattle.std.specs.Prelude.{◌≡◌, ◌∷◌, [], map, true};
+ghost use Rattle.std.specs.Prelude.{◌≡◌, ◌↔◌, ◌≤◌, ◌∷◌, [], map, true, IsTrue};
 ghost use Rattle.pli_map.specs.Description.{FixedBinary, Varying, Bit, Pointer};
 ghost use Rattle.pli_map.specs.Values.{holds};
 ghost use Rattle.pli_map.specs.views.DescriptionView.{description_view};
@@ -17,10 +17,10 @@ use pli_bytes::{append_at, put_number_at, put_short_at, put_value_at};
 use pli_map::Description;
 use pli_value::{Locator, ShortBits, Value, number};
 
-/// Whether a number of so many binary digits may be this.
+/// Whether a number of so many binary digits may be this; of more than 63 digits none is.
 #[inline(always)]
 pub fn holds_number(precision: u8, number: i64) -> bool
-    ensures { result ≡ true → holds (FixedBinary precision) (Number number) ≡ true }
+    ensures { IsTrue result ↔ ((precision ≤ 63) × (holds (FixedBinary precision) (Number number) ≡ true)) }
 {
     precision <= 63 && number::fit(number, precision).is_ok()
 }
@@ -59,13 +59,14 @@ pub fn put_number(
     put_number_at(&mut generation.bytes, part.offset, precision, number)
 }
 
-/// The same of a string of one bit; `false` where it has no room.
+/// The same of a string of one bit, for which there always is room.
 #[inline(always)]
 pub fn put_bit(generations: &mut Vec<Generation<'_>>, part: GenerationPart, bit: bool) -> bool
     requires { PartStands (map generation_view generations.old.items) part (Bit 1) }
-    ensures { ValuesPutOrSame result (map generation_view generations.old.items)
+    ensures put { ValuesPutOrSame result (map generation_view generations.old.items)
         (map generation_view generations.new.items)
         part (Bit 1) (Bits (bit ∷ []) ∷ []) }
+    ensures room { IsTrue result }
 {
     let generation = &mut generations[part.at];
     put_bit_at(&mut generation.bytes, part.offset, bit)
@@ -87,7 +88,7 @@ pub fn put_short(
     put_short_at(&mut generation.bytes, part.offset, bits)
 }
 
-/// The same of a pointer; `false` where it has no room, and for an offset.
+/// The same of a pointer; `false` for what no scalar of POINTER holds, as an offset.
 #[inline(always)]
 pub fn put_pointer(
     generations: &mut Vec<Generation<'_>>,
@@ -95,7 +96,7 @@ pub fn put_pointer(
     locator: Locator,
 ) -> bool
     requires { PartStands (map generation_view generations.old.items) part Pointer }
-    ensures held { result ≡ true → holds Pointer (Located locator) ≡ true }
+    ensures held { IsTrue result ↔ (holds Pointer (Located locator) ≡ true) }
     ensures put { ValuesPutOrSame result (map generation_view generations.old.items)
         (map generation_view generations.new.items)
         part Pointer (Located locator ∷ []) }

@@ -1,6 +1,6 @@
 //! Storage: the generations that live.
 ghost use Rattle.std.specs.Prelude.{◌≡◌, ◌≤◌, ◌++◌, List, ◌∷◌, [], length, map, true, false, None, IfOk, IfSome};
-ghost use Rattle.std.specs.Prelude.{MatchOption, MatchResult, OnErr};
+ghost use Rattle.std.specs.Prelude.{IsFalse, MatchOption, MatchResult, OnErr};
 ghost use Rattle.std.specs.Option.{option_map};
 ghost use Rattle.pli_bytes.specs.Contents.{values_of};
 ghost use Rattle.pli_map.specs.Description.{Bit, FixedBinary, Pointer};
@@ -16,7 +16,7 @@ ghost use Rattle.pli_world.specs.Targets.{target_at};
 ghost use Rattle.pli_world.specs.World.{World, Yields, held, stored, copied, made_of, dummy_of, in_newest};
 ghost use Rattle.pli_store.specs.answers.Answered.{Answered};
 ghost use Rattle.pli_store.specs.answers.Begins.{Begins, BeginsWith};
-ghost use Rattle.pli_store.specs.answers.Found.{StandsAt, Leads, LeadsTo};
+ghost use Rattle.pli_store.specs.answers.Found.{StandsAt, Leads, LeadsTo, LeadsToNone};
 ghost use Rattle.pli_store.specs.answers.Kept.{rise};
 ghost use Rattle.pli_store.specs.views.GenerationView.{generation_view, made_view};
 
@@ -66,7 +66,7 @@ pub struct Storage<'m> {
 
 impl<'m> Storage<'m> {
     ghost use Rattle.pli_store.specs.views.StorageView.{place_view, target_view, storage_view, made_count};
-    ghost use Rattle.pli_store.specs.views.StorageView.{with_storage, NumberPut, ValuePut, Appended, RoomFor};
+    ghost use Rattle.pli_store.specs.views.StorageView.{with_storage, NumberPut, ValuePut, CannotPut, Appended, RoomFor};
     ghost use Rattle.pli_store.specs.views.StorageView.{SameStorage};
 
     /// Storage in which nothing lives, before anything was made.
@@ -271,7 +271,9 @@ impl<'m> Storage<'m> {
     /// place in a block, of which `held` tells.
     #[inline]
     pub fn bit_at(&self, place: Place<'_>) -> Option<bool>
-        ensures { (w : World) → IfSome result (λ b. held (place_view place.entry) (with_storage self.now w)
+        ensures { (w : World) → MatchOption result (description_view place.entry.description.now ≡ Bit 1
+            → LeadsToNone (storage_view self.now) (place_view place.entry))
+            (λ b. held (place_view place.entry) (with_storage self.now w)
             ≡ Yields (Bits (b ∷ [])) (with_storage self.now w)) }
     {
         if !is_one_bit(place.description) {
@@ -315,7 +317,8 @@ impl<'m> Storage<'m> {
     #[inline(never)]
     fn far_pointer(&self, place: Place<'_>) -> Option<Locator>
         requires { description_view place.description.now ≡ Pointer }
-        ensures { (w : World) → IfSome result (λ l. held (place_view place.entry) (with_storage self.now w)
+        ensures { (w : World) → MatchOption result (LeadsToNone (storage_view self.now) (place_view place.entry))
+            (λ l. held (place_view place.entry) (with_storage self.now w)
             ≡ Yields (Located l) (with_storage self.now w)) }
     {
         match self.part(place) {
@@ -328,7 +331,9 @@ impl<'m> Storage<'m> {
     /// in a block, of which `held` tells. That of a pointer alone is found at once.
     #[inline]
     pub fn pointer_at(&self, place: Place<'_>) -> Option<Locator>
-        ensures { (w : World) → IfSome result (λ l. held (place_view place.entry) (with_storage self.now w)
+        ensures { (w : World) → MatchOption result (description_view place.entry.description.now ≡ Pointer
+            → LeadsToNone (storage_view self.now) (place_view place.entry))
+            (λ l. held (place_view place.entry) (with_storage self.now w)
             ≡ Yields (Located l) (with_storage self.now w)) }
     {
         if !is_pointer(place.description) {
@@ -458,7 +463,8 @@ impl<'m> Storage<'m> {
     /// why.
     #[inline]
     pub fn put_bit(&mut self, place: Place<'_>, bit: bool) -> bool
-        ensures { ValuePut result self.old self.new (place_view place.entry) (Bits (bit ∷ [])) }
+        ensures put { ValuePut result self.old self.new (place_view place.entry) (Bits (bit ∷ [])) }
+        ensures refused { IsFalse result → CannotPut self.old (place_view place.entry) (Bits (bit ∷ [])) }
     {
         if !is_one_bit(place.description) {
             return false;
@@ -472,7 +478,8 @@ impl<'m> Storage<'m> {
     /// The part that is a scalar to which a place leads, outside areas; one alone is found at once.
     #[inline(always)]
     fn scalar_part(&self, place: Place<'_>) -> Option<GenerationPart>
-        ensures { IfSome result (λ part. LeadsTo (storage_view self.now) (place_view place.entry) part) }
+        ensures { MatchOption result (LeadsToNone (storage_view self.now) (place_view place.entry))
+            (λ part. LeadsTo (storage_view self.now) (place_view place.entry) part) }
     {
         match self.lone(place) {
             Some(at) => Some(GenerationPart { at, offset: 0 }),
@@ -499,7 +506,9 @@ impl<'m> Storage<'m> {
     /// That of a pointer alone is found at once.
     #[inline]
     pub fn put_pointer(&mut self, place: Place<'_>, locator: Locator) -> bool
-        ensures { ValuePut result self.old self.new (place_view place.entry) (Located locator) }
+        ensures put { ValuePut result self.old self.new (place_view place.entry) (Located locator) }
+        ensures refused { IsFalse result → description_view place.entry.description.now ≡ Pointer
+            → CannotPut self.old (place_view place.entry) (Located locator) }
     {
         if !is_pointer(place.description) {
             return false;

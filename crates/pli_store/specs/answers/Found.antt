@@ -28,6 +28,11 @@ pub record LeadsTo (gs : List Generation) (p : Place) (part : GenerationPart) : 
   pub found : generation_in gs p.generation ≡ Some there.generation
   pub first : first_scalar there.generation.description p.offset p.description ≡ Some there.scalar
 
+-- a place leads to no part outside areas: it leads into a block, its generation has ended, or no such part
+-- stands there
+abbrev pub LeadsToNone : List Generation → Place → Type 0
+LeadsToNone gs p = (part : GenerationPart) → LeadsTo gs p part → ⊥
+
 -- a place outside areas leads to no part of its generation
 pub record LeadsNowhere (gs : List Generation) (p : Place) : Type 0 where
   pub outside : p.position ≡ 0

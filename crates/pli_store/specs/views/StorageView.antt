@@ -3,12 +3,14 @@ use Rattle.std.specs.Prelude.{◌≡◌, ◌≤◌, ◌<◌, ℕ, ℤ, ◌+◌, 
 use Rattle.pli_run.specs.declared.ending.RunError.TheVariants.{StorageLimit}
 use Rattle.pli_map.specs.Description.{Description}
 use Rattle.pli_map.specs.Sizes.{size_of}
+use Rattle.pli_map.specs.Values.{holds}
 use Rattle.pli_map.specs.Variables.{byte_limit}
 use Rattle.pli_map.specs.views.DescriptionView.{description_view}
 use Rattle.pli_world.specs.Targets as target
 use Rattle.pli_world.specs.World.{World, Yields, Raises, held, stored, made_of}
 use Rattle.pli_world.specs.Storage as plain
 use Rattle.pli_world.specs.Storage.{live_bytes, generation_limit}
+use Rattle.pli_store.specs.answers.Found.{LeadsToNone}
 use Rattle.pli_store.specs.views.GenerationView.{generation_view, made_view}
 use Rattle.pli_value.specs.Value.{Value, Number, Characters}
 use Rattle.pli_store.specs.declared.living.Target.{Target}
@@ -51,6 +53,10 @@ pub record SameStorage (old new : Storage) : Type 0 where
 abbrev pub ValuePut : Bool → (old new : Storage) → plain.Place → Value → Type 0
 ValuePut true old new p v = (w : World) → stored p v (with_storage old w) ≡ Yields tt (with_storage new w)
 ValuePut false old new p v = SameStorage old new
+
+-- a value may not be put at a place outside areas: its description does not hold it, or it leads to no part
+abbrev pub CannotPut : Storage → plain.Place → Value → Type 0
+CannotPut s p v = holds p.description v ≡ true → LeadsToNone (storage_view s) p
 
 -- the same of a number
 abbrev pub NumberPut : Bool → (old new : Storage) → plain.Place → ℤ → Type 0

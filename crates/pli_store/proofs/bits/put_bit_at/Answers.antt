@@ -2,8 +2,8 @@ use Rattle.std.proofs.Common.{[], ◌∷◌, ◌++◌, drop, refl, sym, take, ap
 use Rattle.std.proofs.lemmas.List.{set_split}
 use Rattle.pli_store.proofs.bits.put_bit_at.Goals as goal
 
-pub returns : goal.returns
-returns c =
+pub returns-clause-put : goal.returns-clause-put
+returns-clause-put c =
     let bytes = c.args.bytes.now in
     let at = c.args.offset in
     let x = c.byte_of.result in

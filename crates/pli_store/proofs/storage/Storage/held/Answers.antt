@@ -32,5 +32,5 @@ value_at-requires c =
 
 pub returns : goal.returns
 returns c = λ w.
-    value_read c.args.self.now (place_view c.args.place) c.in_ok-part.part c.in_ok-part.ensures c.index.result.now c.index.ensures c.deref.result.now c.deref.ensures.value w
-    (value_view c.in_ok-value_at.field-0) (sym c.if-not-is_scalar.ensures) (sym c.in_ok-value_at.ensures)
+    value_read c.args.self.now (place_view c.args.place) c.in_ok-part.part c.in_ok-part.ensures c.index.result.now c.index.ensures c.deref.result.now c.deref.ensures.value
+    (value_view c.in_ok-value_at.field-0) (sym c.if-not-is_scalar.ensures) (sym c.in_ok-value_at.ensures) w

@@ -1,8 +1,9 @@
-use Rattle.std.proofs.Common.{arith}
+use Rattle.std.proofs.Common.{refl, arith}
+use Rattle.pli_map.specs.Description.{FixedBinary}
 use Rattle.pli_value.specs.Value.{Number}
-use Rattle.pli_store.proofs.KnownLemmas.{part_leads, part_place, read_by, some_each}
+use Rattle.pli_store.proofs.KnownLemmas.{part_leads, part_place, read_by}
 use Rattle.pli_store.proofs.PlaceLemmas.{within_store}
-use Rattle.pli_store.proofs.ReadParts.{number_read}
+use Rattle.pli_store.proofs.ReadParts.{scalar_read}
 use Rattle.pli_store.proofs.storage.Storage.number_by.Goals as goal
 
 pub index-requires : goal.index-requires
@@ -18,7 +19,6 @@ returns c =
     let k = c.args.part.now in
     let o = c.in_ok-at.ensures in
     let at = c.in_ok-at.at in
-    some_each c.number_at.result
-    (λ w. number_read s (part_place s k c.args.locator at o) (record { at = at; offset = k.offset }) (part_leads s k c.args.locator at o c.index.result.now c.index.ensures) c.index.result.now c.index.ensures c.deref.result.now c.deref.ensures.value w
-    c.in_ok-precision.precision c.in_ok-precision.ensures c.number_at.result c.number_at.ensures)
-    (λ x holds. read_by s k c.args.locator at o (Number x) holds)
+    scalar_read s (part_place s k c.args.locator at o) (record { at = at; offset = k.offset }) (part_leads s k c.args.locator at o c.index.result.now c.index.ensures) c.index.result.now c.index.ensures c.deref.result.now c.deref.ensures.value
+    (FixedBinary c.in_ok-precision.precision) c.in_ok-precision.ensures refl c.number_at.result Number (λ within short. tt) (λ x holds. read_by s k c.args.locator at o (Number x) holds)
+    c.number_at.ensures

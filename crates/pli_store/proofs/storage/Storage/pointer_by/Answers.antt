@@ -1,8 +1,9 @@
 use Rattle.std.proofs.Common.{refl, arith}
+use Rattle.pli_map.specs.Description.{Pointer}
 use Rattle.pli_value.specs.Value.{Located}
-use Rattle.pli_store.proofs.KnownLemmas.{part_leads, part_place, read_by, some_each}
+use Rattle.pli_store.proofs.KnownLemmas.{part_leads, part_place, read_by}
 use Rattle.pli_store.proofs.PlaceLemmas.{within_store}
-use Rattle.pli_store.proofs.ReadParts.{pointer_read}
+use Rattle.pli_store.proofs.ReadParts.{scalar_read}
 use Rattle.pli_store.proofs.storage.Storage.pointer_by.Goals as goal
 
 pub index-requires : goal.index-requires
@@ -18,7 +19,6 @@ returns c =
     let k = c.args.part.now in
     let o = c.in_ok-at.ensures in
     let at = c.in_ok-at.at in
-    some_each c.pointer_at.result
-    (λ w. pointer_read s (part_place s k c.args.locator at o) (record { at = at; offset = k.offset }) (part_leads s k c.args.locator at o c.index.result.now c.index.ensures) c.index.result.now c.index.ensures c.deref.result.now c.deref.ensures.value w
-    (c.if-not-is_pointer.ensures refl) c.pointer_at.result c.pointer_at.ensures)
-    (λ x holds. read_by s k c.args.locator at o (Located x) holds)
+    scalar_read s (part_place s k c.args.locator at o) (record { at = at; offset = k.offset }) (part_leads s k c.args.locator at o c.index.result.now c.index.ensures) c.index.result.now c.index.ensures c.deref.result.now c.deref.ensures.value
+    Pointer (c.if-not-is_pointer.ensures.0 refl) refl c.pointer_at.result Located (λ within short. absurd (omega (arith, within, short)))
+    (λ l holds. read_by s k c.args.locator at o (Located l) holds) c.pointer_at.ensures

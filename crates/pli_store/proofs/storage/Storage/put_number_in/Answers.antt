@@ -25,4 +25,4 @@ returns c =
     let fits : SFits w64 c.args.number = search rules in
     let whole = to_z-of_z w64 c.args.number fits in
     value_is_put c.args.self.now _ (place_view c.args.place) c.args.part (FixedBinary c.args.precision) c.requires.precision refl c.requires.leads
-    c.put_number.result (Number c.args.number) (rw whole at (c.if-not-holds_number.ensures refl)) (rw whole at c.put_number.ensures)
+    c.put_number.result (Number c.args.number) (rw whole at (c.if-not-holds_number.ensures.0 refl)).1 (rw whole at c.put_number.ensures)

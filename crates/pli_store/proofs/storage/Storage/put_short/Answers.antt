@@ -11,7 +11,7 @@ use Rattle.pli_store.proofs.PutAnswers.{value_is_put}
 use Rattle.pli_store.proofs.storage.Storage.put_short.Goals as goal
 
 pub put_short-requires : goal.put_short-requires
-put_short-requires c = subst (PartStands (storage_view c.args.self.now) c.in-Some.part) (c.if-not-is_of_bits.ensures refl) c.in-Some.ensures.there
+put_short-requires c = subst (PartStands (storage_view c.args.self.now) c.in-Some.part) (c.if-not-is_of_bits.ensures.0 refl) c.in-Some.ensures.there
 
 pub invariant_of-self : goal.invariant_of-self
 invariant_of-self c =
@@ -21,5 +21,5 @@ invariant_of-self c =
 
 pub returns-in-Some : goal.returns-in-Some
 returns-in-Some c =
-    value_is_put c.args.self.now _ (place_view c.args.place) c.in-Some.part (Bit c.args.bits.count) (c.if-not-is_of_bits.ensures refl) refl c.in-Some.ensures
+    value_is_put c.args.self.now _ (place_view c.args.place) c.in-Some.part (Bit c.args.bits.count) (c.if-not-is_of_bits.ensures.0 refl) refl c.in-Some.ensures
     c.put_short.result (Bits (short_view c.args.bits)) (eq-eqb _ _ (counted c.args.bits.count c.args.bits.number)) c.put_short.ensures

@@ -4,5 +4,5 @@ use Rattle.pli_store.proofs.storage.Storage.text_at.Goals as goal
 
 pub returns-in-Ok : goal.returns-in-Ok
 returns-in-Ok c = λ w.
-    text_read c.args.self.now (place_view c.args.place) c.in-Ok.part c.in-Ok.ensures c.index.result.now c.index.ensures c.deref.result.now c.deref.ensures.value w
-    c.text_at.result c.text_at.ensures
+    text_read c.args.self.now (place_view c.args.place) c.in-Ok.part c.in-Ok.ensures c.index.result.now c.index.ensures c.deref.result.now c.deref.ensures.value
+    c.text_at.result c.text_at.ensures w
