@@ -1,5 +1,6 @@
 pub mod CallLemmas
 pub mod DecodedLemmas
+pub mod FinishLemmas
 pub mod LayLemmas
 pub mod MoveLemmas
 pub mod OverLemmas

@@ -1,5 +1,6 @@
 pub mod CurrentUnit
 pub mod DecodedCode
+pub mod Finishing
 pub mod Laying
 pub mod OverCells
 pub mod Passes
