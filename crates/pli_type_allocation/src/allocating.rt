@@ -7,7 +7,8 @@ ghost use Rattle.pli_type.specs.AllocationTyping as spec;
 ghost use Rattle.pli_type.specs.Beginnings.{root_at};
 ghost use Rattle.pli_type.specs.Names as names;
 ghost use Rattle.pli_type.specs.StatementTyping.{allocate_typed};
-ghost use Rattle.pli_type_expression.specs.views.TypingView.{referent_view, variable_view};
+ghost use Rattle.pli_type_operands.specs.views.TypingView.{referent_view};
+ghost use Rattle.pli_type_expression.specs.views.SegmentView.{variable_view};
 ghost use Rattle.pli_type_names.specs.SymbolMeaning.{IsVariable};
 ghost use Rattle.pli_type_names.specs.UnitNaming.{naming_in};
 ghost use Rattle.pli_type_names.specs.views.StorageView.{locator_view as named_view};
@@ -20,10 +21,9 @@ use pli_base::statement::Allocation;
 use pli_base::syntax::Reference;
 use pli_base::{Code, fault};
 use pli_type::{Beginning, area_meant};
-use pli_type_expression::{
-    LocatorVariable, Referent, Role, TypeError, locator_at, own_token, referred,
-};
+use pli_type_expression::{LocatorVariable, locator_at, referred};
 use pli_type_names::{NamedAs, NamedLocator, NamedStorage, NamedVariable, Naming};
+use pli_type_operands::{Referent, Role, TypeError, own_token};
 use pli_type_templates::UnitTemplates;
 use pli_type_tree::{AllocatedItem, Conversion, Form, Template};
 use std::alloc::{AllocError, Global};

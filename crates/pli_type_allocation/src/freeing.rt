@@ -13,8 +13,9 @@ ghost use Rattle.pli_type_tree.specs.views.TypedView.{form_view, freed_view};
 use crate::variables::only_variable;
 use pli_base::syntax::Reference;
 use pli_base::{Code, fault};
-use pli_type_expression::{Role, TypeError, own_token, referred};
+use pli_type_expression::referred;
 use pli_type_names::Naming;
+use pli_type_operands::{Role, TypeError, own_token};
 use pli_type_tree::{Form, FreedItem, Root, TypedReference};
 use std::alloc::Global;
 

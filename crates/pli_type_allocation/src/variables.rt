@@ -1,10 +1,10 @@
 //! References to variables in ALLOCATE and FREE.
 ghost use Rattle.pli_base.specs.answers.FailureAnswers.{Gives};
 ghost use Rattle.pli_type.specs.AllocationTyping as spec;
-ghost use Rattle.pli_type_expression.specs.views.TypingView.{denoted_view, referent_view};
+ghost use Rattle.pli_type_operands.specs.views.TypingView.{denoted_view, referent_view};
 
 use pli_base::{Code, fault};
-use pli_type_expression::{Denoted, Referent, TypeError};
+use pli_type_operands::{Denoted, Referent, TypeError};
 
 /// A variable or a part of one: what a function gives, EMPTY too, is T1 at the token `at`.
 pub(crate) fn only_variable<'a>(denoted: Denoted<'a>, at: u32) -> Result<Referent<'a>, TypeError>

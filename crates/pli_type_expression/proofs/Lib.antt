@@ -1,11 +1,8 @@
 pub mod BindLemmas
-pub mod Rooms
-pub mod WrittenCalls
-pub mod CallLemmas
 pub mod LoopLemmas
 pub mod MeaningLemmas
 pub mod OpenLemmas
-pub mod PassingLemmas
 pub mod ReferenceLemmas
 pub mod SizeLemmas
 pub mod WalkLemmas
+pub mod WrittenCalls

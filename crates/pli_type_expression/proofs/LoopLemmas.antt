@@ -19,8 +19,8 @@ use Rattle.pli_type_expression.specs.Segments.{next_segment, last_segment}
 use Rattle.pli_base.specs.answers.FailureAnswers.{Fails}
 use Rattle.pli_base.specs.declared.failure.Failure.{Failure}
 use Rattle.pli_base.specs.declared.token.Fault.{Fault}
-use Rattle.pli_type_expression.specs.declared.argument.Argument.{Argument}
-use Rattle.pli_type_expression.specs.views.TypingView.{argument_view}
+use Rattle.pli_type_operands.specs.declared.argument.Argument.{Argument}
+use Rattle.pli_type_operands.specs.views.TypingView.{argument_view}
 use Rattle.pli_type_expression.proofs.BindLemmas.{fails_on, fails_as, bind_ok, none_before}
 use Rattle.pli_type_expression.proofs.WalkLemmas.{subscripts_with, arguments_with, more_subscripts, more_arguments}
 use Rattle.pli_type_expression.proofs.WalkLemmas.{subscript_unmeant, subscript_refused, argument_unmeant}

@@ -24,7 +24,7 @@ use Rattle.pli_type_names.specs.declared.naming.NamedVariable.{NamedVariable}
 use Rattle.pli_type_tree.specs.TypedTree.{TypedExpression}
 use Rattle.pli_type_expression.specs.Segments.{function_typed, is_empty_function, is_null_function, means_one}
 use Rattle.pli_base.specs.answers.FailureAnswers.{Fails, Gives}
-use Rattle.pli_type_expression.specs.views.TypingView.{of_name}
+use Rattle.pli_type_expression.specs.views.SegmentView.{of_name}
 use Rattle.pli_base.specs.declared.failure.Failure.{Failure}
 use Rattle.pli_base.specs.declared.token.Fault.{Fault}
 use Rattle.pli_type_expression.proofs.BindLemmas.{fails_on, fails_as, bind_assoc, bind_ok}

@@ -21,7 +21,7 @@ use Rattle.pli_type.specs.Typing.{Segment, first_token, denoted, value_of, refer
 use Rattle.pli_type.specs.Typing.{all_subscripts, subscripts_in, all_arguments, argument}
 use Rattle.pli_type.specs.Typing.{as_value, or_fault, subscript_value, ended, with_more, is_call}
 use Rattle.pli_type_tree.specs.TypedTree.{TypedExpression}
-use Rattle.pli_type_expression.specs.Operated.{infix_of, right_of, infixed}
+use Rattle.pli_type_operands.specs.Operated.{infix_of, right_of, infixed}
 use Rattle.pli_type_expression.specs.Segments.{last_segment}
 use Rattle.pli_base.specs.answers.FailureAnswers.{Fails}
 use Rattle.pli_base.specs.declared.failure.Failure.{Failure}

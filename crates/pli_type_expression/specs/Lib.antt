@@ -1,6 +1,2 @@
-pub mod Bounded
-pub mod Operated
-pub mod Quotients
 pub mod Segments
-pub mod Within
 pub mod views

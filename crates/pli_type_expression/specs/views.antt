@@ -1,1 +1,1 @@
-pub mod TypingView
+pub mod SegmentView

@@ -4,26 +4,19 @@ ghost use Rattle.pli_base.specs.Syntax.{Given};
 ghost use Rattle.pli_base.specs.views.SyntaxView as syntax;
 ghost use Rattle.pli_type.specs.Typing as typing;
 ghost use Rattle.pli_type.specs.views.ValueView.{value_view};
-ghost use Rattle.pli_type_expression.specs.Operated as operated;
+ghost use Rattle.pli_type_operands.specs.Operated as operated;
 ghost use Rattle.pli_type_expression.specs.Segments.{next_segment, last_segment, function_typed};
 ghost use Rattle.pli_type_names.specs.UnitNaming.{naming_in};
 ghost use Rattle.pli_base.specs.answers.FailureAnswers.{Gives};
-ghost use Rattle.pli_type_expression.specs.views.TypingView.{argument_view, denoted_view, locator_view, meant_view};
-ghost use Rattle.pli_type_expression.specs.views.TypingView.{role_view, segment_view};
+ghost use Rattle.pli_type_operands.specs.views.TypingView.{argument_view, denoted_view, meant_view};
+ghost use Rattle.pli_type_expression.specs.views.SegmentView.{locator_view, segment_view};
+ghost use Rattle.pli_type_operands.specs.views.TypingView.{role_view};
 ghost use Rattle.pli_type_tree.specs.views.TypedView.{expression_view};
 
-use crate::answer::TypeError;
-use crate::argument::{Argument, number_written};
-use crate::constant::constant;
-use crate::function::{function_called, roles_of};
 use crate::locator::{LocatorBefore, as_locator};
-use crate::meaning::{Denoted, ExpressionMeaning};
 use crate::names::greatest;
-use crate::operator::{infix, prefix_denoted};
 use crate::procedure::procedure_called;
-use crate::role::{Role, role_at};
 use crate::segment::{Segment, begun_alone, is_call};
-use crate::subscripts::subscript;
 use pli_base::syntax::{
     Expression, InfixOperator, JoinedPart, Joining, Part, PrefixOperator, Reference,
 };
@@ -31,8 +24,12 @@ use pli_base::{Code, fault};
 use pli_resolve::BuiltInFunction;
 use pli_type::TypedValue;
 use pli_type_names::{NamedAs, Naming};
+use pli_type_operands::{
+    Argument, Denoted, ExpressionMeaning, Role, TypeError, constant, function_called, infix,
+    number_written, prefix_denoted, role_at, roles_of, subscript,
+};
 use pli_type_tree::TypedExpression;
-use std::alloc::{AllocError, Global};
+use std::alloc::Global;
 
 /// What an expression is in its role, or its first fault of types.
 pub fn meant<'a>(

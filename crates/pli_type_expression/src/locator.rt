@@ -7,15 +7,16 @@ ghost use Rattle.pli_type.specs.Beginnings.{root_at};
 ghost use Rattle.pli_type.specs.Names.{IsBased};
 ghost use Rattle.pli_type.specs.References.{NotLocated, locator_at, passed_root, pointer_of, root_by};
 ghost use Rattle.pli_type.specs.Typing.{as_locator};
-ghost use Rattle.pli_type_expression.specs.views.TypingView.{denoted_view, locator_view, variable_view};
+ghost use Rattle.pli_type_operands.specs.views.TypingView.{denoted_view};
+ghost use Rattle.pli_type_expression.specs.views.SegmentView.{locator_view, variable_view};
 ghost use Rattle.pli_type_names.specs.views.StorageView.{locator_view as named_view, storage_view};
 ghost use Rattle.pli_type_tree.specs.TypedTree.{Located};
 ghost use Rattle.pli_type_tree.specs.views.TypedView.{expression_view, reference_view, root_view};
 
-use crate::meaning::{Denoted, Referent};
 use pli_map::Description;
 use pli_type::{Beginning, pointer_into};
 use pli_type_names::{NamedLocator, NamedStorage};
+use pli_type_operands::{Denoted, Referent};
 use pli_type_tree::{Root, TypedExpression, TypedReference};
 use std::alloc::{AllocError, Global};
 

@@ -5,23 +5,21 @@ ghost use Rattle.pli_base.specs.views.SyntaxView.{joined_view};
 ghost use Rattle.pli_type.specs.Names as names;
 ghost use Rattle.pli_type.specs.Typing as typing;
 ghost use Rattle.pli_base.specs.answers.FailureAnswers.{Gives};
-ghost use Rattle.pli_type_expression.specs.views.TypingView.{denoted_view, locator_view, of_name, role_view};
-ghost use Rattle.pli_type_expression.specs.views.TypingView.{segment_view};
+ghost use Rattle.pli_type_operands.specs.views.TypingView.{denoted_view, role_view};
+ghost use Rattle.pli_type_expression.specs.views.SegmentView.{locator_view, of_name, segment_view};
 ghost use Rattle.pli_type.specs.views.ValueView.{value_view};
 ghost use Rattle.pli_type_expression.specs.Segments.{is_empty_function, is_null_function, means_one};
 ghost use Rattle.pli_type_names.specs.UnitNaming.{naming_in};
 ghost use Rattle.pli_type_tree.specs.views.TypedView.{expression_view};
 
-use crate::answer::TypeError;
 use crate::locator::LocatorBefore;
-use crate::meaning::Denoted;
-use crate::role::Role;
 use crate::variable::variable_meant;
 use pli_base::syntax::JoinedPart;
 use pli_base::{Code, fault};
 use pli_resolve::BuiltInFunction;
 use pli_type::{TypedValue, null_value};
 use pli_type_names::{NamedAs, Naming};
+use pli_type_operands::{Denoted, Role, TypeError};
 use pli_type_tree::TypedExpression;
 use std::alloc::{AllocError, Global};
 

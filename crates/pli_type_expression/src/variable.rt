@@ -3,7 +3,8 @@ ghost use Rattle.std.specs.Prelude.{◌≡◌, ℕ, List, Some, None, map, optio
 ghost use Rattle.pli_type.specs.Names as names;
 ghost use Rattle.pli_type.specs.References as spec;
 ghost use Rattle.pli_base.specs.answers.FailureAnswers.{Gives};
-ghost use Rattle.pli_type_expression.specs.views.TypingView.{locator_view, referent_view, role_view};
+ghost use Rattle.pli_type_expression.specs.views.SegmentView.{locator_view};
+ghost use Rattle.pli_type_operands.specs.views.TypingView.{referent_view, role_view};
 ghost use Rattle.pli_type_names.specs.SymbolMeaning.{IsVariable, is_way};
 ghost use Rattle.pli_type_names.specs.views.NameView.{part_view};
 ghost use Rattle.pli_map.specs.views.DescriptionView.{description_view};
@@ -12,13 +13,11 @@ ghost use Rattle.pli_type_tree.specs.TypedTree.{Part};
 ghost use Rattle.pli_type_tree.specs.views.TypedView.{expression_view, reference_view, root_view, stride_view};
 ghost use Rattle.pli_type_tree.specs.views.TypedView.{subscripts_view};
 
-use crate::answer::TypeError;
 use crate::locator::{LocatorBefore, passed_root, root_by};
-use crate::meaning::Referent;
-use crate::role::Role;
 use pli_base::{Code, fault};
 use pli_map::{Description, TypeRef, is_aggregate};
 use pli_type_names::{NamedVariable, StridedPart};
+use pli_type_operands::{Referent, Role, TypeError};
 use pli_type_tree::{Root, Stride, TypedExpression, TypedReference, TypedSubscript};
 use std::alloc::{AllocError, Global};
 

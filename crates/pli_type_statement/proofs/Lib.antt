@@ -1,13 +1,2 @@
-pub mod WalkEndLemmas
-pub mod AlikeLemmas
-pub mod Arrows
-pub mod BasedItems
-pub mod Blocks
-pub mod RoomLeft
-pub mod CallLemmas
-pub mod ItemLists
-pub mod SearchLemmas
 pub mod SizeLemmas
 pub mod TurnLemmas
-pub mod Units
-pub mod WalkLemmas

@@ -15,14 +15,15 @@ use Rattle.pli_type_tree.specs.TypedTree as typed
 use Rattle.pli_type_tree.specs.TypedTree.{Form, TypedExpression, TypedStatement, TypedStatements, StatementThen, NoStatement}
 use Rattle.pli_type_tree.specs.declared.statement.TypedStatement as program
 use Rattle.pli_type_tree.specs.views.TypedView.{statement_view, statements_view}
-use Rattle.pli_type_statement.specs.Headers as headers
-use Rattle.pli_type_statement.specs.Headers.{Header, header_typed, group_of}
-use Rattle.pli_type_statement.specs.Parts.{behind_body, behind_list, both, listed_if}
-use Rattle.pli_type_statement.specs.Simple.{is_compound, simple_typed}
-use Rattle.pli_type_statement.specs.Walking.{IsPlaced, Walks, WalksBody, WalksList, unit_at, around, based_names, next_at}
-use Rattle.pli_type_statement.specs.declared.walk.TypingWalk.{TypingWalk}
-use Rattle.pli_type_statement.proofs.SearchLemmas.{front}
-use Rattle.pli_type_statement.proofs.WalkLemmas.{as_typed, moved, then_walked, nothing_walked}
+use Rattle.pli_type_iteration.specs.Headers as headers
+use Rattle.pli_type_iteration.specs.Headers.{Header, header_typed, group_of}
+use Rattle.pli_type_parts.specs.Parts.{behind_body, behind_list, both, listed_if}
+use Rattle.pli_type_walk.specs.Compound.{is_compound}
+use Rattle.pli_type_simple.specs.Simple.{simple_typed}
+use Rattle.pli_type_walk.specs.Walking.{IsPlaced, Walks, WalksBody, WalksList, unit_at, around, based_names, next_at}
+use Rattle.pli_type_walk.specs.declared.walk.TypingWalk.{TypingWalk}
+use Rattle.pli_type_parts.proofs.SearchLemmas.{front}
+use Rattle.pli_type_walk.proofs.WalkLemmas.{as_typed, moved, then_walked, nothing_walked}
 
 -- statements without statements in them
 

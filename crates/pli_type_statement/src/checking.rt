@@ -1,133 +1,22 @@
 //! The check of a unit.
-ghost use Rattle.std.specs.Prelude.{◌≡◌, option_map, IfOk};
-ghost use Rattle.pli_base.specs.views.StatementView as source;
 ghost use Rattle.pli_base.specs.views.StatementView.{unit_view};
-ghost use Rattle.pli_map.specs.views.DescriptionView.{description_view};
 ghost use Rattle.pli_resolve.specs.ResolvedUnits.{resolved_unit_of};
 ghost use Rattle.pli_type.specs.NamedUnits.{checked_unit};
-ghost use Rattle.pli_type.specs.StatementTyping.{function_end, labels_of};
-ghost use Rattle.pli_type_statement.specs.Around.{outermost};
-ghost use Rattle.pli_type_statement.specs.Walking.{external_with, finished, unit_with};
 ghost use Rattle.pli_type_statement.specs.answers.Answers.{Checks};
-ghost use Rattle.pli_type_statement.specs.views.AroundView.{around_view};
-ghost use Rattle.pli_type_tree.specs.views.GlobalView.{globals_view, signature_view};
-ghost use Rattle.pli_type_tree.specs.views.TemplateView.{groups_view};
-ghost use Rattle.pli_type_tree.specs.views.TypedView as typed;
 
-use crate::labels::{ListLabels, labels_of};
-use crate::outer::{may_begin, outer_signature};
 use crate::statement::type_statements;
-use crate::surroundings::Surroundings;
-use crate::walk::{Next, TypingWalk};
-use pli_base::statement::{Procedure, Statement};
 use pli_base::{Failure, Fault};
 use pli_map::Description;
 use pli_resolve::ResolvedUnit;
 use pli_type_names::name_unit;
 use pli_type_templates::templates;
-use pli_type_tree::{
-    BlockHead, Signature, TypedProcedure, TypedStatement, TypedUnit, VariableGroup,
-};
-use std::alloc::{AllocError, Global};
+use pli_type_tree::TypedUnit;
+use pli_type_walk::{Next, TypingWalk, in_unit, outer_signature, typed_unit};
+use std::alloc::Global;
 
 /// Why a unit has no typed tree: all its faults of types, in the order of the text, one for each statement, and of an
 /// IF and a group one for what stands in front of the statements in them; or want of memory.
 pub type CheckError = Failure<Vec<Fault>>;
-
-/// In the list of the external procedure, which is block 0, and gives this if it is a function.
-fn in_unit<'a>(
-    alloc: Global,
-    statements: &[Statement],
-    value: Option<&'a Description>,
-) -> Result<Surroundings<'a>, AllocError>
-    ensures { IfOk result (λ around. around_view around ≡ outermost (labels_of (source.statements_view statements.now))
-        (option_map (λ d. description_view d.now) value.entry)) }
-{
-    let labels = labels_of(alloc, statements)?;
-    let mut lists = Vec::new(alloc);
-    lists.push(ListLabels {
-        block: Some(0),
-        is_on_unit: false,
-        labels,
-    })?;
-    Ok(Surroundings {
-        lists,
-        begins: 0,
-        value,
-    })
-}
-
-/// The number of a function's END; none of what gives nothing.
-fn function_end(value: &Option<Description>, end: u32) -> Option<u32>
-    ensures { result ≡ function_end (option_map description_view value.now) end }
-{
-    match value {
-        Some(_) => Some(end),
-        None => None,
-    }
-}
-
-/// The external procedure of a unit, which is block 0.
-#[tactic(auto, using(crate::proofs::WalkEndLemmas::unit_named_so))]
-fn external_procedure(
-    tree: &Procedure,
-    signature: &Signature,
-    variables: Vec<VariableGroup>,
-    temporaries: usize,
-    statements: Vec<TypedStatement>,
-) -> TypedProcedure
-    ensures { typed.procedure_view result
-        ≡ external_with (unit_view tree.now) (signature_view signature.now) (groups_view variables.items) temporaries
-        (typed.statements_view statements.items) }
-{
-    TypedProcedure {
-        is_on_unit: false,
-        head: BlockHead {
-            number: 0,
-            statement: tree.number,
-            variables,
-            temporaries,
-        },
-        parent: None,
-        parameters: signature.parameters.len(),
-        function_end: function_end(&signature.result, tree.end),
-        statements,
-    }
-}
-
-/// The typed unit of its tree, what its external procedure takes and gives, what the variables of block 0 are made
-/// from, its typed statements, and what the walk over these has found.
-#[tactic(auto, using(crate::proofs::WalkEndLemmas::unit_named_so))]
-fn typed_unit(
-    tree: &Procedure,
-    signature: Signature,
-    variables: Vec<VariableGroup>,
-    statements: Vec<TypedStatement>,
-    walk: TypingWalk<'_>,
-) -> Result<TypedUnit, AllocError>
-    ensures { IfOk result (λ made. typed.unit_view made
-        ≡ unit_with (unit_view tree.now) (signature_view signature) (globals_view walk.entry.templates.globals.items)
-        (groups_view variables.items) walk.entry.next.temporary (typed.statements_view statements.items)
-        (finished walk.entry)) }
-{
-    let TypingWalk {
-        next,
-        templates,
-        mut procedures,
-        ..
-    } = walk;
-    let external = external_procedure(tree, &signature, variables, next.temporary, statements);
-    let is_main = may_begin(tree, &signature);
-    procedures.insert(0, external)?;
-    Ok(TypedUnit {
-        name: tree.name.name,
-        procedure: tree.name.name,
-        is_main,
-        signature,
-        globals: templates.globals,
-        procedures,
-    })
-}
 
 /// The typed tree of a resolved unit, or its faults of types.
 pub fn check(alloc: Global, unit: &ResolvedUnit<'_>) -> Result<TypedUnit, CheckError>

@@ -1,43 +1,25 @@
 //! Statements without statements in them.
 ghost use Rattle.std.specs.Prelude.{◌≡◌, ◌≤◌, ◌+◌, ℕ, false, map};
 ghost use Rattle.pli_base.specs.views.StatementView as source;
-ghost use Rattle.pli_base.specs.views.SyntaxView as syntax;
 ghost use Rattle.pli_base.specs.answers.FailureAnswers.{Gives};
 ghost use Rattle.pli_type_names.specs.UnitNaming.{naming_in};
-ghost use Rattle.pli_type_statement.specs.Around.{surroundings_of};
-ghost use Rattle.pli_type_statement.specs.NumbersTaken.{taken_of};
-ghost use Rattle.pli_type_statement.specs.Simple.{is_compound, put_typed, simple_typed};
-ghost use Rattle.pli_type_statement.specs.views.AroundView.{around_view};
+ghost use Rattle.pli_type_parts.specs.Around.{surroundings_of};
+ghost use Rattle.pli_type_walk.specs.NumbersTaken.{taken_of};
+ghost use Rattle.pli_type_walk.specs.Compound.{is_compound};
+ghost use Rattle.pli_type_simple.specs.Simple.{simple_typed};
+ghost use Rattle.pli_type_parts.specs.views.AroundView.{around_view};
 ghost use Rattle.pli_type_templates.specs.views.UnitView.{based_at};
 ghost use Rattle.pli_type_tree.specs.views.TypedView.{form_view};
 
-use crate::assignment::assignment;
-use crate::calls::call;
-use crate::items::items;
-use crate::jumps::{jump, returned};
-use crate::surroundings::Surroundings;
 use pli_base::statement::Body;
-use pli_base::syntax::Expression;
 use pli_type_allocation::{allocate, free};
-use pli_type_expression::TypeError;
 use pli_type_names::Naming;
+use pli_type_operands::TypeError;
+use pli_type_parts::Surroundings;
+use pli_type_simple::{assignment, call, jump, put, returned};
 use pli_type_templates::UnitTemplates;
 use pli_type_tree::Form;
 use std::alloc::Global;
-
-/// A PUT, or the first fault of its items.
-fn put(
-    alloc: Global,
-    naming: &Naming<'_>,
-    skip: bool,
-    expressions: &[Expression],
-) -> Result<Form, TypeError>
-    ensures { Gives form_view result
-        (put_typed (naming_in naming.now) skip (map syntax.expression_view expressions.now)) }
-{
-    let items = items(alloc, naming, expressions)?;
-    Ok(Form::Put { skip, items })
-}
 
 /// A statement without statements in it, which begins at the token `at`, and the first of whose temporaries is this
 /// one.

@@ -5,30 +5,28 @@ ghost use Rattle.pli_base.specs.views.SyntaxView as syntax;
 ghost use Rattle.pli_map.specs.views.DescriptionView.{description_view};
 ghost use Rattle.pli_type.specs.StatementTyping as spec;
 ghost use Rattle.pli_type.specs.Temporaries.{behind, kept_by, temporaries_of};
-ghost use Rattle.pli_type_statement.specs.Headers.{Header as PlainHeader, header_typed};
-ghost use Rattle.pli_type_statement.specs.NumbersTaken.{taken_among, taken_in, taken_of};
-ghost use Rattle.pli_type_statement.specs.Simple.{is_compound, simple_typed};
-ghost use Rattle.pli_type_statement.specs.Walking.{Finishes, HasRoom, IsPlaced, ended_as, in_block, unit_ended, Walks};
-ghost use Rattle.pli_type_statement.specs.Walking.{WalksBlock, WalksBody, WalksList, around, based_names, next_at};
-ghost use Rattle.pli_type_statement.specs.Walking.{unit_at};
-ghost use Rattle.pli_type_statement.specs.views.AroundView.{around_view};
-ghost use Rattle.pli_type_statement.specs.views.HeaderView.{header_view};
+ghost use Rattle.pli_type_iteration.specs.Headers.{Header as PlainHeader, header_typed};
+ghost use Rattle.pli_type_walk.specs.NumbersTaken.{taken_among, taken_in, taken_of};
+ghost use Rattle.pli_type_walk.specs.Compound.{is_compound};
+ghost use Rattle.pli_type_simple.specs.Simple.{simple_typed};
+ghost use Rattle.pli_type_walk.specs.Walking.{HasRoom, IsPlaced, in_block, Walks};
+ghost use Rattle.pli_type_walk.specs.Walking.{WalksBlock, WalksBody, WalksList, around, based_names, next_at};
+ghost use Rattle.pli_type_walk.specs.Walking.{unit_at};
+ghost use Rattle.pli_type_parts.specs.views.AroundView.{around_view};
+ghost use Rattle.pli_type_iteration.specs.views.HeaderView.{header_view};
 ghost use Rattle.pli_type_tree.specs.TypedTree as plain;
 ghost use Rattle.pli_type_tree.specs.views.TypedView.{expression_view, form_view, statement_view, statements_view};
 
-use crate::answer::noted;
-use crate::forms::{begin_form, boxed, group_form, if_form, keep, numbered, otherwise};
-use crate::headers::{Header, kept_by, specified};
-use crate::items::condition;
-use crate::labels::{labels_of, leaves_nothing};
 use crate::simple::simple;
-use crate::surroundings::innermost;
-use crate::temporaries::kept_in;
-use crate::walk::{TypingWalk, enter_block, leave_block};
-use pli_base::statement::{Body, Condition, Control, Statement};
+use pli_base::statement::{Body, Control, Statement};
 use pli_base::syntax::Expression;
 use pli_map::Description;
-use pli_type_tree::{BlockHead, Form, TypedExpression, TypedProcedure, TypedStatement};
+use pli_type_iteration::{Header, condition, group_form, kept_by, specified};
+use pli_type_parts::{
+    begin_form, boxed, if_form, keep, labels_of, leaves_nothing, noted, numbered, otherwise,
+};
+use pli_type_tree::{BlockHead, Form, TypedExpression, TypedStatement};
+use pli_type_walk::{TypingWalk, enter_block, finish, finish_unit, kept_in, leave_block};
 use std::alloc::{AllocError, Global};
 use std::slice;
 
@@ -37,16 +35,6 @@ use std::slice;
 struct TypedBlock {
     head: BlockHead,
     list: Option<Vec<TypedStatement>>,
-}
-
-/// The statement of this number, which is the END of a function; it must not be reached.
-fn end_of(returned: Option<&Description>, end: u32) -> Option<u32>
-    ensures { result ≡ spec.function_end (option_map (λ d. description_view d.now) returned.entry) end }
-{
-    match returned {
-        None => None,
-        Some(_) => Some(end),
-    }
 }
 
 /// A statement without statements in it, whose fault is put behind the others.
@@ -123,62 +111,6 @@ fn type_header(
     walk.next.temporary = after;
     let header = specified(alloc, &walk.naming, temporary, control);
     noted(header, &mut walk.faults)
-}
-
-/// Puts a procedure behind those that have ended, if its list has no fault; it leaves nothing where it stands. The
-/// statement of the number `end` is its END.
-fn finish(
-    walk: &mut TypingWalk<'_>,
-    end: u32,
-    head: BlockHead,
-    list: Option<Vec<TypedStatement>>,
-) -> Result<Option<Form>, AllocError>
-    ensures { IfOk result (λ form. Finishes walk.old walk.new plain.Null (ended_as walk.old end head)
-        (option_map (λ list. statements_view list.items) list) (option_map form_view form)) }
-{
-    let Some(statements) = list else {
-        return Ok(None);
-    };
-    let parent = innermost(walk.surroundings.lists.as_slice());
-    let procedure = walk.naming.procedure(head.number);
-    let parameters = procedure.parameters.len();
-    let function_end = end_of(procedure.returned, end);
-    walk.procedures.push(TypedProcedure {
-        is_on_unit: false,
-        head,
-        parent: Some(parent),
-        parameters,
-        function_end,
-        statements,
-    })?;
-    Ok(Some(Form::Null))
-}
-
-/// Puts an ON-unit for a condition behind the procedures that have ended, if its statement has no fault.
-fn finish_unit(
-    walk: &mut TypingWalk<'_>,
-    condition: Condition,
-    head: BlockHead,
-    list: Option<Vec<TypedStatement>>,
-) -> Result<Option<Form>, AllocError>
-    ensures { IfOk result (λ form. Finishes walk.old walk.new (plain.On condition head.number)
-        (unit_ended walk.old head)
-        (option_map (λ list. statements_view list.items) list) (option_map form_view form)) }
-{
-    let Some(statements) = list else {
-        return Ok(None);
-    };
-    let block = head.number;
-    let parent = innermost(walk.surroundings.lists.as_slice());
-    walk.procedures.push(TypedProcedure {
-        is_on_unit: true,
-        head,
-        parent: Some(parent),
-        parameters: 0,
-        function_end: None,
-        statements,
-    })?;
-    Ok(Some(Form::On { condition, block }))
 }
 
 /// A statement, if it has no fault. Its faults, and those of the statements in it, are put behind the others, in the

@@ -11,16 +11,17 @@ use Rattle.pli_type.specs.views.ValueView.{value_view}
 use Rattle.pli_type.specs.Typing as typing
 use Rattle.pli_type_names.specs.UnitNaming.{naming_in}
 use Rattle.pli_type_tree.specs.views.TypedView.{expression_view}
-use Rattle.pli_type_expression.specs.views.TypingView.{argument_view, denoted_view, locator_view, of_name, role_view, segment_view}
+use Rattle.pli_type_operands.specs.views.TypingView.{argument_view, denoted_view, role_view}
+use Rattle.pli_type_expression.specs.views.SegmentView.{locator_view, of_name, segment_view}
 use Rattle.pli_type_expression.proofs.BindLemmas.{exits, fails_as, fails_on, bind_ok}
 use Rattle.pli_type_expression.proofs.WrittenCalls.{gives_as, call_unmeant, call_typed}
 use Rattle.pli_type_expression.proofs.MeaningLemmas.{begun_at_variable, begun_at_function, call_given, begun_beside_function, begun_beside_procedure, procedure_unmeant}
 use Rattle.pli_type_expression.proofs.SizeLemmas.{item_size, part_size, expression_size, reference_size, arguments_size, list_size, parts_size}
 use Rattle.pli_type_expression.proofs.WalkLemmas.{written_ends, written_unbegun, written_unended, parenthesized_typed, parenthesized_unmeant, infix_valued, infix_typed, left_unmeant, right_unmeant, infix_refused}
-use Rattle.pli_type_expression.specs.Operated.{prefixed, infixed}
+use Rattle.pli_type_operands.specs.Operated.{prefixed, infixed}
 use Rattle.pli_type_expression.specs.Segments.{next_segment, function_typed}
 use Rattle.pli_base.specs.declared.failure.Failure.TheVariants.{OutOfMemory}
-use Rattle.pli_type_expression.specs.declared.argument.Argument.{Argument}
+use Rattle.pli_type_operands.specs.declared.argument.Argument.{Argument}
 use Rattle.pli_type_tree.specs.declared.expression.TypedExpression.{TypedExpression}
 use Rattle.pli_type_expression.proofs.LoopLemmas.{arguments_begin, argument_goes_on, argument_undenoted, arguments_end, subscripts_begin, subscript_goes_on, subscript_valueless, subscript_no_number, subscripts_end, part_goes_on, part_fails, parts_end}
 use Rattle.pli_type_expression.proofs.expression.+typed.Goals as goal

@@ -4,7 +4,8 @@ use Rattle.pli_type.specs.Typing.{all_subscripts, all_arguments}
 use Rattle.pli_type_names.specs.UnitNaming.{naming_in}
 use Rattle.pli_type_tree.specs.views.TypedView as typed
 use Rattle.pli_type_expression.specs.Segments.{last_segment}
-use Rattle.pli_type_expression.specs.views.TypingView.{argument_view, role_view, segment_view}
+use Rattle.pli_type_operands.specs.views.TypingView.{argument_view, role_view}
+use Rattle.pli_type_expression.specs.views.SegmentView.{segment_view}
 use Rattle.pli_type_expression.proofs.SizeLemmas.{expression_size, reference_size, parts_size, arguments_size, list_size}
 use Rattle.pli_type_expression.proofs.WalkLemmas.{subscripts_with, arguments_with}
 use Rattle.pli_type_expression.proofs.expression.+typed.Given as goal

@@ -4,7 +4,8 @@ use Rattle.pli_map.specs.ParameterTypes.{stated}
 use Rattle.pli_map.specs.views.DescriptionView.{description_view}
 use Rattle.pli_type.specs.References.{whole_meant}
 use Rattle.pli_type_tree.specs.views.TypedView.{expression_view}
-use Rattle.pli_type_expression.specs.views.TypingView.{locator_view, referent_view, role_view}
+use Rattle.pli_type_expression.specs.views.SegmentView.{locator_view}
+use Rattle.pli_type_operands.specs.views.TypingView.{referent_view, role_view}
 use Rattle.pli_type_expression.proofs.variable.variable_meant.Goals as goal
 
 pub returns-in-Some : goal.returns-in-Some

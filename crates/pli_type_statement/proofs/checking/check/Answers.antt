@@ -9,12 +9,12 @@ use Rattle.pli_type_tree.specs.views.GlobalView.{globals_view, signature_view}
 use Rattle.pli_type_tree.specs.views.TemplateView.{groups_view}
 use Rattle.pli_type_tree.specs.views.TypedView.{procedure_view, statements_view}
 use Rattle.pli_type.specs.Checked.{outer_signature}
-use Rattle.pli_type_statement.specs.Parts.{told, Adds, unit_named}
-use Rattle.pli_type_statement.specs.Walking.{finished, unit_with}
-use Rattle.pli_type_statement.proofs.WalkEndLemmas.{all_of, first_entered, placed_first}
-use Rattle.pli_type_statement.proofs.WalkEndLemmas.{globals_first, templates_first, whole_walked}
-use Rattle.pli_type_statement.proofs.RoomLeft.{room_at_first}
-use Rattle.pli_type_statement.proofs.Units.{faulty, returned_found, typed, typed_list}
+use Rattle.pli_type_parts.specs.Parts.{told, Adds, unit_named}
+use Rattle.pli_type_walk.specs.Walking.{finished, unit_with}
+use Rattle.pli_type_walk.proofs.WalkEndLemmas.{all_of, first_entered, placed_first}
+use Rattle.pli_type_walk.proofs.WalkEndLemmas.{globals_first, templates_first, whole_walked}
+use Rattle.pli_type_walk.proofs.RoomLeft.{room_at_first}
+use Rattle.pli_type_walk.proofs.Units.{faulty, returned_found, typed, typed_list}
 use Rattle.pli_type_statement.proofs.checking.check.Goals as goal
 
 pub type_statements-requires : goal.type_statements-requires

@@ -1,6 +1,6 @@
 use Rattle.std.proofs.Common.{◌≡◌, length, map, ap, arith}
 use Rattle.pli_base.specs.views.StatementView as source
-use Rattle.pli_type_statement.specs.NumbersTaken.{taken_of}
+use Rattle.pli_type_walk.specs.NumbersTaken.{taken_of}
 use Rattle.pli_type_statement.proofs.simple.simple.Goals as goal
 
 pub allocate-requires-clause-room : goal.allocate-requires-clause-room

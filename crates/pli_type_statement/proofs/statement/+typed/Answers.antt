@@ -10,14 +10,14 @@ use Rattle.pli_type.specs.Temporaries.{behind}
 use Rattle.pli_type_tree.specs.TypedTree as plain
 use Rattle.pli_type_tree.specs.declared.statement.TypedStatement.{TypedStatement}
 use Rattle.pli_type_tree.specs.views.TypedView.{form_view, statement_view, statements_view}
-use Rattle.pli_type_statement.specs.NumbersTaken.{taken_among, taken_else, taken_in, taken_of}
-use Rattle.pli_type_statement.specs.Walking.{HasRoom, WalksBlock, WalksBody, WalksList, in_block, around, based_names, next_at, unit_at}
-use Rattle.pli_type_statement.specs.views.HeaderView.{header_view}
-use Rattle.pli_type_statement.proofs.Blocks.{begin_walked, block_placed, block_walked, group_placed, group_walked, in_group_around, procedure_answer, returned_is, unit_answer}
-use Rattle.pli_type_statement.proofs.RoomLeft.{room_behind, room_controlled, room_else, room_first, room_header, room_if, room_inside, room_next, room_unit}
+use Rattle.pli_type_walk.specs.NumbersTaken.{taken_among, taken_else, taken_in, taken_of}
+use Rattle.pli_type_walk.specs.Walking.{HasRoom, WalksBlock, WalksBody, WalksList, in_block, around, based_names, next_at, unit_at}
+use Rattle.pli_type_iteration.specs.views.HeaderView.{header_view}
+use Rattle.pli_type_walk.proofs.Blocks.{begin_walked, block_placed, block_walked, group_placed, group_walked, in_group_around, procedure_answer, returned_is, unit_answer}
+use Rattle.pli_type_walk.proofs.RoomLeft.{room_behind, room_controlled, room_else, room_first, room_header, room_if, room_inside, room_next, room_unit}
 use Rattle.pli_type_statement.proofs.SizeLemmas.{statement_size, body_size, list_size, alternative_size, item_size}
 use Rattle.pli_type_statement.proofs.TurnLemmas.{all_walked, do_walked, goes_on_first, goes_on_next, if_next_none, if_next_some, in_front, none_walked, simple_answer}
-use Rattle.pli_type_statement.proofs.WalkLemmas.{as_typed, if_walked, made_walked, back_then, moved, nothing_walked, same_based}
+use Rattle.pli_type_walk.proofs.WalkLemmas.{as_typed, if_walked, made_walked, back_then, moved, nothing_walked, same_based}
 use Rattle.pli_type_statement.proofs.statement.+typed.Goals as goal
 use Rattle.pli_type_statement.proofs.statement.+typed.Goals.{type_statements-then-complete, type_statements-else-complete, type_statements-then-complete-2, type_statements-else-complete-2}
 

@@ -1,8 +1,8 @@
 use Rattle.std.proofs.Common.{◌+◌, map, drop}
 use Rattle.pli_base.specs.views.StatementView as source
 use Rattle.pli_type_tree.specs.views.TypedView.{statement_view}
-use Rattle.pli_type_statement.specs.NumbersTaken.{taken_among}
-use Rattle.pli_type_statement.specs.Walking.{HasRoom, IsBack, next_at}
+use Rattle.pli_type_walk.specs.NumbersTaken.{taken_among}
+use Rattle.pli_type_walk.specs.Walking.{HasRoom, IsBack, next_at}
 use Rattle.pli_type_statement.proofs.SizeLemmas.{statement_size, body_size, list_size}
 use Rattle.pli_type_statement.proofs.TurnLemmas.{GoesOn}
 use Rattle.pli_type_statement.proofs.statement.+typed.Given as goal

@@ -3,7 +3,7 @@ use Rattle.pli_base.specs.views.SyntaxView as syntax
 use Rattle.pli_type.specs.StatementTyping as spec
 use Rattle.pli_type_tree.specs.declared.expression.TypedExpression.{TypedExpression}
 use Rattle.pli_type_tree.specs.views.TypedView.{expression_view}
-use Rattle.pli_type_statement.proofs.WalkLemmas.{own_walked}
+use Rattle.pli_type_walk.proofs.WalkLemmas.{own_walked}
 use Rattle.pli_type_statement.proofs.statement.type_condition.Goals as goal
 
 pub returns : goal.returns

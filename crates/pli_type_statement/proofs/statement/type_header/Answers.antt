@@ -1,8 +1,8 @@
 use Rattle.std.proofs.Common.{◌≤◌, ◌+◌, refl, ap, option_map, arith}
 use Rattle.pli_base.specs.views.StatementView as source
-use Rattle.pli_type_statement.specs.Headers.{header_typed}
-use Rattle.pli_type_statement.specs.views.HeaderView.{header_view}
-use Rattle.pli_type_statement.proofs.WalkLemmas.{own_walked}
+use Rattle.pli_type_iteration.specs.Headers.{header_typed}
+use Rattle.pli_type_iteration.specs.views.HeaderView.{header_view}
+use Rattle.pli_type_walk.proofs.WalkLemmas.{own_walked}
 use Rattle.pli_type_statement.proofs.statement.type_header.Goals as goal
 
 pub overflow_add-after : goal.overflow_add-after

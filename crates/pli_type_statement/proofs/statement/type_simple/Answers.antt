@@ -3,11 +3,11 @@ use Rattle.pli_base.specs.views.StatementView as source
 use Rattle.pli_type.specs.Temporaries.{temporaries_of}
 use Rattle.pli_type_names.specs.UnitNaming.{based_in}
 use Rattle.pli_type_tree.specs.views.TypedView.{form_view}
-use Rattle.pli_type_statement.specs.NumbersTaken.{taken_of}
-use Rattle.pli_type_statement.specs.Simple.{simple_typed}
-use Rattle.pli_type_statement.specs.Walking.{around}
-use Rattle.pli_type_statement.proofs.RoomLeft.{few_of}
-use Rattle.pli_type_statement.proofs.WalkLemmas.{based_named, names_named, own_walked}
+use Rattle.pli_type_walk.specs.NumbersTaken.{taken_of}
+use Rattle.pli_type_simple.specs.Simple.{simple_typed}
+use Rattle.pli_type_walk.specs.Walking.{around}
+use Rattle.pli_type_walk.proofs.RoomLeft.{few_of}
+use Rattle.pli_type_walk.proofs.WalkLemmas.{based_named, names_named, own_walked}
 use Rattle.pli_type_statement.proofs.statement.type_simple.Goals as goal
 
 pub simple-form-requires-clause-blocks : goal.simple-form-requires-clause-blocks

@@ -2,7 +2,8 @@ use Rattle.std.proofs.Common.{map}
 use Rattle.std.proofs.lemmas.Result.{err_from_is_err_and}
 use Rattle.pli_type_names.specs.UnitNaming.{naming_in}
 use Rattle.pli_type_tree.specs.views.TypedView.{expression_view}
-use Rattle.pli_type_expression.specs.views.TypingView.{locator_view, referent_view, role_view}
+use Rattle.pli_type_expression.specs.views.SegmentView.{locator_view}
+use Rattle.pli_type_operands.specs.views.TypingView.{referent_view, role_view}
 use Rattle.pli_type_expression.proofs.MeaningLemmas.{ended_at_variable, ended_with_fault}
 use Rattle.pli_type_expression.proofs.segment.Segment.ended.Goals as goal
 

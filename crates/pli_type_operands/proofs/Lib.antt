@@ -1,0 +1,4 @@
+pub mod CallLemmas
+pub mod PassingLemmas
+pub mod Rooms
+pub mod TypeViews

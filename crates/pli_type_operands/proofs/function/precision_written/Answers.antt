@@ -1,0 +1,11 @@
+use Rattle.std.proofs.Common.{rules, ◌≡◌, length, map, ◌∙◌, sym}
+use Rattle.std.proofs.lemmas.List.{length-map}
+use Rattle.pli_type_operands.specs.views.TypingView.{argument_view}
+use Rattle.pli_type_operands.proofs.CallLemmas.{no_precision}
+use Rattle.pli_type_operands.proofs.function.precision_written.Goals as goal
+
+pub returns-in_default : goal.returns-in_default
+returns-in_default c =
+    let given = c.args.arguments.now in
+    let other : (length given ≡ 3 → ⊥) = search rules in
+    no_precision (map argument_view given) (λ e. other (sym (length-map given argument_view) ∙ e))

@@ -1,0 +1,3 @@
+pub mod AlikeLemmas
+pub mod CallLemmas
+pub mod ItemLists

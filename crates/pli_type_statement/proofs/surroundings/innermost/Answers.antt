@@ -1,5 +1,0 @@
-use Rattle.pli_type_statement.proofs.SearchLemmas.{number_ends}
-use Rattle.pli_type_statement.proofs.surroundings.innermost.Goals as goal
-
-pub returns : goal.returns
-returns c = number_ends c.loop-list.number c.args.lists.now c.loop-list.list-index c.loop-list-test.false c.loop-list.invariant

@@ -1,2 +1,0 @@
-pub mod AroundView
-pub mod HeaderView

@@ -1,0 +1,3 @@
+pub mod Compound
+pub mod NumbersTaken
+pub mod Walking
