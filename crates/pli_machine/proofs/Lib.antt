@@ -1,13 +1,4 @@
 pub mod CallLemmas
-pub mod DecodedLemmas
-pub mod FinishLemmas
-pub mod LayLemmas
-pub mod MoveLemmas
-pub mod OverLemmas
 pub mod PassLemmas
-pub mod PointerLemmas
-pub mod PutLemmas
 pub mod RunLemmas
-pub mod SlotLemmas
 pub mod StepsEnd
-pub mod TextLemmas

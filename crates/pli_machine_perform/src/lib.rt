@@ -22,6 +22,4 @@ mod storing;
 mod strings;
 
 pub use performing::perform;
-pub use places::bounded;
-pub use printing::print_number;
-pub use slots::{global_place, slot_place};
+pub use slots::global_place;

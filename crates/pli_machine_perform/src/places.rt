@@ -1,5 +1,5 @@
 //! Instructions that lead a place on.
-ghost use Rattle.std.specs.Prelude.{◌≡◌, ◌&&◌, ◌≤ℤ◌, int_le, true, false, Some, IfOk, MatchOption};
+ghost use Rattle.std.specs.Prelude.{◌≡◌, ◌&&◌, ◌≤ℤ◌, int_le, true, Some, IfOk};
 ghost use Rattle.pli_map.specs.views.DescriptionView.{description_view};
 ghost use Rattle.pli_store.specs.views.DimensionSeen.{dimension_seen};
 ghost use Rattle.pli_store.specs.views.StorageView.{place_view};
@@ -8,6 +8,7 @@ ghost use Rattle.pli_machine_perform.specs.views.ActView.{along_as, bounded_as, 
 ghost use Rattle.pli_machine_perform.specs.views.ActView.{subscripted_by_as};
 
 use pli_machine_activations::Stop;
+use pli_machine_calculating::bounded;
 use pli_machine_operate::{Operand, push};
 use pli_map::{Bounds, Description, Dimension, WhichBound, nth_dimension};
 use pli_run::RunError;
@@ -32,20 +33,6 @@ pub fn field<'m>(
             Ok(None)
         }
         None => Ok(Some(Stop::Fault)),
-    }
-}
-
-/// A subscript as a number of 32 bits, where it is within its bounds.
-#[inline]
-pub fn bounded(low: i32, high: i32, subscript: i64) -> Option<i32>
-    ensures outside { MatchOption result ((int_le low subscript && int_le subscript high) ≡ false) (λ _. Unit {0}) }
-    ensures inside { MatchOption result (Unit {0}) (λ x. (x ≡ subscript) × (low ≤ℤ x)
-        × ((int_le low x && int_le x high) ≡ true)) }
-{
-    if i64::from(low) <= subscript && subscript <= i64::from(high) {
-        Some(subscript as i32)
-    } else {
-        None
     }
 }
 

@@ -1,7 +1,8 @@
 use Rattle.std.proofs.Common.{[], ◌∷◌, ◌∙◌}
 use Rattle.pli_value.specs.Value.{value_view}
 use Rattle.pli_machine_operate.specs.views.CalculationView.{calculation_view}
-use Rattle.pli_machine_perform.proofs.OperationLemmas.{operates, of_three}
+use Rattle.pli_machine_perform.proofs.OperationLemmas.{operates}
+use Rattle.pli_machine_passes.proofs.CalculatedLemmas.{of_three}
 use Rattle.pli_machine_perform.proofs.operate.operate_by_values.Goals as goal
 
 pub returns : goal.returns

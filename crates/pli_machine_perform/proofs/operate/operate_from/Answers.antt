@@ -2,7 +2,8 @@ use Rattle.std.proofs.Common.{[], ◌∷◌, ap, ◌∙◌}
 use Rattle.pli_value.specs.Value.{value_view}
 use Rattle.pli_machine_step.specs.Machine.{values_off}
 use Rattle.pli_machine_operate.specs.views.CalculationView.{calculation_view}
-use Rattle.pli_machine_perform.proofs.OperationLemmas.{operates, of_one}
+use Rattle.pli_machine_perform.proofs.OperationLemmas.{operates}
+use Rattle.pli_machine_passes.proofs.CalculatedLemmas.{of_one}
 use Rattle.pli_machine_perform.proofs.operate.operate_from.Goals as goal
 
 pub returns : goal.returns

@@ -3,7 +3,8 @@ use Rattle.std.proofs.lemmas.Int.{to_z-of_z}
 use Rattle.pli_value.specs.Value.{Number}
 use Rattle.pli_machine_step.specs.Machine.{values_off}
 use Rattle.pli_machine_operate.specs.views.CalculationView.{immediate_view}
-use Rattle.pli_machine_perform.proofs.OperationLemmas.{operates_with, of_two}
+use Rattle.pli_machine_perform.proofs.OperationLemmas.{operates_with}
+use Rattle.pli_machine_passes.proofs.CalculatedLemmas.{of_two}
 use Rattle.pli_machine_perform.proofs.operate.operate_with.Goals as goal
 
 pub returns-in_ok-immediate-in-Some : goal.returns-in_ok-immediate-in-Some

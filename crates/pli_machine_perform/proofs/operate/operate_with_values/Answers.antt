@@ -4,7 +4,8 @@ use Rattle.pli_value.specs.Value.{value_view}
 use Rattle.pli_machine_step.specs.Machine.{values_off}
 use Rattle.pli_machine_operate.specs.views.CalculationView.{calculation_view}
 use Rattle.pli_machine_operate.specs.views.OperandView.{taken_view}
-use Rattle.pli_machine_perform.proofs.OperationLemmas.{operates_with, of_two}
+use Rattle.pli_machine_perform.proofs.OperationLemmas.{operates_with}
+use Rattle.pli_machine_passes.proofs.CalculatedLemmas.{of_two}
 use Rattle.pli_machine_perform.proofs.operate.operate_with_values.Goals as goal
 
 pub returns : goal.returns

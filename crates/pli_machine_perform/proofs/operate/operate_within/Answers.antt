@@ -4,7 +4,8 @@ use Rattle.pli_operation.specs.Operations.{Calculates}
 use Rattle.pli_operation.specs.declared.operation.Operation.TheVariants.{Within}
 use Rattle.pli_value.specs.Value.{Number, Bits}
 use Rattle.pli_machine_step.specs.Machine.{values_off}
-use Rattle.pli_machine_perform.proofs.OperationLemmas.{operates, of_three}
+use Rattle.pli_machine_perform.proofs.OperationLemmas.{operates}
+use Rattle.pli_machine_passes.proofs.CalculatedLemmas.{of_three}
 use Rattle.pli_machine_perform.proofs.operate.operate_within.Goals as goal
 
 pub returns-in-Some : goal.returns-in-Some

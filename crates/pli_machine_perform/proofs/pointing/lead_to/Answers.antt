@@ -7,7 +7,8 @@ use Rattle.pli_machine_step.specs.Machine.{AtPlace, At, given, pushes, with_oper
 use Rattle.pli_machine_operate.specs.views.OperandView.{stack}
 use Rattle.pli_machine_activations.specs.views.MachineView.{leads, Running}
 use Rattle.pli_machine_activations.proofs.StorageAnswers.{answer_stops, answer_goes}
-use Rattle.pli_machine_perform.proofs.PointerMoves.{led_by, nothing_led}
+use Rattle.pli_machine_passes.proofs.PassLemmas.{led_by}
+use Rattle.pli_machine_perform.proofs.PointerMoves.{nothing_led}
 use Rattle.pli_machine_perform.proofs.pointing.lead_to.Goals as goal
 
 pub returns-in_default : goal.returns-in_default
