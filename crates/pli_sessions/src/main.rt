@@ -25,7 +25,10 @@ const STEPS: u64 = 1_000_000;
 const READS: u64 = 1_000_000;
 
 /// How many bytes at most a read and a write move; the answers are to be the same for each.
-static PIECES: [usize; 5] = [1, 2, 3, 7, 4096];
+const MOST: usize = 4096;
+
+/// How few they are for a session besides, by the length of its name.
+static FEW: [usize; 4] = [1, 2, 3, 7];
 
 /// The answers of a new workbench to a session, where no read or write moves more than `most` bytes.
 fn answers(alloc: Global, session: &[u8], most: usize) -> io::Result<Vec<u8>> {
@@ -60,11 +63,11 @@ fn read(rt: &HostRuntime, name: &str, ending: &str) -> io::Result<Vec<u8>> {
     fs::read(rt, format!(in rt.alloc(); "{name}.{ending}")?)
 }
 
-/// Whether the session of that name is answered as is wanted, in pieces of each size, which is told.
+/// Whether the session of that name is answered as is wanted, in pieces of many bytes and of few, which is told.
 fn serves(rt: &HostRuntime, name: &str) -> io::Result<bool> {
     let session = read(rt, name, "session")?;
     let wanted = read(rt, name, "answers")?;
-    for &most in &PIECES {
+    for most in [FEW[name.len() % FEW.len()], MOST] {
         if !is_answered(rt, name, &session, &wanted, most)? {
             return Ok(false);
         }
