@@ -1,4 +1,5 @@
 pub mod Areas
+pub mod Placing
 pub mod Held
 pub mod MarkBits
 pub mod examples

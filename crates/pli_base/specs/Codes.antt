@@ -1,5 +1,5 @@
--- The table of diagnostics: each code once, with its label and its text (own).
-use Rattle.std.specs.Prelude.{◌≡◌, ℕ, List, ◌∷◌, ◌++◌, codes}
+-- The table of diagnostics: each code once, with its place in their order, its label and its text (own).
+use Rattle.std.specs.Prelude.{ℕ, List, codes}
 use Rattle.pli_base.specs.declared.code.Code.{Code}
 use Rattle.pli_base.specs.declared.code.Code.TheVariants.{UnendedComment, UnendedString, BadCharacter}
 use Rattle.pli_base.specs.declared.code.Code.TheVariants.{BadNumber, NameTooLong, BadBits, NoSuchMember}
@@ -25,211 +25,92 @@ use Rattle.pli_base.specs.declared.code.Code.TheVariants.{CannotPrint, CodeTooLo
 use Rattle.pli_base.specs.declared.code.Code.TheVariants.{TwoMainProcedures, Unresolved, DefinedTwice}
 use Rattle.pli_base.specs.declared.code.Code.TheVariants.{Mismatch, ModuleTooLarge}
 
--- no two codes have one label, or one text
-abbrev pub OneCode : (Code → List ℕ) → Type 0
-OneCode f = (a b : Code) → f a ≡ f b → a ≡ b
+-- what stands in the table of a code: its place in the order of diagnostics, the letter and the number by
+-- which a diagnostic is cited, and what it says
+pub record CodeEntry : Type 0 where
+  pub place : ℕ
+  pub label : List ℕ
+  pub text : List ℕ
 
--- the letter and the number by which a diagnostic is cited
-abbrev pub code_label : Code → List ℕ
-code_label UnendedComment = codes "X1"
-code_label UnendedString = codes "X2"
-code_label BadCharacter = codes "X3"
-code_label BadNumber = codes "X4"
-code_label NameTooLong = codes "X5"
-code_label BadBits = codes "X6"
-code_label NoSuchMember = codes "I1"
-code_label RecursiveInclude = codes "I2"
-code_label TooManyTokens = codes "I3"
-code_label BadInclude = codes "I4"
-code_label NoProcedure = codes "P1"
-code_label NotAStatement = codes "P2"
-code_label ExpressionExpected = codes "P3"
-code_label ParenthesisExpected = codes "P4"
-code_label SemicolonExpected = codes "P5"
-code_label NameExpected = codes "P6"
-code_label ThenExpected = codes "P7"
-code_label WrongEndName = codes "P8"
-code_label EndMissing = codes "P9"
-code_label TextAfterEnd = codes "P10"
-code_label BadDo = codes "P11"
-code_label BadAttribute = codes "P12"
-code_label ConstantExpected = codes "P13"
-code_label BadLabel = codes "P14"
-code_label BadCondition = codes "P15"
-code_label NestedTooDeep = codes "P16"
-code_label MisplacedStatement = codes "P17"
-code_label BadOption = codes "P18"
-code_label NotDeclared = codes "A1"
-code_label DeclaredTwice = codes "A2"
-code_label AttributesConflict = codes "A3"
-code_label AttributesMissing = codes "A4"
-code_label BadPrecision = codes "A5"
-code_label BadLength = codes "A6"
-code_label BadBounds = codes "A7"
-code_label BadLevel = codes "A8"
-code_label BadInitial = codes "A9"
-code_label Ambiguous = codes "A10"
-code_label BadGoto = codes "A11"
-code_label BadLocatorOrAreaName = codes "A12"
-code_label AreaNotAllowedHere = codes "A13"
-code_label TooManyParameters = codes "A14"
-code_label GenerationTooLarge = codes "A15"
-code_label NotAVariable = codes "T1"
-code_label AggregateNotAllowedHere = codes "T2"
-code_label WrongNumberOfSubscripts = codes "T3"
-code_label WrongOperandType = codes "T4"
-code_label CannotAssign = codes "T5"
-code_label WrongNumberOfArguments = codes "T6"
-code_label WrongArgument = codes "T7"
-code_label NotCallableHere = codes "T8"
-code_label WrongReturn = codes "T9"
-code_label LocatorMissingOrNotAllowed = codes "T10"
-code_label CannotAllocateOrFree = codes "T11"
-code_label BadControlVariable = codes "T12"
-code_label WrongBuiltInArgument = codes "T13"
-code_label CannotPrint = codes "T14"
-code_label CodeTooLong = codes "G1"
-code_label NoMainProcedure = codes "N1"
-code_label TwoMainProcedures = codes "N2"
-code_label Unresolved = codes "N3"
-code_label DefinedTwice = codes "N4"
-code_label Mismatch = codes "N5"
-code_label ModuleTooLarge = codes "N6"
+-- an entry of these
+abbrev pub entry : (place : ℕ) → (label text : List ℕ) → CodeEntry
+entry place label text = record { place = place; label = label; text = text }
 
--- what a diagnostic says
-abbrev pub code_text : Code → List ℕ
-code_text UnendedComment = codes "UNENDED COMMENT"
-code_text UnendedString = codes "UNENDED STRING"
-code_text BadCharacter = codes "BAD CHARACTER"
-code_text BadNumber = codes "BAD NUMBER"
-code_text NameTooLong = codes "NAME TOO LONG"
-code_text BadBits = codes "BAD BITS"
-code_text NoSuchMember = codes "NO SUCH MEMBER"
-code_text RecursiveInclude = codes "RECURSIVE INCLUDE"
-code_text TooManyTokens = codes "TOO MANY TOKENS"
-code_text BadInclude = codes "BAD INCLUDE"
-code_text NoProcedure = codes "NO PROCEDURE"
-code_text NotAStatement = codes "NOT A STATEMENT"
-code_text ExpressionExpected = codes "EXPRESSION EXPECTED"
-code_text ParenthesisExpected = codes "PARENTHESIS EXPECTED"
-code_text SemicolonExpected = codes "SEMICOLON EXPECTED"
-code_text NameExpected = codes "NAME EXPECTED"
-code_text ThenExpected = codes "THEN EXPECTED"
-code_text WrongEndName = codes "WRONG END NAME"
-code_text EndMissing = codes "END MISSING"
-code_text TextAfterEnd = codes "TEXT AFTER END"
-code_text BadDo = codes "BAD DO"
-code_text BadAttribute = codes "BAD ATTRIBUTE"
-code_text ConstantExpected = codes "CONSTANT EXPECTED"
-code_text BadLabel = codes "BAD LABEL"
-code_text BadCondition = codes "BAD CONDITION"
-code_text NestedTooDeep = codes "NESTED TOO DEEP"
-code_text MisplacedStatement = codes "MISPLACED STATEMENT"
-code_text BadOption = codes "BAD OPTION"
-code_text NotDeclared = codes "NOT DECLARED"
-code_text DeclaredTwice = codes "DECLARED TWICE"
-code_text AttributesConflict = codes "ATTRIBUTES CONFLICT"
-code_text AttributesMissing = codes "ATTRIBUTES MISSING"
-code_text BadPrecision = codes "BAD PRECISION"
-code_text BadLength = codes "BAD LENGTH"
-code_text BadBounds = codes "BAD BOUNDS"
-code_text BadLevel = codes "BAD LEVEL"
-code_text BadInitial = codes "BAD INITIAL"
-code_text Ambiguous = codes "AMBIGUOUS"
-code_text BadGoto = codes "BAD GOTO"
-code_text BadLocatorOrAreaName = codes "BAD LOCATOR OR AREA NAME"
-code_text AreaNotAllowedHere = codes "AREA NOT ALLOWED HERE"
-code_text TooManyParameters = codes "TOO MANY PARAMETERS"
-code_text GenerationTooLarge = codes "GENERATION TOO LARGE"
-code_text NotAVariable = codes "NOT A VARIABLE"
-code_text AggregateNotAllowedHere = codes "AGGREGATE NOT ALLOWED HERE"
-code_text WrongNumberOfSubscripts = codes "WRONG NUMBER OF SUBSCRIPTS"
-code_text WrongOperandType = codes "WRONG OPERAND TYPE"
-code_text CannotAssign = codes "CANNOT ASSIGN"
-code_text WrongNumberOfArguments = codes "WRONG NUMBER OF ARGUMENTS"
-code_text WrongArgument = codes "WRONG ARGUMENT"
-code_text NotCallableHere = codes "NOT CALLABLE HERE"
-code_text WrongReturn = codes "WRONG RETURN"
-code_text LocatorMissingOrNotAllowed = codes "LOCATOR MISSING OR NOT ALLOWED"
-code_text CannotAllocateOrFree = codes "CANNOT ALLOCATE OR FREE"
-code_text BadControlVariable = codes "BAD CONTROL VARIABLE"
-code_text WrongBuiltInArgument = codes "WRONG BUILT-IN ARGUMENT"
-code_text CannotPrint = codes "CANNOT PRINT"
-code_text CodeTooLong = codes "CODE TOO LONG"
-code_text NoMainProcedure = codes "NO MAIN PROCEDURE"
-code_text TwoMainProcedures = codes "TWO MAIN PROCEDURES"
-code_text Unresolved = codes "UNRESOLVED"
-code_text DefinedTwice = codes "DEFINED TWICE"
-code_text Mismatch = codes "MISMATCH"
-code_text ModuleTooLarge = codes "MODULE TOO LARGE"
-
--- a diagnostic as it is shown: its label, a blank and its text
-abbrev pub code_shown : Code → List ℕ
-code_shown code = code_label code ++ 32 ∷ code_text code
+-- the table
+abbrev pub code_entry : Code → CodeEntry
+code_entry UnendedComment = entry 0 (codes "X1") (codes "UNENDED COMMENT")
+code_entry UnendedString = entry 1 (codes "X2") (codes "UNENDED STRING")
+code_entry BadCharacter = entry 2 (codes "X3") (codes "BAD CHARACTER")
+code_entry BadNumber = entry 3 (codes "X4") (codes "BAD NUMBER")
+code_entry NameTooLong = entry 4 (codes "X5") (codes "NAME TOO LONG")
+code_entry BadBits = entry 5 (codes "X6") (codes "BAD BITS")
+code_entry NoSuchMember = entry 6 (codes "I1") (codes "NO SUCH MEMBER")
+code_entry RecursiveInclude = entry 7 (codes "I2") (codes "RECURSIVE INCLUDE")
+code_entry TooManyTokens = entry 8 (codes "I3") (codes "TOO MANY TOKENS")
+code_entry BadInclude = entry 9 (codes "I4") (codes "BAD INCLUDE")
+code_entry NoProcedure = entry 10 (codes "P1") (codes "NO PROCEDURE")
+code_entry NotAStatement = entry 11 (codes "P2") (codes "NOT A STATEMENT")
+code_entry ExpressionExpected = entry 12 (codes "P3") (codes "EXPRESSION EXPECTED")
+code_entry ParenthesisExpected = entry 13 (codes "P4") (codes "PARENTHESIS EXPECTED")
+code_entry SemicolonExpected = entry 14 (codes "P5") (codes "SEMICOLON EXPECTED")
+code_entry NameExpected = entry 15 (codes "P6") (codes "NAME EXPECTED")
+code_entry ThenExpected = entry 16 (codes "P7") (codes "THEN EXPECTED")
+code_entry WrongEndName = entry 17 (codes "P8") (codes "WRONG END NAME")
+code_entry EndMissing = entry 18 (codes "P9") (codes "END MISSING")
+code_entry TextAfterEnd = entry 19 (codes "P10") (codes "TEXT AFTER END")
+code_entry BadDo = entry 20 (codes "P11") (codes "BAD DO")
+code_entry BadAttribute = entry 21 (codes "P12") (codes "BAD ATTRIBUTE")
+code_entry ConstantExpected = entry 22 (codes "P13") (codes "CONSTANT EXPECTED")
+code_entry BadLabel = entry 23 (codes "P14") (codes "BAD LABEL")
+code_entry BadCondition = entry 24 (codes "P15") (codes "BAD CONDITION")
+code_entry NestedTooDeep = entry 25 (codes "P16") (codes "NESTED TOO DEEP")
+code_entry MisplacedStatement = entry 26 (codes "P17") (codes "MISPLACED STATEMENT")
+code_entry BadOption = entry 27 (codes "P18") (codes "BAD OPTION")
+code_entry NotDeclared = entry 28 (codes "A1") (codes "NOT DECLARED")
+code_entry DeclaredTwice = entry 29 (codes "A2") (codes "DECLARED TWICE")
+code_entry AttributesConflict = entry 30 (codes "A3") (codes "ATTRIBUTES CONFLICT")
+code_entry AttributesMissing = entry 31 (codes "A4") (codes "ATTRIBUTES MISSING")
+code_entry BadPrecision = entry 32 (codes "A5") (codes "BAD PRECISION")
+code_entry BadLength = entry 33 (codes "A6") (codes "BAD LENGTH")
+code_entry BadBounds = entry 34 (codes "A7") (codes "BAD BOUNDS")
+code_entry BadLevel = entry 35 (codes "A8") (codes "BAD LEVEL")
+code_entry BadInitial = entry 36 (codes "A9") (codes "BAD INITIAL")
+code_entry Ambiguous = entry 37 (codes "A10") (codes "AMBIGUOUS")
+code_entry BadGoto = entry 38 (codes "A11") (codes "BAD GOTO")
+code_entry BadLocatorOrAreaName = entry 39 (codes "A12") (codes "BAD LOCATOR OR AREA NAME")
+code_entry AreaNotAllowedHere = entry 40 (codes "A13") (codes "AREA NOT ALLOWED HERE")
+code_entry TooManyParameters = entry 41 (codes "A14") (codes "TOO MANY PARAMETERS")
+code_entry GenerationTooLarge = entry 42 (codes "A15") (codes "GENERATION TOO LARGE")
+code_entry NotAVariable = entry 43 (codes "T1") (codes "NOT A VARIABLE")
+code_entry AggregateNotAllowedHere = entry 44 (codes "T2") (codes "AGGREGATE NOT ALLOWED HERE")
+code_entry WrongNumberOfSubscripts = entry 45 (codes "T3") (codes "WRONG NUMBER OF SUBSCRIPTS")
+code_entry WrongOperandType = entry 46 (codes "T4") (codes "WRONG OPERAND TYPE")
+code_entry CannotAssign = entry 47 (codes "T5") (codes "CANNOT ASSIGN")
+code_entry WrongNumberOfArguments = entry 48 (codes "T6") (codes "WRONG NUMBER OF ARGUMENTS")
+code_entry WrongArgument = entry 49 (codes "T7") (codes "WRONG ARGUMENT")
+code_entry NotCallableHere = entry 50 (codes "T8") (codes "NOT CALLABLE HERE")
+code_entry WrongReturn = entry 51 (codes "T9") (codes "WRONG RETURN")
+code_entry LocatorMissingOrNotAllowed = entry 52 (codes "T10") (codes "LOCATOR MISSING OR NOT ALLOWED")
+code_entry CannotAllocateOrFree = entry 53 (codes "T11") (codes "CANNOT ALLOCATE OR FREE")
+code_entry BadControlVariable = entry 54 (codes "T12") (codes "BAD CONTROL VARIABLE")
+code_entry WrongBuiltInArgument = entry 55 (codes "T13") (codes "WRONG BUILT-IN ARGUMENT")
+code_entry CannotPrint = entry 56 (codes "T14") (codes "CANNOT PRINT")
+code_entry CodeTooLong = entry 57 (codes "G1") (codes "CODE TOO LONG")
+code_entry NoMainProcedure = entry 58 (codes "N1") (codes "NO MAIN PROCEDURE")
+code_entry TwoMainProcedures = entry 59 (codes "N2") (codes "TWO MAIN PROCEDURES")
+code_entry Unresolved = entry 60 (codes "N3") (codes "UNRESOLVED")
+code_entry DefinedTwice = entry 61 (codes "N4") (codes "DEFINED TWICE")
+code_entry Mismatch = entry 62 (codes "N5") (codes "MISMATCH")
+code_entry ModuleTooLarge = entry 63 (codes "N6") (codes "MODULE TOO LARGE")
 
 -- the place of a code in the order of diagnostics
 abbrev pub code_place : Code → ℕ
-code_place UnendedComment = 0
-code_place UnendedString = 1
-code_place BadCharacter = 2
-code_place BadNumber = 3
-code_place NameTooLong = 4
-code_place BadBits = 5
-code_place NoSuchMember = 6
-code_place RecursiveInclude = 7
-code_place TooManyTokens = 8
-code_place BadInclude = 9
-code_place NoProcedure = 10
-code_place NotAStatement = 11
-code_place ExpressionExpected = 12
-code_place ParenthesisExpected = 13
-code_place SemicolonExpected = 14
-code_place NameExpected = 15
-code_place ThenExpected = 16
-code_place WrongEndName = 17
-code_place EndMissing = 18
-code_place TextAfterEnd = 19
-code_place BadDo = 20
-code_place BadAttribute = 21
-code_place ConstantExpected = 22
-code_place BadLabel = 23
-code_place BadCondition = 24
-code_place NestedTooDeep = 25
-code_place MisplacedStatement = 26
-code_place BadOption = 27
-code_place NotDeclared = 28
-code_place DeclaredTwice = 29
-code_place AttributesConflict = 30
-code_place AttributesMissing = 31
-code_place BadPrecision = 32
-code_place BadLength = 33
-code_place BadBounds = 34
-code_place BadLevel = 35
-code_place BadInitial = 36
-code_place Ambiguous = 37
-code_place BadGoto = 38
-code_place BadLocatorOrAreaName = 39
-code_place AreaNotAllowedHere = 40
-code_place TooManyParameters = 41
-code_place GenerationTooLarge = 42
-code_place NotAVariable = 43
-code_place AggregateNotAllowedHere = 44
-code_place WrongNumberOfSubscripts = 45
-code_place WrongOperandType = 46
-code_place CannotAssign = 47
-code_place WrongNumberOfArguments = 48
-code_place WrongArgument = 49
-code_place NotCallableHere = 50
-code_place WrongReturn = 51
-code_place LocatorMissingOrNotAllowed = 52
-code_place CannotAllocateOrFree = 53
-code_place BadControlVariable = 54
-code_place WrongBuiltInArgument = 55
-code_place CannotPrint = 56
-code_place CodeTooLong = 57
-code_place NoMainProcedure = 58
-code_place TwoMainProcedures = 59
-code_place Unresolved = 60
-code_place DefinedTwice = 61
-code_place Mismatch = 62
-code_place ModuleTooLarge = 63
+code_place c = (code_entry c).place
+
+-- the letter and the number by which a diagnostic is cited
+abbrev pub code_label : Code → List ℕ
+code_label c = (code_entry c).label
+
+-- what a diagnostic says
+abbrev pub code_text : Code → List ℕ
+code_text c = (code_entry c).text

@@ -3,6 +3,7 @@ pub mod Devices
 pub mod Digits
 pub mod Name
 pub mod Results
+pub mod ShownCodes
 pub mod Reading
 pub mod Words
 pub mod Syntax

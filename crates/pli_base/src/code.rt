@@ -1,6 +1,7 @@
 //! The diagnostics of a build, in the order in which they are answered.
 ghost use Rattle.std.specs.Prelude.{◌≡◌, Some};
-ghost use Rattle.pli_base.specs.Codes.{code_label, code_text, code_shown, code_place, OneCode};
+ghost use Rattle.pli_base.specs.Codes.{code_label, code_text, code_place};
+ghost use Rattle.pli_base.specs.ShownCodes.{code_shown, OneCode};
 ghost use Rattle.std.specs.Ordering.{nat_cmp};
 
 use std::fmt;

@@ -5,7 +5,7 @@ use Rattle.pli_bench.specs.Dumps.{hex_from}
 use Rattle.pli_bench.specs.Exchanges.{exchange}
 use Rattle.pli_bench.specs.Session.{State, Dumps, okay, not_built}
 use Rattle.pli_ledger.specs.answers.Built.{IsOfMembers}
-use Rattle.pli_deck_write.specs.ModuleSpelling.{SpellsModule}
+use Rattle.pli_deck_write.specs.WrittenModules.{Spells}
 
 -- no module stands
 pub dumps_not : (s : State) → s.stands ≡ false → Dumps s.stands (exchange s not_built s)
@@ -16,4 +16,4 @@ pub dumps : (s : State) (bytes : List ℕ) → s.stands ≡ true → IsOfMembers
 dumps s bytes stands of =
     let same = of.spelled.spelled in
     subst (λ b. Dumps b (exchange s (hex_from 0 bytes ++ okay) s)) (sym stands)
-    (of.made, of.is, subst (λ bs. SpellsModule bs of.made) same of.spelled, (ap (λ bs. hex_from 0 bs ++ okay) same, refl))
+    (of.made, of.is, subst (λ bs. Spells bs of.made) same of.spelled, (ap (λ bs. hex_from 0 bs ++ okay) same, refl))

@@ -12,19 +12,19 @@ use Rattle.pli_members.specs.declared.refusal.Refusal.TheVariants.{NoSuchMember}
 use Rattle.pli_members.specs.declared.kind.MemberKind.{MemberKind}
 use Rattle.pli_members.specs.declared.kind.MemberKind.TheVariants.{Source, Include}
 use Rattle.pli_run.specs.Errors.{error_label, error_text}
-use Rattle.pli_machine_step.specs.Runs.{Outcome}
+use Rattle.pli_machine_step.specs.Outcomes.{Outcome}
 use Rattle.pli_run.specs.declared.ending.Ending.{Ending}
 use Rattle.pli_run.specs.declared.ending.Ending.TheVariants.{Ended, OutOfSteps, Error, MachineFault}
 use Rattle.pli_ledger.specs.Kept.{Ledger, empty_ledger}
 use Rattle.pli_ledger.specs.Refused.{IsRefused}
 use Rattle.pli_ledger.specs.Work.{ledger_after}
 use Rattle.pli_meaning.specs.Scratch.{Built, Diagnosed, Made, scratch, Means}
-use Rattle.pli_code.specs.Modules.{Module}
+use Rattle.pli_code.specs.ModuleParts.{Module}
 use Rattle.pli_bench.specs.Exchanges.{Exchange}
 use Rattle.pli_bench.specs.Commands.{Command, Add, Delete, Insert, Replace, Remove, ListLines, ListMembers}
 use Rattle.pli_bench.specs.Commands.{Build, ListWork, Dump, Run, Quit, command_of}
 use Rattle.pli_bench.specs.Dumps.{hex_from}
-use Rattle.pli_deck_write.specs.ModuleSpelling.{module_bytes, SpellsModule}
+use Rattle.pli_deck_write.specs.WrittenModules.{module_spelling, Spells}
 
 -- the members, what is kept of their units, whether a module of them stands, and the steps of a bare RUN
 pub record State : Type 0 where
@@ -126,8 +126,8 @@ work_line l = line (codes "EXPANDED " ++ decimal l.expanded ++ codes " COMPILED 
 abbrev pub Dumps : Bool → Exchange State → Type 0
 Dumps false e = Says not_built e
 Dumps true e =
-    (m : Module) × (scratch e.before.store.entries ≡ Made m) × SpellsModule (module_bytes m) m
-    × Says (hex_from 0 (module_bytes m) ++ okay) e
+    (m : Module) × (scratch e.before.store.entries ≡ Made m) × Spells (module_spelling m).bytes m
+    × Says (hex_from 0 (module_spelling m).bytes ++ okay) e
 
 -- a run broke off: some first bytes of the output, a line end, and that memory was refused
 pub record Breaks (output answer : List ℕ) : Type 0 where

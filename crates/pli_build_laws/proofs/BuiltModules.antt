@@ -16,6 +16,8 @@ use Rattle.pli_link.specs.Names.{externals, procedures}
 use Rattle.pli_link.specs.Units.{Compiled, AreWritten}
 use Rattle.pli_link.specs.declared.linking.LinkFault.{LinkFault}
 use Rattle.pli_deck_write.specs.Spelling.{deck_bytes}
+use Rattle.pli_deck_write.specs.WrittenDecks.{deck}
+use Rattle.pli_deck_write.proofs.WrittenLaws.{deck_written}
 use Rattle.pli_link_laws.specs.LinkedModules.{IsSaidAlone}
 use Rattle.pli_link_laws.proofs.LinkedFrom.{of_faultless}
 use Rattle.pli_link_laws.proofs.ModulesSay.{linked_modules_are_spelled}
@@ -45,7 +47,10 @@ made_of (b ∷ text) cs m h = let bad : ⊥ = cc in absurd bad
 
 -- a deck that is not too long has few bytes
 few_bytes : (d : Deck) → is_long d ≡ false → length (deck_bytes d) < 4294967296
-few_bytes d short = let few = ltb-false 4294967295 (length (deck_bytes d)) short in omega (arith, few)
+few_bytes d short =
+    let few = ltb-false 4294967295 (length (deck d).bytes) short in
+    let same = ap length (deck_written d) in
+    omega (arith, few, same)
 
 module _ (entries : List (Name × Member)) where
   -- each unit has a spelling for itself, whatever it is linked to

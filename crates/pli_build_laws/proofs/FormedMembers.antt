@@ -1,6 +1,6 @@
 -- The trees of members are well formed.
 use Rattle.std.specs.Prelude.{◌≡◌, ◌≤◌, Result, Ok, Err, List, [], ◌∷◌, length, refl}
-use Rattle.std.proofs.Common.{ap}
+use Rattle.std.proofs.Common.{ap, sym, ◌∙◌}
 use Rattle.pli_base.specs.Name.{Name}
 use Rattle.pli_base.specs.Statements.{ExternalProcedure}
 use Rattle.pli_base.specs.Words.{Tokens}
@@ -17,11 +17,12 @@ use Rattle.pli_members.specs.Members.{Member}
 use Rattle.pli_parse_statement.specs.StatementReading.{unit_of}
 use Rattle.pli_type_tree.specs.TypedTree.{TypedUnit}
 use Rattle.pli_type_bounds.proofs.UnitsFit.{typed_units_are_well_formed}
+use Rattle.pli_type_unit.proofs.LimitsAlike.{units_are_checked}
 
 -- what was read of so many tokens
 module _ (texts : Tokens) (few : length texts ≤ 200000) (t : TypedUnit) where
   unless_formed : (u : ExternalProcedure) → unit_of texts ≡ Ok u → (faults : List Fault) → resolution_faults u ≡ faults → typed_unless faults u ≡ Ok t → IsWellFormed t
-  unless_formed u read [] none typed = typed_units_are_well_formed texts u t few read none typed
+  unless_formed u read [] none typed = typed_units_are_well_formed texts u t few read none (sym (units_are_checked u none) ∙ typed)
   unless_formed u read (f ∷ fs) some typed = let bad : ⊥ = cc in absurd bad
 
   program_formed : program_of texts ≡ Ok t → IsWellFormed t

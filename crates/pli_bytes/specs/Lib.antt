@@ -1,4 +1,5 @@
 pub mod answers
 pub mod Changes
 pub mod Contents
+pub mod ScalarPlaces
 pub mod laws

@@ -1,7 +1,7 @@
 -- Code whose numbers are within the fields that its bytes have for them (own). An instruction in memory never
 -- has a wider one; definitions speak of numbers of any size, and these tests say how large they may be.
 use Rattle.std.specs.Prelude.{ℕ, nat_le, nat_lt, Bool, true, ◌&&◌, Option, Some, None}
-use Rattle.pli_code.specs.CodeTables.{CodedBlock}
+use Rattle.pli_code.specs.Decks.{CodedBlock}
 use Rattle.pli_code.specs.declared.instruction.Instruction.{Instruction}
 use Rattle.pli_code.specs.declared.instruction.Instruction.TheVariants as coded
 

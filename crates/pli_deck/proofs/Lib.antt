@@ -1,2 +1,3 @@
 mod FaultsTold
+mod LongDecks
 mod TypedCompiled

@@ -1,6 +1,6 @@
 -- Where reading and the declarations have no fault, types decide what a unit is compiled to; where types have none and
 -- code is not too long, its deck decides.
-use Rattle.std.specs.Prelude.{◌≡◌, false, Ok, Err, [], ◌∷◌, if◌then◌else◌}
+use Rattle.std.specs.Prelude.{◌≡◌, true, false, Ok, Err, [], ◌∷◌, if◌then◌else◌}
 use Rattle.std.proofs.Common.{ap, sym, ◌∙◌}
 use Rattle.pli_base.specs.Statements.{ExternalProcedure}
 use Rattle.pli_base.specs.Words.{Tokens}
@@ -9,9 +9,11 @@ use Rattle.pli_code.specs.Versions.{written}
 use Rattle.pli_declare.specs.Resolution.{resolution_faults}
 use Rattle.pli_gen.specs.Limits.{is_too_long}
 use Rattle.pli_gen_emit.specs.Encoding.{code_of}
+use Rattle.pli_gen_emit.proofs.ItemsMake.{code_same}
 use Rattle.pli_parse_statement.specs.StatementReading.{unit_of}
 use Rattle.pli_resolve.specs.ResolvedUnits.{resolved_unit_of}
 use Rattle.pli_type.specs.NamedUnits.{checked_unit}
+use Rattle.pli_type_unit.proofs.LimitsAlike.{units_are_checked}
 use Rattle.pli_type_tree.specs.TypedTree.{TypedUnit}
 use Rattle.pli_meaning.specs.Scratch.{typed_unless, program_from, too_long, compiled_tree, short_deck, coded, coded_from, compiled_texts}
 
@@ -21,10 +23,14 @@ tree_decides texts u read = ap (λ r. coded_from (program_from r)) read
 
 -- and where the declarations have none, types
 pub types_decide : (u v : ExternalProcedure) → resolution_faults u ≡ [] → v ≡ u → coded_from (typed_unless (resolution_faults u) u) ≡ coded_from (checked_unit (resolved_unit_of v))
-types_decide u v none same = ap (λ fs. coded_from (typed_unless fs u)) none ∙ ap (λ x. coded_from (checked_unit (resolved_unit_of x))) (sym same)
+types_decide u v none same = ap (λ fs. coded_from (typed_unless fs u)) none ∙ ap coded_from (units_are_checked u none) ∙ ap (λ x. coded_from (checked_unit (resolved_unit_of x))) (sym same)
 
--- and where code is not too long, its deck
+-- code that is emitted and too long is a fault
+pub long_decides : (u : TypedUnit) → is_too_long (code_of u) ≡ true → coded u ≡ Err (too_long ∷ [])
+long_decides u long = ap (λ b. if b then Err (too_long ∷ []) else short_deck (compiled_tree u)) (ap is_too_long (code_same u) ∙ long)
+
+-- and where it is not too long, its deck decides
 pub deck_decides : (u : TypedUnit) (c : Code) → is_too_long (code_of u) ≡ false → c ≡ code_of u → short_deck (record { version = written; name = u.procedure; is_main = u.is_main; code = c }) ≡ coded u
 deck_decides u c fits same =
-    ap (λ (x : Code). short_deck (record { version = written; name = u.procedure; is_main = u.is_main; code = x })) same
-    ∙ sym (ap (λ b. if b then Err (too_long ∷ []) else short_deck (compiled_tree u)) fits)
+    ap (λ (x : Code). short_deck (record { version = written; name = u.procedure; is_main = u.is_main; code = x })) (same ∙ sym (code_same u))
+    ∙ sym (ap (λ b. if b then Err (too_long ∷ []) else short_deck (compiled_tree u)) (ap is_too_long (code_same u) ∙ fits))

@@ -96,6 +96,7 @@ fn with_bytes(alloc: Global, deck: Deck) -> Result<SpelledDeck, CompileError>
 }
 
 /// A typed unit, compiled, or that its code or its deck is too long.
+#[tactic(auto, using(crate::proofs::TypedCompiled::long_decides))]
 fn compile_typed(alloc: Global, unit: &TypedUnit) -> Result<SpelledDeck, CompileError>
     ensures { Compiles result (coded (typed.unit_view unit.now)) }
 {

@@ -10,3 +10,4 @@ pub mod SpellingLaws
 pub mod TypeLemmas
 pub mod WholeLaws
 pub mod Worked
+pub mod WrittenLaws

@@ -1,9 +1,13 @@
 pub mod DeckFaults
 pub mod DeckFields
+pub mod DeckStands
 pub mod Descriptions
 pub mod ModuleFields
 pub mod ModuleSpelling
 pub mod Spelling
 pub mod Whole
+pub mod WrittenDecks
+pub mod WrittenModules
+pub mod WrittenTypes
 pub mod answers
 pub mod examples

@@ -2,7 +2,7 @@
 use Rattle.std.specs.Prelude.{◌≡◌, ℕ, Bool, List, None, Result, Ok, true}
 use Rattle.pli_code.specs.declared.fault.DeckFault.{DeckFault}
 use Rattle.pli_code.specs.Fields.{AreBytes}
-use Rattle.pli_code.specs.CodeTables.{Deck}
+use Rattle.pli_code.specs.Decks.{Deck}
 use Rattle.pli_code.specs.declared.version.Version.{Version}
 use Rattle.pli_deck_write.specs.DeckFields.{any_version, deck, deck_in_versions}
 use Rattle.pli_deck_write.specs.DeckFaults.{fault_of}

@@ -14,16 +14,17 @@ use Rattle.pli_resolve.specs.declared.built_in.BuiltInFunction.{BuiltInFunction}
 use Rattle.pli_resolve.specs.declared.built_in.BuiltInFunction.TheVariants as functions
 use Rattle.pli_type.specs.ExpressionTypes.{TypedValue}
 use Rattle.pli_type.specs.FunctionCalls.{Denoted, Meant, OneValue, WholeAggregate}
-use Rattle.pli_type.specs.FunctionCalls.{Argument, function_called, or_bad_argument}
+use Rattle.pli_type.specs.FunctionCalls.{Argument, function_called}
 use Rattle.pli_type.specs.Names.{NamedAs, AVariable, AFunction, AProcedure, ALabel, Untyped, NamedVariable}
 use Rattle.pli_type.specs.Names.{NamedProcedure, Naming}
-use Rattle.pli_type.specs.ProcedureCalls.{arguments_passed, or_wrong_argument, result_of}
+use Rattle.pli_type.specs.ProcedureCalls.{arguments_passed, result_of}
 use Rattle.pli_type.specs.References.{Role, AsValue, AsArgument, AsLocator, Referent, StridedPart}
-use Rattle.pli_type.specs.References.{settled, open_settled, whole_meant, begins_somewhere, LocatorBefore, NotLocated}
+use Rattle.pli_type.specs.References.{settled, open_settled, whole_meant, LocatorBefore, NotLocated}
 use Rattle.pli_type.specs.Typing as typing
 use Rattle.pli_type.specs.Typing.{Segment, OfVariable, OfFunction, OfEmpty, OfNoVariable, or_fault, first_token, denoted}
 use Rattle.pli_type.specs.Typing.{referred, joined, begun, is_call, all_subscripts, subscripts_in, all_arguments}
 use Rattle.pli_type.specs.Typing.{as_value, one_value, ended, with_more, as_locator, named_alone, given_by}
+use Rattle.pli_type.specs.TypingSteps.{or_bad_argument, or_wrong_argument, begins_somewhere}
 use Rattle.pli_type.specs.declared.expression_type.ExpressionType.{ExpressionType}
 use Rattle.pli_type_tree.specs.TypedTree.{Callee, TypedExpression, TypedArguments}
 use Rattle.pli_fault_laws.proofs.BelowLemmas.{Below, below_left, below_right}

@@ -25,6 +25,7 @@ use Rattle.pli_type.specs.StatementTyping.{WithProcedures}
 use Rattle.pli_type.specs.Temporaries.{Next}
 use Rattle.pli_type.specs.Typing.{first_token, behind_arrows, own_token}
 use Rattle.pli_type.specs.declared.beginning.Beginning.{Beginning}
+use Rattle.pli_type.specs.TypingSteps as steps
 use Rattle.pli_type_tree.specs.TypedTree.{Callee, Form, TypedArguments, TypedRange, TypedStatements, TypedProcedure}
 use Rattle.pli_fault_laws.specs.StatementStarts.{Begins, BodyBegins, AllBegin, ElseBegins}
 use Rattle.pli_fault_laws.specs.TypeFaultPlaces.{AllStand, TypeFaultsStandAtTokens}
@@ -62,7 +63,7 @@ only_assigned high n at equals (DenotesResult value) e a q h = told high _ _ a
 only_assigned high n at equals DenotesEmpty e a q h = told high _ _ a
 
 only_items : (high : ℕ) (n : Naming) (es : List Expression) → Below high (tokens_of_each expression_tokens es)
-    → Only high (statements.items n es)
+    → Only high (steps.items n es)
 only_items high n [] h = fine high _
 only_items high n (e ∷ es) h =
     let first = below_left high (expression_tokens e) (tokens_of_each expression_tokens es) h in
@@ -124,7 +125,7 @@ only_limit high n e h =
     only_then high _ _ (only_value_of high n e h) (λ v. only_or high WrongOperandType (first_token e) _ (first_below high e h))
 
 only_possible : (high : ℕ) (n : Naming) (o : Option Expression) → Below high (tokens_of_some expression_tokens o)
-    → Only high (statements.possible_limit n o)
+    → Only high (steps.possible_limit n o)
 only_possible high n None h = fine high _
 only_possible high n (Some e) h = only_then high _ _ (only_limit high n e h) (λ x. fine high _)
 
@@ -152,7 +153,7 @@ only_controls high at is_located range DenotesEmpty h = told high _ _ h
 only_controls high at is_located range (DenotesVariable r) h = only_if high _ _ _ (only_suited high at r _ h) (told high _ _ h)
 
 only_possible_condition : (high : ℕ) (n : Naming) (o : Option Expression) → Below high (tokens_of_some expression_tokens o)
-    → Only high (statements.possible_condition n o)
+    → Only high (steps.possible_condition n o)
 only_possible_condition high n None h = fine high _
 only_possible_condition high n (Some e) h = only_then high _ _ (only_condition high n e h) (λ x. fine high _)
 
@@ -234,11 +235,11 @@ only_all_allocated high n temporary (a ∷ others) h =
     (λ xs. fine high _))
 
 only_allocate : (high : ℕ) (n : Naming) (temporary : ℕ) (list : List Allocation)
-    → Below high (tokens_of_each allocation_tokens list) → Only high (statements.allocate_typed n temporary list)
+    → Below high (tokens_of_each allocation_tokens list) → Only high (steps.allocate_typed n temporary list)
 only_allocate high n temporary list h = only_then high _ _ (only_all_allocated high n temporary list h) (λ xs. fine high _)
 
 only_free : (high : ℕ) (n : Naming) (list : List Reference) → Below high (tokens_of_each reference_tokens list)
-    → Only high (statements.free_typed n list)
+    → Only high (steps.free_typed n list)
 only_free high n list h =
     only_then high _ _ (in_turn_stands high reference_tokens (freed n) (only_freed high n) list h) (λ xs. fine high _)
 

@@ -9,7 +9,7 @@ use Rattle.pli_map.specs.Description.{Description, Array, Structure, Members, No
 use Rattle.pli_map.specs.ParameterTypes.{ParameterType, Stated, AnyString, AnyArray, ArrayOf, StructureOf, stated}
 use Rattle.pli_map.specs.Sizes.{size_of}
 use Rattle.pli_code.specs.CodeFields.{block_fits, instruction_fits}
-use Rattle.pli_code.specs.CodeTables.{CodedTemplate, CodedBlock, Code}
+use Rattle.pli_code.specs.Decks.{CodedTemplate, CodedBlock, Code}
 
 -- the greatest number of entries
 abbrev pub entry_limit : ℕ

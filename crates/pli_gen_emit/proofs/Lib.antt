@@ -3,6 +3,7 @@ pub mod CollectLemmas
 pub mod EmitLemmas
 pub mod EmittedJumps
 pub mod GlobalLemmas
+pub mod ItemsMake
 pub mod IterationLemmas
 pub mod JumpLemmas
 pub mod KeyLemmas

@@ -1,4 +1,10 @@
 pub mod answers
+pub mod BlockTrees
+pub mod Coding
+pub mod CodingLaws
 pub mod Encoding
+pub mod Items
+pub mod Tables
+pub mod Translation
 pub mod TreeTranslation
 pub mod views

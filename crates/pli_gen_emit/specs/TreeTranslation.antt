@@ -2,16 +2,14 @@
 -- from 0 in its unit, so the code of a statement depends on the place at which it begins. A GOTO first names
 -- its label's statement; where that begins is known when all code of the unit is.
 use Rattle.std.specs.Prelude.{ℕ, suc, ◌+◌, nat_eq, Bool, true, false, Option, Some, None, List, [], ◌∷◌, ◌++◌}
-use Rattle.std.specs.Prelude.{map, length, if◌then◌else◌}
-use Rattle.std.specs.List.{filter, flat_map, range_with_len}
+use Rattle.std.specs.Prelude.{map, if◌then◌else◌}
 use Rattle.pli_run.specs.declared.ending.RunError.TheVariants.{NoReturnedValue}
 use Rattle.pli_program.specs.Program.{Instruction, Step, Line, Jump, JumpUnless, Local, Field}
 use Rattle.pli_program.specs.Program.{Subscript, Constant, Load, Store, Copy, MakeDummy, Operate, Skip}
 use Rattle.pli_program.specs.Program.{Raise, SubscriptIn, BoundOf, MakeStringDummy, FitToPlace}
-use Rattle.pli_program.specs.Program.{BlockKind, BeginBlock, Block, GlobalCode, UnitCode}
+use Rattle.pli_program.specs.Program.{Block, GlobalCode, UnitCode}
 use Rattle.pli_program.specs.Program as op
 use Rattle.pli_operation.specs.declared.operation.Operation.TheVariants.{Add, Within}
-use Rattle.pli_type_tree.specs.Blocks.{kind_of_procedure}
 use Rattle.pli_type_tree.specs.Iterations.{kept_by, limit_number, step_number, is_iterated}
 use Rattle.pli_type_tree.specs.Templates.{variable_of}
 use Rattle.pli_type_tree.specs.TypedTree.{Root, InSlot, OfProgram, NewestOf, Located, TypedExpression}
@@ -21,7 +19,7 @@ use Rattle.pli_type_tree.specs.TypedTree.{NoOperand}
 use Rattle.pli_type_tree.specs.TypedTree.{OperandThen, Subscripts, NoSubscript, SubscriptThen, TypedArguments}
 use Rattle.pli_type_tree.specs.TypedTree.{NoArgument, ByPlace, ByDummy, ByString, Conversion, ByOperations}
 use Rattle.pli_type_tree.specs.TypedTree.{ToPlace, AssignString, RepeatedString}
-use Rattle.pli_type_tree.specs.TypedTree.{AsPointerIn, AsOffsetIn, BlockHead, TypedStatement, Statement}
+use Rattle.pli_type_tree.specs.TypedTree.{AsPointerIn, AsOffsetIn, TypedStatement, Statement}
 use Rattle.pli_type_tree.specs.TypedTree.{Form, Null, Assign, AssignAggregate, AssignArea, EmptyArea, Put, If}
 use Rattle.pli_type_tree.specs.TypedTree.{Begin, Group, While, Iterate, TypedRange, Once, ToBy, ByTo}
 use Rattle.pli_type_tree.specs.TypedTree.{Repeated, Iteration, Call, Goto, Return, ReturnValue, Stop, On}
@@ -29,17 +27,13 @@ use Rattle.pli_type_tree.specs.TypedTree.{Revert, Signal}
 use Rattle.pli_type_tree.specs.TypedTree.{Allocate, Free, OtherWise, NoElse, Else}
 use Rattle.pli_type_tree.specs.TypedTree.{AllocatedItem, AllocatesControlled, AllocatesBased, AllocatesInArea}
 use Rattle.pli_type_tree.specs.TypedTree.{FreedItem, FreesControlled, FreesBased}
-use Rattle.pli_type_tree.specs.TypedTree.{TypedStatements, NoStatement, StatementThen, TypedProcedure}
+use Rattle.pli_type_tree.specs.TypedTree.{TypedStatements, NoStatement, StatementThen}
 use Rattle.pli_type_tree.specs.TypedTree.{Callee, OfBlock, OfEntry, Global, OwnVariable, ExternalVariable}
 use Rattle.pli_type_tree.specs.TypedTree.{EntryPoint, TypedUnit, TypedOperation}
 use Rattle.pli_type_tree.specs.TypedTree as tree
-
--- how many arguments there are
-abbrev pub argument_count : TypedArguments → ℕ
-argument_count NoArgument = 0
-argument_count (ByPlace variable more) = suc (argument_count more)
-argument_count (ByDummy description value more) = suc (argument_count more)
-argument_count (ByString form value more) = suc (argument_count more)
+pub use Rattle.pli_gen_emit.specs.BlockTrees.{BlockTree, argument_count, begin_block, procedure_block}
+pub use Rattle.pli_gen_emit.specs.BlockTrees.{blocks_in, blocks_of_form, blocks_of_else, blocks_among}
+pub use Rattle.pli_gen_emit.specs.BlockTrees.{blocks_of_procedure, has_number, by_number, blocks_of}
 
 -- references and expressions
 
@@ -359,79 +353,6 @@ statement_place [] number = 0
 statement_place ((s, p) ∷ more) number = if nat_eq s number then p else statement_place more number
 
 -- blocks
-
--- a block of a unit with what it executes
-pub record BlockTree : Type 0 where
-  pub kind : BlockKind
-  pub parent : Option ℕ
-  pub parameters : ℕ
-  pub head : BlockHead
-  pub function_end : Option ℕ
-  pub statements : TypedStatements
-
--- a BEGIN block, in the block of a number
-abbrev pub begin_block : (parent : ℕ) → BlockHead → TypedStatements → BlockTree
-begin_block parent head statements = record {
-  kind = BeginBlock;
-  parent = Some parent;
-  parameters = 0;
-  head = head;
-  function_end = None;
-  statements = statements;
-}
-
--- the block of a procedure or an ON-unit
-abbrev pub procedure_block : TypedProcedure → BlockTree
-procedure_block f = record {
-  kind = kind_of_procedure f;
-  parent = f.parent;
-  parameters = f.parameters;
-  head = f.head;
-  function_end = f.function_end;
-  statements = f.statements;
-}
-
--- the BEGIN blocks inside a statement of a block
-abbrev mutual
-  pub blocks_in : (parent : ℕ) → TypedStatement → List BlockTree
-  blocks_in parent (Statement number form) = blocks_of_form parent form
-
-  -- those inside a form: a BEGIN block itself, and then those inside it
-  pub blocks_of_form : (parent : ℕ) → Form → List BlockTree
-  blocks_of_form parent (If condition consequence alternative) =
-      blocks_in parent consequence ++ blocks_of_else parent alternative
-  blocks_of_form parent (Begin head statements) =
-      begin_block parent head statements ∷ blocks_among head.number statements
-  blocks_of_form parent (Group statements) = blocks_among parent statements
-  blocks_of_form parent (While condition statements) = blocks_among parent statements
-  blocks_of_form parent (Iterate iteration statements) = blocks_among parent statements
-  blocks_of_form parent form = []
-
-  -- those inside an ELSE
-  pub blocks_of_else : (parent : ℕ) → OtherWise → List BlockTree
-  blocks_of_else parent NoElse = []
-  blocks_of_else parent (Else statement) = blocks_in parent statement
-
-  -- those inside the statements of a list
-  pub blocks_among : (parent : ℕ) → TypedStatements → List BlockTree
-  blocks_among parent NoStatement = []
-  blocks_among parent (StatementThen first more) = blocks_in parent first ++ blocks_among parent more
-
--- the block of a procedure or an ON-unit, and those inside it
-abbrev pub blocks_of_procedure : TypedProcedure → List BlockTree
-blocks_of_procedure f = procedure_block f ∷ blocks_among f.head.number f.statements
-
--- a block has this number
-abbrev pub has_number : ℕ → BlockTree → Bool
-has_number n b = nat_eq b.head.number n
-
--- blocks in the order of their numbers, which are counted from 0
-abbrev pub by_number : List BlockTree → List BlockTree
-by_number bs = flat_map (λ n. filter (has_number n) bs) (range_with_len 0 (length bs))
-
--- the blocks of a unit by their numbers
-abbrev pub blocks_of : TypedUnit → List BlockTree
-blocks_of u = by_number (flat_map blocks_of_procedure u.procedures)
 
 -- what stands at a block's end: the return; that of a function must not be reached
 abbrev pub end_code : (function_end : Option ℕ) → List Instruction

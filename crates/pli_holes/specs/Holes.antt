@@ -3,6 +3,7 @@ use Rattle.std.specs.Prelude.{◌≡◌, ◌+◌, ◌-◌, ◌%◌, ◌<◌, ◌
 use Rattle.std.specs.Prelude.{List, [], ◌∷◌, length, slice_index, if◌then◌else◌}
 use Rattle.pli_region.specs.Words.{word_at}
 use Rattle.pli_holes.specs.declared.hole.Hole.{Hole}
+pub use Rattle.pli_holes.specs.Between.{hole_between}
 
 -- ---- what a chain spells
 
@@ -59,11 +60,6 @@ pub record IsInUse (bytes : List ℕ) (first start room : ℕ) : Type 0 where
   pub some : 8 ≤ room
 
 -- ---- what is taken
-
--- the hole between two places, if they differ, before the others
-abbrev pub hole_between : (from to : ℕ) → List Hole → List Hole
-hole_between from to holes =
-    if nat_lt from to then record { start = from; room = to - from } ∷ holes else holes
 
 -- a hole without its first bytes, if any are left, before the others
 abbrev pub shortened : (room : ℕ) → Hole → List Hole → List Hole

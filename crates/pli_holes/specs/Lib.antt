@@ -1,2 +1,3 @@
+pub mod Between
 pub mod Holes
 pub mod Steps

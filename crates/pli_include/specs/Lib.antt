@@ -1,5 +1,6 @@
 pub mod Expanded
 pub mod Expansion
+pub mod LookedIn
 pub mod Pieces
 pub mod answers
 pub mod examples

@@ -6,7 +6,7 @@ use Rattle.std.specs.Ordering.{nat_cmp}
 use Rattle.std.specs.FinMap.{FinMap, get}
 use Rattle.pli_base.specs.Name.{Name}
 use Rattle.pli_include.specs.Expanded.{Expanded, expansion_of, outcome_of}
-use Rattle.pli_include.specs.laws.Laws.{looked_in}
+use Rattle.pli_include.specs.LookedIn.{looked_in}
 use Rattle.pli_members.specs.Members.{Store, Member, member_of}
 use Rattle.pli_members.specs.declared.kind.MemberKind.{MemberKind}
 use Rattle.pli_ledger.specs.Kept.{Units, kept_of}

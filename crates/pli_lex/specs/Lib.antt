@@ -3,5 +3,6 @@ pub mod Faults
 pub mod Reading
 pub mod Signs
 pub mod Tokens
+pub mod Constants
 pub mod answers
 pub mod examples

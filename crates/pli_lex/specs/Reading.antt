@@ -18,7 +18,7 @@ use Rattle.pli_lex.specs.declared.answer.LexFault.{LexFault}
 use Rattle.pli_lex.specs.Characters.{text_of, line_ends, is_line_end, is_blank, is_quote, is_b}
 use Rattle.pli_lex.specs.Characters.{is_width_digit, continues_number, begins_with, begins_comment}
 use Rattle.pli_lex.specs.Signs.{sign_of}
-use Rattle.pli_lex.specs.Tokens.{is_constant, is_binary_constant, width_of, are_digits, bits_in}
+use Rattle.pli_lex.specs.Constants.{is_constant, is_binary_constant, width_of, are_digits, bits_in}
 
 -- ---- a token
 

@@ -1,20 +1,20 @@
 -- What a text spells, apart from how it is read (X3.74; the limits of constants are own).
-use Rattle.std.specs.Prelude.{◌≡◌, ◌⊎◌, ℕ, ◌+◌, ◌-◌, ◌*◌, ◌/◌, ◌%◌, ◌^◌, nat_eq, nat_le, nat_lt, IsTrue}
-use Rattle.std.specs.Prelude.{IsFalse, Bool, ◌&&◌, ◌||◌, List, [], ◌∷◌, ◌++◌, map, drop, length, Option}
-use Rattle.std.specs.Prelude.{Some, None, codes, if◌then◌else◌}
-use Rattle.std.specs.List.{concat, list_all}
+use Rattle.std.specs.Prelude.{◌≡◌, ◌⊎◌, ℕ, ◌+◌, IsTrue}
+use Rattle.std.specs.Prelude.{IsFalse, ◌||◌, List, [], ◌∷◌, ◌++◌, length}
+use Rattle.std.specs.Prelude.{Some, codes, if◌then◌else◌}
+use Rattle.std.specs.List.{concat}
 use Rattle.std.specs.Option.{is_some}
 use Rattle.pli_base.specs.Digits.{value_in}
-use Rattle.pli_base.specs.Name.{is_digit, is_name_character, name_of}
+use Rattle.pli_base.specs.Name.{is_name_character, name_of}
 use Rattle.pli_base.specs.declared.token.TokenText.{TokenText}
 use Rattle.pli_base.specs.declared.token.TokenText.TheVariants as texts
 use Rattle.pli_base.specs.declared.token.Token.{Token}
 use Rattle.pli_lex.specs.Characters.{text_of, line_ends, on_one_line, is_blank, is_quote, is_b}
-use Rattle.pli_lex.specs.Characters.{is_binary_digit, is_width_digit, digit_value, continues_number}
+use Rattle.pli_lex.specs.Characters.{continues_number}
 use Rattle.pli_lex.specs.Characters.{begins_with}
 use Rattle.pli_lex.specs.Signs.{sign_of}
-
--- ---- separators
+pub use Rattle.pli_lex.specs.Constants.{are_digits, bits_in, bits_of, is_binary_constant, is_constant}
+pub use Rattle.pli_lex.specs.Constants.{width_of}
 
 -- a comment ends at its first `*/`: comments do not nest
 abbrev pub IsComment : List ℕ → Type 0
@@ -35,18 +35,6 @@ AreSeparators (run ∷ runs) = IsSeparator run × AreSeparators runs
 abbrev pub IsGap : List ℕ → Type 0
 IsGap gap = (runs : List (List ℕ)) × (gap ≡ concat runs) × AreSeparators runs
 
--- ---- numbers
-
--- 1 to 19 digits, leading zeros counted, with a value of at most 2 ^ 63 - 1
-abbrev pub is_constant : List ℕ → Bool
-is_constant run =
-    nat_le 1 (length run) && nat_le (length run) 19 && list_all is_digit run
-    && nat_le (value_in 10 run) 9223372036854775807
-
--- 1 to 63 binary digits
-abbrev pub is_binary_constant : List ℕ → Bool
-is_binary_constant run = nat_le 1 (length run) && nat_le (length run) 63 && list_all is_binary_digit run
-
 -- ---- strings
 
 -- characters with each quote doubled
@@ -57,25 +45,6 @@ doubled (c ∷ cs) = (if is_quote c then c ∷ c ∷ [] else c ∷ []) ++ double
 -- characters in quotes
 abbrev pub quoted : List ℕ → List ℕ
 quoted characters = 39 ∷ (doubled characters ++ 39 ∷ [])
-
--- how many bits a digit has before `B`, `B1`, `B2`, `B3` or `B4`
-abbrev pub width_of : List ℕ → Option ℕ
-width_of (b ∷ []) = if is_b b then Some 1 else None
-width_of (b ∷ d ∷ []) = if is_b b && is_width_digit d then Some (d - 48) else None
-width_of others = None
-
--- digits of so many bits
-abbrev pub are_digits : ℕ → List ℕ → Bool
-are_digits width digits = list_all (λ digit. nat_lt (digit_value digit) (2 ^ width)) digits
-
--- the bits of a digit's value, from left to right
-abbrev pub bits_of : (width value : ℕ) → List Bool
-bits_of width value = map (λ place. nat_eq (value / place % 2) 1) (drop (4 - width) (8 ∷ 4 ∷ 2 ∷ 1 ∷ []))
-
--- the bits of digits
-abbrev pub bits_in : ℕ → List ℕ → List Bool
-bits_in width [] = []
-bits_in width (digit ∷ digits) = bits_of width (digit_value digit) ++ bits_in width digits
 
 -- ---- tokens
 

@@ -6,7 +6,7 @@ use Rattle.std.specs.Option.{option_eq}
 use Rattle.pli_map.specs.ParameterTypes.{ParameterType, same_type}
 use Rattle.pli_program.specs.declared.kind.VariableKind.{VariableKind}
 use Rattle.pli_program.specs.declared.kind.VariableKind.TheVariants.{Static, Controlled}
-use Rattle.pli_code.specs.CodeTables.{Code, CodedSignature}
+use Rattle.pli_code.specs.Decks.{Code, CodedSignature}
 
 -- what a procedure takes and gives, with the types as the tables have them
 pub record FoundSignature : Type 0 where

@@ -7,7 +7,7 @@ use Rattle.std.specs.Ordering.{nat_cmp}
 use Rattle.pli_base.specs.Name.{Name}
 use Rattle.pli_base.specs.Words.{is_among}
 use Rattle.pli_sort.specs.Sorting as sorting
-use Rattle.pli_code.specs.Modules.{Module}
+use Rattle.pli_code.specs.ModuleParts.{Module}
 use Rattle.pli_link.specs.Links.{module_of}
 use Rattle.pli_link.specs.Mismatches.{faulty_linked}
 use Rattle.pli_link.specs.ModuleSize.{is_too_large}

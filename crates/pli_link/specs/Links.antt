@@ -6,10 +6,9 @@ use Rattle.std.specs.List.{flat_map}
 use Rattle.std.specs.Map.{keys_of}
 use Rattle.pli_base.specs.Name.{Name}
 use Rattle.pli_base.specs.Words.{same_name}
-use Rattle.pli_code.specs.CodeTables.{CodedGlobal, OwnVariable, ExternalVariable, EntryPoint}
-use Rattle.pli_code.specs.Modules.{External, Member, Module}
+use Rattle.pli_code.specs.Decks.{CodedGlobal, OwnVariable, ExternalVariable, EntryPoint}
+use Rattle.pli_code.specs.ModuleParts.{External, Member, Module, kind_number}
 use Rattle.pli_code.specs.Versions.{written}
-use Rattle.pli_code.specs.views.CodeView.{kind_number}
 use Rattle.pli_link.specs.Names.{Declaration, externals, meant, procedures}
 use Rattle.pli_link.specs.Units.{Compiled}
 

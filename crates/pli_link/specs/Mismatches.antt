@@ -6,8 +6,8 @@ use Rattle.std.specs.Option.{option_eq}
 use Rattle.pli_base.specs.Name.{Name}
 use Rattle.pli_program.specs.declared.kind.VariableKind.{VariableKind}
 use Rattle.pli_type_tree.specs.Templates.{Template}
-use Rattle.pli_code.specs.CodeTables.{Code, CodedGlobal, OwnVariable, ExternalVariable, EntryPoint}
-use Rattle.pli_code.specs.CodeTables.{template_at}
+use Rattle.pli_code.specs.Decks.{Code, CodedGlobal, OwnVariable, ExternalVariable, EntryPoint}
+use Rattle.pli_code.specs.Decks.{template_at}
 use Rattle.pli_link.specs.Alike.{FoundSignature, same_kind, same_signature, signature_at}
 use Rattle.pli_type_keys.specs.Same.{same_template}
 use Rattle.pli_link.specs.Names.{Declaration, with_name, meant, procedures, unit_named}

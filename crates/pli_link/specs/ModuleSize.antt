@@ -8,8 +8,8 @@ use Rattle.pli_map.specs.Variables.{byte_limit}
 use Rattle.pli_program.specs.declared.kind.VariableKind.{VariableKind}
 use Rattle.pli_program.specs.declared.kind.VariableKind.TheVariants.{Static, Controlled}
 use Rattle.pli_type_tree.specs.Templates.{Template}
-use Rattle.pli_code.specs.CodeTables.{Code, CodedGlobal, OwnVariable, ExternalVariable, EntryPoint}
-use Rattle.pli_code.specs.CodeTables.{there, template_at}
+use Rattle.pli_code.specs.Decks.{Code, CodedGlobal, OwnVariable, ExternalVariable, EntryPoint}
+use Rattle.pli_code.specs.Decks.{there, template_at}
 use Rattle.pli_link.specs.Names.{Declaration, externals}
 use Rattle.pli_link.specs.Units.{Compiled}
 

@@ -9,8 +9,8 @@ use Rattle.pli_base.specs.Name.{Name}
 use Rattle.pli_base.specs.Words.{same_name, is_among}
 use Rattle.pli_program.specs.declared.kind.VariableKind.{VariableKind}
 use Rattle.pli_type_tree.specs.Templates.{Template}
-use Rattle.pli_code.specs.CodeTables.{Code, CodedGlobal, ExternalVariable}
-use Rattle.pli_code.specs.CodeTables.{template_at}
+use Rattle.pli_code.specs.Decks.{Code, CodedGlobal, ExternalVariable}
+use Rattle.pli_code.specs.Decks.{template_at}
 use Rattle.pli_link.specs.Units.{Compiled}
 
 -- one name more, unless it is there

@@ -2,7 +2,7 @@
 use Rattle.std.specs.Prelude.{◌≡◌, List}
 use Rattle.std.specs.List.{AllByRecursion}
 use Rattle.pli_base.specs.Name.{Name}
-use Rattle.pli_code.specs.CodeTables.{Deck}
+use Rattle.pli_code.specs.Decks.{Deck}
 use Rattle.pli_code.specs.Versions.{written}
 use Rattle.pli_link.specs.declared.units.LinkedName.{LinkedName}
 

@@ -4,6 +4,7 @@ pub mod Dimensions
 pub mod Layouts
 pub mod ParameterTypes
 pub mod Parts
+pub mod PlacedParts
 pub mod Same
 pub mod ScalarPaths
 pub mod Scalars

@@ -8,7 +8,7 @@ use Rattle.pli_map.specs.declared.parameter.StringForm.TheVariants as forms
 use Rattle.pli_map.specs.Description.{Description, Character, Varying, Bit, Array, Structure}
 use Rattle.pli_map.specs.Same.{same, same_bounds}
 use Rattle.pli_map.specs.Scalars.{is_aggregate}
-use Rattle.pli_map.specs.views.DescriptionView.{members_of}
+use Rattle.pli_map.specs.views.MembersView.{members_of}
 
 mutual
   -- a description; a string of any length; an array of so many dimensions, whose bounds are all `*`, of an

@@ -1,21 +1,16 @@
 -- Where the parts of a description stand in it (row-major order X3.74, the rest own).
-use Rattle.std.specs.Prelude.{ℕ, zero, suc, ◌+◌, ◌*◌, ◌&&◌, int_le, ℤ, ◌-ℤ◌, unsigned_abs, Option, Some, None}
+use Rattle.std.specs.Prelude.{ℕ, ◌+◌, ◌*◌, ◌&&◌, int_le, ℤ, ◌-ℤ◌, unsigned_abs, Option, Some, None}
 use Rattle.std.specs.Prelude.{option_map, option_and_then, List, [], ◌∷◌, if◌then◌else◌}
-use Rattle.std.specs.Int.{next_multiple_of}
 use Rattle.pli_map.specs.declared.description.Bounds.{Bounds}
-use Rattle.pli_map.specs.Description.{Description, Array, Structure, Members, NoMembers, MemberThen}
-use Rattle.pli_map.specs.Sizes.{count_of, alignment_of, size_of, stride_of}
+use Rattle.pli_map.specs.Description.{Description, Array, Structure}
+use Rattle.pli_map.specs.Sizes.{count_of, stride_of}
+pub use Rattle.pli_map.specs.PlacedParts.{PlacedPart, member_behind, moved}
 
 -- a step from a description to a part of it: to a member of a structure, counted from 0, or to the element of
 -- an array at its subscripts
 pub data PathStep : Type 0 where
   Member : (number : ℕ) → PathStep
   Element : (subscripts : List ℤ) → PathStep
-
--- a part of a description: how many bytes behind its beginning it stands, and what it is
-pub record PlacedPart : Type 0 where
-  pub offset : ℕ
-  pub description : Description
 
 -- how far a subscript is above its lower bound, where it is within its bounds
 abbrev pub distance_of : Bounds → ℤ → Option ℕ
@@ -30,15 +25,6 @@ index_of (b ∷ bs) (x ∷ xs) =
 index_of [] (x ∷ xs) = None
 index_of (b ∷ bs) [] = None
 
--- the member of this number, if each stands at its next aligned place behind the one before, and the first
--- behind this byte
-abbrev pub member_behind : ℕ → Members → ℕ → Option PlacedPart
-member_behind at NoMembers i = None
-member_behind at (MemberThen d ds) zero =
-    Some (record { offset = next_multiple_of at (alignment_of d); description = d })
-member_behind at (MemberThen d ds) (suc i) =
-    member_behind (next_multiple_of at (alignment_of d) + size_of d) ds i
-
 -- the element at these subscripts
 abbrev pub element_at : List Bounds → Description → List ℤ → Option PlacedPart
 element_at bounds element xs =
@@ -49,10 +35,6 @@ abbrev pub part_at : Description → PathStep → Option PlacedPart
 part_at (Structure members) (Member i) = member_behind 0 members i
 part_at (Array bounds element) (Element xs) = element_at bounds element xs
 part_at d s = None
-
--- the same part of what stands this many bytes further
-abbrev pub moved : ℕ → PlacedPart → PlacedPart
-moved n p = record { offset = n + p.offset; description = p.description }
 
 -- the part that a path of steps leads to
 abbrev pub place_of : Description → List PathStep → Option PlacedPart

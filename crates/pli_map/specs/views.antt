@@ -1,4 +1,5 @@
 pub mod DescriptionView
+pub mod MembersView
 pub mod DimensionView
 pub mod ParameterView
 pub mod PartView

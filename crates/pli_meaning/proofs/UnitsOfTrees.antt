@@ -2,7 +2,7 @@
 -- where it is MAIN, and its unit is the code of that tree.
 use Rattle.std.specs.Prelude.{◌≡◌, Bool, true, false, Some, Result, Ok, Err, List, [], ◌∷◌, ◌++◌, map, refl, if◌then◌else◌}
 use Rattle.std.specs.List.{flat_map}
-use Rattle.std.proofs.Common.{◌∙◌, ap}
+use Rattle.std.proofs.Common.{◌∙◌, ap, sym, subst}
 use Rattle.pli_base.specs.Name.{Name}
 use Rattle.pli_base.specs.declared.token.Fault.{Fault}
 use Rattle.pli_base.specs.declared.token.Origin.{Origin}
@@ -14,6 +14,8 @@ use Rattle.pli_members.specs.declared.kind.MemberKind.TheVariants.{Source, Inclu
 use Rattle.pli_link.specs.Units.{Compiled, as_unit}
 use Rattle.pli_link.proofs.Faultless.{front_empty, back_empty}
 use Rattle.pli_gen_emit.specs.Encoding.{code_of}
+use Rattle.pli_gen_emit.specs.Coding as by_items
+use Rattle.pli_gen_emit.proofs.ItemsMake.{code_same}
 use Rattle.pli_gen.specs.Limits.{is_too_long}
 use Rattle.pli_gen.specs.WellNumbered.{IsWellNumbered}
 use Rattle.pli_gen_stands.specs.Laws.{AreWellNumbered}
@@ -24,8 +26,10 @@ use Rattle.pli_type.specs.laws.Laws.{IsFault, IsToldOfTypes}
 use Rattle.pli_type.proofs.FaultCodes.{faults_are_of_types}
 use Rattle.pli_type_laws.specs.TypedUnits.{MainTakesNothing}
 use Rattle.pli_type_laws.proofs.CheckedUnits.{checked_is_typed}
+use Rattle.pli_type_unit.proofs.LimitsAlike.{units_are_checked}
 use Rattle.pli_type_tree.specs.TypedTree.{TypedUnit}
-use Rattle.pli_code.specs.CodeTables.{Deck}
+use Rattle.pli_code.specs.Decks.{Code, Deck}
+use Rattle.pli_code.specs.Versions.{written}
 use Rattle.pli_parse_statement.specs.StatementReading.{unit_of}
 use Rattle.pli_base.specs.Statements.{ExternalProcedure}
 use Rattle.pli_base.specs.Words.{Tokens}
@@ -61,15 +65,17 @@ checked_told : (r : ResolvedUnit) → IsToldOfTypes (checked_unit r)
 unfolding checked_unit
 checked_told r = faults_are_of_types (named_unit 63 r)
 
-typed_read : (texts : Tokens) (unit : ExternalProcedure) → unit_of texts ≡ Ok unit → (faults : List Fault) → IsRead (typed_unless faults unit)
-typed_read texts unit read [] = told_read (checked_unit (resolved_unit_of unit)) (checked_told (resolved_unit_of unit)) (checked_is_typed texts unit read)
-typed_read texts unit read (fault ∷ faults) = tt
+typed_read : (texts : Tokens) (unit : ExternalProcedure) → unit_of texts ≡ Ok unit → (faults : List Fault) → resolution_faults unit ≡ faults → IsRead (typed_unless faults unit)
+typed_read texts unit read [] none =
+    subst IsRead (sym (units_are_checked unit none))
+    (told_read (checked_unit (resolved_unit_of unit)) (checked_told (resolved_unit_of unit)) (checked_is_typed texts unit read))
+typed_read texts unit read (fault ∷ faults) some = tt
 
 program_read : (texts : Tokens) → IsRead (program_of texts)
 program_read texts = by (unit_of texts) refl
   where
     by : (r : Result ExternalProcedure Fault) → unit_of texts ≡ r → IsRead (program_from r)
-    by (Ok unit) read = typed_read texts unit read (resolution_faults unit)
+    by (Ok unit) read = typed_read texts unit read (resolution_faults unit) refl
     by (Err fault) read = tt
 
 -- so what is compiled is a deck, or has a fault at least
@@ -86,16 +92,28 @@ long_told u true = tt
 long_told u false = deck_told (compiled_tree u) (is_long (compiled_tree u))
 
 coded_told : (r : Result TypedUnit (List Fault)) → IsRead r → IsToldOfCompiling (coded_from r)
-coded_told (Ok u) h = long_told u (is_too_long (code_of u))
+coded_told (Ok u) h = long_told u (is_too_long (by_items.code_of u))
 coded_told (Err []) h = h
 coded_told (Err (fault ∷ faults)) h = tt
 
 pub compiled_told : (texts : Tokens) → IsToldOfCompiling (compiled_texts texts)
 compiled_told texts = coded_told (program_of texts) (program_read texts)
 
+-- the deck of a tree, by the code that is emitted
+abbrev pub emitted_tree : TypedUnit → Deck
+emitted_tree u = record { version = written; name = u.procedure; is_main = u.is_main; code = code_of u }
+
+-- which is the deck that it is compiled to
+tree_emitted : (u : TypedUnit) → compiled_tree u ≡ emitted_tree u
+tree_emitted u = ap (λ (c : Code). record { version = written; name = u.procedure; is_main = u.is_main; code = c }) (code_same u)
+
 -- the unit of a tree, with the name of a member
 abbrev unit_code : Name → TypedUnit → Compiled
-unit_code name u = as_unit name (compiled_tree u)
+unit_code name u = as_unit name (emitted_tree u)
+
+-- a unit that has a deck
+abbrev with_deck : Name → Deck → Result Compiled (List Diagnostic)
+with_deck name d = Ok (as_unit name d)
 
 -- a unit without diagnostics: its tree is typed and numbered well, and this is its deck, which is not too long, and
 -- neither is its code
@@ -104,16 +122,23 @@ record IsClean (name : Name) (r : Result TypedUnit (List Diagnostic)) (c : Resul
   spelled : r ≡ Ok tree
   good : IsGood tree
   fits : is_too_long (code_of tree) ≡ false
-  short : is_long (compiled_tree tree) ≡ false
+  short : is_long (emitted_tree tree) ≡ false
   code : c ≡ Ok (unit_code name tree)
 
-short_clean : (name : Name) (origins : List Origin) (u : TypedUnit) (b : Bool) → is_too_long (code_of u) ≡ false → is_long (compiled_tree u) ≡ b → IsGood u
+short_clean : (name : Name) (origins : List Origin) (u : TypedUnit) (b : Bool) → is_too_long (by_items.code_of u) ≡ false → is_long (compiled_tree u) ≡ b → IsGood u
     → diagnostics_in name (all_located name origins (with_unit name (if b then Err (too_long ∷ []) else Ok (compiled_tree u)))) ≡ []
     → IsClean name (Ok u) (all_located name origins (with_unit name (if b then Err (too_long ∷ []) else Ok (compiled_tree u))))
 short_clean name origins u true fits long good e = absurd (text_filled name (located name origins too_long) [] e)
-short_clean name origins u false fits short good e = record { tree = u; spelled = refl; good = good; fits = fits; short = short; code = refl }
+short_clean name origins u false fits short good e = record {
+  tree = u;
+  spelled = refl;
+  good = good;
+  fits = ap is_too_long (sym (code_same u)) ∙ fits;
+  short = ap is_long (sym (tree_emitted u)) ∙ short;
+  code = ap (with_deck name) (tree_emitted u);
+}
 
-chosen_clean : (name : Name) (origins : List Origin) (u : TypedUnit) (b : Bool) → is_too_long (code_of u) ≡ b → IsGood u
+chosen_clean : (name : Name) (origins : List Origin) (u : TypedUnit) (b : Bool) → is_too_long (by_items.code_of u) ≡ b → IsGood u
     → diagnostics_in name (all_located name origins (with_unit name (if b then Err (too_long ∷ []) else short_deck (compiled_tree u)))) ≡ []
     → IsClean name (Ok u) (all_located name origins (with_unit name (if b then Err (too_long ∷ []) else short_deck (compiled_tree u))))
 chosen_clean name origins u true is good e = absurd (text_filled name (located name origins too_long) [] e)
@@ -121,7 +146,7 @@ chosen_clean name origins u false is good e = short_clean name origins u (is_lon
 
 read_clean : (name : Name) (origins : List Origin) (r : Result TypedUnit (List Fault)) → IsRead r
     → diagnostics_in name (all_located name origins (with_unit name (coded_from r))) ≡ [] → IsClean name (all_located name origins r) (all_located name origins (with_unit name (coded_from r)))
-read_clean name origins (Ok u) h e = chosen_clean name origins u (is_too_long (code_of u)) refl h e
+read_clean name origins (Ok u) h e = chosen_clean name origins u (is_too_long (by_items.code_of u)) refl h e
 read_clean name origins (Err []) h e = absurd h
 read_clean name origins (Err (fault ∷ faults)) h e = absurd (text_filled name (located name origins fault) (map (located name origins) faults) e)
 
@@ -149,7 +174,7 @@ pub record IsOfMember (entries : List (Name × Member)) (u : TypedUnit) : Type 0
   pub numbered : IsWellNumbered u
   pub main : MainTakesNothing u
   pub fits : is_too_long (code_of u) ≡ false
-  pub short : is_long (compiled_tree u) ≡ false
+  pub short : is_long (emitted_tree u) ≡ false
 
 abbrev pub AreOfMembers : List (Name × Member) → List TypedUnit → Type 0
 AreOfMembers entries [] = Unit {0}

@@ -23,14 +23,14 @@ use Rattle.pli_link.specs.declared.linking.LinkFault.{LinkFault}
 use Rattle.pli_link.specs.declared.linking.LinkFault.TheVariants as faults
 use Rattle.pli_link.specs.declared.units.LinkedName.{LinkedName}
 use Rattle.pli_resolve.specs.ResolvedUnits.{resolved_unit_of}
-use Rattle.pli_type.specs.NamedUnits.{checked_unit}
+use Rattle.pli_type_unit.specs.UnitNames.{typed_unit}
 use Rattle.pli_type_tree.specs.TypedTree.{TypedUnit}
-use Rattle.pli_machine_step.specs.Runs.{Outcome}
-use Rattle.pli_code.specs.CodeTables.{Deck}
-use Rattle.pli_code.specs.Modules.{Module}
+use Rattle.pli_machine_step.specs.Outcomes.{Outcome}
+use Rattle.pli_code.specs.Decks.{Deck}
+use Rattle.pli_code.specs.ModuleParts.{Module}
 use Rattle.pli_code.specs.Versions.{written}
-use Rattle.pli_deck_write.specs.Spelling.{deck_bytes}
-use Rattle.pli_gen_emit.specs.Encoding.{code_of}
+use Rattle.pli_deck_write.specs.WrittenDecks.{deck}
+use Rattle.pli_gen_emit.specs.Coding.{code_of}
 use Rattle.pli_gen.specs.Limits.{is_too_long}
 use Rattle.pli_meaning_tree.specs.TreeMeaning.{whole_run}
 use Rattle.pli_meaning.specs.Programs.{of_member, program_of_units, main_numbers}
@@ -56,7 +56,7 @@ one code origin = record { origin = origin; code = code } ∷ []
 
 -- all faults of a unit's declarations and uses, if there are any; else the typed unit, or its faults of types
 abbrev pub typed_unless : List Fault → ExternalProcedure → Result TypedUnit (List Fault)
-typed_unless [] unit = checked_unit (resolved_unit_of unit)
+typed_unless [] unit = typed_unit (resolved_unit_of unit)
 typed_unless (fault ∷ faults) unit = Err (fault ∷ faults)
 
 -- a unit that was read: its declarations are judged, then its types
@@ -95,7 +95,7 @@ compiled_tree u = record { version = written; name = u.procedure; is_main = u.is
 
 -- a deck has more bytes than the four bytes of its length in a module can count (own)
 abbrev pub is_long : Deck → Bool
-is_long d = nat_lt 4294967295 (length (deck_bytes d))
+is_long d = nat_lt 4294967295 (length (deck d).bytes)
 
 -- a deck, if it is not too long
 abbrev pub short_deck : Deck → Result Deck (List Fault)

@@ -7,8 +7,8 @@ use Rattle.pli_base.specs.Name.{Name}
 use Rattle.pli_base.specs.declared.statement.Condition.{Condition}
 use Rattle.pli_run.specs.declared.ending.Ending.{Ending}
 use Rattle.pli_run.specs.declared.ending.Ending.TheVariants as message
-use Rattle.pli_program.specs.Program.{is_external}
-use Rattle.pli_machine_step.specs.Runs.{Outcome, outcome_of}
+use Rattle.pli_program.specs.Kinds.{is_external}
+use Rattle.pli_machine_step.specs.Outcomes.{Outcome, outcome_of}
 use Rattle.pli_operation.specs.declared.operation.Operation.TheVariants.{Add, Within}
 use Rattle.pli_operation.specs.Operations.{calculated}
 use Rattle.pli_world.specs.Activations.{Head, nearest_of}
@@ -24,7 +24,7 @@ use Rattle.pli_world.specs.Locating.{pointer_within}
 use Rattle.pli_world.specs.Stacks.{generation_stacked, generation_unstacked, generations_counted}
 use Rattle.pli_world.specs.Strings.{string_dummy_of, subscripted_by, bound_of_place, string_as}
 use Rattle.pli_base.specs.Words.{same_name}
-use Rattle.pli_type_tree.specs.Globals.{global_variable}
+use Rattle.pli_type_tree.specs.ProgramVariables.{global_variable}
 use Rattle.pli_type_tree.specs.Iterations.{kept_by, limit_number, step_number, is_iterated}
 use Rattle.pli_type_tree.specs.Templates.{variable_of}
 use Rattle.pli_type_tree.specs.TypedOperations.{comes_to}

@@ -16,7 +16,8 @@ use Rattle.pli_base.specs.declared.token.TokenText.{TokenText}
 use Rattle.pli_base.specs.declared.token.TokenText.TheVariants as tokens
 use Rattle.pli_parse_expression.specs.Operators.{operand_level, level, level_of, prefix_sign, infix_sign, joining_sign, constant_token, infix_of}
 use Rattle.pli_parse_expression.specs.Expressions.{SpellsExpression, SpellsJoined, SpellsArguments, SpellsListed, SpellsFurther}
-use Rattle.pli_parse_expression.specs.Assignments.{IsAssignment, may_end, accepts, is_assignment}
+use Rattle.pli_parse_expression.specs.AssignmentGrammar.{IsAssignment}
+use Rattle.pli_parse_expression.specs.Assignments.{may_end, accepts, is_assignment}
 use Rattle.pli_parse_expression.specs.declared.assignment.State.TheVariants.{NameWanted, OperandWanted, ListBegun, BehindName, BehindList, BehindOperand}
 use Rattle.pli_parse_expression.specs.declared.assignment.Frame.{Frame}
 use Rattle.pli_parse_expression.specs.declared.assignment.Frame.TheVariants.{Target, Whole, Group, Arguments}

@@ -16,7 +16,8 @@ use Rattle.pli_base.specs.declared.token.TokenText.{TokenText}
 use Rattle.pli_base.specs.declared.token.TokenText.TheVariants as tokens
 use Rattle.pli_parse_expression.specs.Operators.{prefix_sign, infix_sign, joining_sign, constant_token}
 use Rattle.pli_parse_expression.specs.Expressions.{SpellsExpression, SpellsReference, SpellsJoined, SpellsArguments, SpellsListed, SpellsFurther}
-use Rattle.pli_parse_expression.specs.Assignments.{IsAssignment, kind_of, move, may_end, moved, accepts, is_assignment}
+use Rattle.pli_parse_expression.specs.AssignmentGrammar.{IsAssignment}
+use Rattle.pli_parse_expression.specs.Assignments.{kind_of, move, may_end, moved, accepts, is_assignment}
 use Rattle.pli_parse_expression.specs.declared.assignment.TokenKind.{TokenKind}
 use Rattle.pli_parse_expression.specs.declared.assignment.TokenKind.TheVariants.{Name, Value, Opens, Closes, Separates, Joins, Equal, Sign, Operates}
 use Rattle.pli_parse_expression.specs.declared.assignment.State.{State}

@@ -1,11 +1,8 @@
--- The kind of a statement (own): it is an assignment exactly where its tokens are a reference, `=` and one
--- expression. The test knows no limits.
-use Rattle.std.specs.Prelude.{◌≡◌, ℕ, ◌+◌, Bool, true, false, List, [], ◌∷◌, ◌++◌, length}
-use Rattle.pli_base.specs.Syntax.{Expression, Reference}
+-- The test for an assignment (own): a reference, `=` and one expression. It knows no limits.
+use Rattle.std.specs.Prelude.{Bool, true, false, List, [], ◌∷◌}
 use Rattle.pli_base.specs.declared.token.Sign.TheVariants as signs
 use Rattle.pli_base.specs.declared.token.TokenText.{TokenText}
 use Rattle.pli_base.specs.declared.token.TokenText.TheVariants as tokens
-use Rattle.pli_parse_expression.specs.Expressions.{SpellsReference, SpellsExpression}
 use Rattle.pli_base.specs.Words.{Tokens}
 use Rattle.pli_parse_expression.specs.declared.assignment.TokenKind.{TokenKind}
 use Rattle.pli_parse_expression.specs.declared.assignment.TokenKind.TheVariants.{Name, Value, Opens, Closes}
@@ -21,13 +18,6 @@ use Rattle.pli_parse_expression.specs.declared.assignment.Frame.TheVariants.{Tar
 use Rattle.pli_parse_expression.specs.declared.assignment.Move.{Move}
 use Rattle.pli_parse_expression.specs.declared.assignment.Move.TheVariants.{Stops, Goes, Enters}
 use Rattle.pli_parse_expression.specs.declared.assignment.Move.TheVariants.{Leaves, Turns}
-
--- the tokens are a reference, `=` and one expression; no word is reserved
-abbrev pub IsAssignment : ℕ → Tokens → Type 0
-IsAssignment p ts =
-    (ls : Tokens) × (rs : Tokens) × (target : Reference) × (value : Expression)
-    × (ts ≡ ls ++ tokens.Sign signs.Equals ∷ rs)
-    × SpellsReference p ls target × SpellsExpression (p + length ls + 1) rs value
 
 -- what a token can be in an expression: a constant is a value; `+` and `-` are signs, prefix or infix; `^`
 -- negates; the other infix operators operate

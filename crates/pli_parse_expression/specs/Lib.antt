@@ -2,6 +2,7 @@ pub mod Operators
 pub mod Expressions
 pub mod Reading
 pub mod Ends
+pub mod AssignmentGrammar
 pub mod Assignments
 pub mod answers
 pub mod examples

@@ -11,7 +11,7 @@ use Rattle.pli_base.specs.declared.token.Sign.TheVariants.{Colon, Semicolon, Ope
 use Rattle.pli_base.specs.declared.token.Sign.TheVariants.{CloseParenthesis, Equals}
 use Rattle.pli_base.specs.declared.token.TokenText.TheVariants.{Word, Sign}
 use Rattle.pli_parse_expression.specs.Operators.{nesting_limit}
-use Rattle.pli_parse_expression.specs.Assignments.{IsAssignment}
+use Rattle.pli_parse_expression.specs.AssignmentGrammar.{IsAssignment}
 use Rattle.pli_parse_expression.specs.Expressions.{SpellsArguments, SpellsOutermost, SpellsReferenceAlone}
 use Rattle.pli_parse_expression.specs.Expressions.{GivenFits, Every, OutermostFits, Deeper}
 use Rattle.pli_parse_declaration.specs.DeclarationGrammar.{SpellsListed, SpellsReturned, SpellsDeclaration}

@@ -1,2 +1,3 @@
+pub mod Kinds
 pub mod Program
 pub mod Templates

@@ -4,6 +4,7 @@ pub mod StatementPlaces
 pub mod Symbols
 pub mod ResolvedUnits
 pub mod TreeBlocks
+pub mod BlockCounts
 pub mod laws
 pub mod views
 pub mod BuiltInGroups

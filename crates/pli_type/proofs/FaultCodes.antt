@@ -20,12 +20,12 @@ use Rattle.pli_type.specs.AllocationTyping.{in_turn, only_variable, place_given,
 use Rattle.pli_type.specs.Checked.{checked, typed_as}
 use Rattle.pli_type.specs.ExpressionTypes.{TypedValue}
 use Rattle.pli_type.specs.FunctionCalls.{Denoted, DenotesVariable, DenotesResult, DenotesEmpty, Meant, OneValue}
-use Rattle.pli_type.specs.FunctionCalls.{WholeAggregate, Argument, function_called, or_bad_argument}
+use Rattle.pli_type.specs.FunctionCalls.{WholeAggregate, Argument, function_called}
 use Rattle.pli_type.specs.Names.{NamedAs, AVariable, AFunction, AProcedure, ALabel, Untyped, NamedVariable}
 use Rattle.pli_type.specs.Names.{NamedProcedure, NamedUnit, Naming}
-use Rattle.pli_type.specs.ProcedureCalls.{arguments_passed, or_wrong_argument, result_of}
+use Rattle.pli_type.specs.ProcedureCalls.{arguments_passed, result_of}
 use Rattle.pli_type.specs.References.{Role, AsValue, AsArgument, AsTarget, AsLocator, Referent, StridedPart}
-use Rattle.pli_type.specs.References.{settled, open_settled, whole_meant, begins_somewhere, LocatorBefore, NotLocated}
+use Rattle.pli_type.specs.References.{settled, open_settled, whole_meant, LocatorBefore, NotLocated}
 use Rattle.pli_type.specs.StatementTyping as statements
 use Rattle.pli_type.specs.StatementTyping.{WithProcedures}
 use Rattle.pli_type.specs.Temporaries.{Next}
@@ -34,9 +34,11 @@ use Rattle.pli_type.specs.Typing.{Segment, OfVariable, OfFunction, OfEmpty, OfNo
 use Rattle.pli_type.specs.Typing.{denoted}
 use Rattle.pli_type.specs.Typing.{referred, joined, begun, is_call, all_subscripts, subscripts_in, all_arguments}
 use Rattle.pli_type.specs.Typing.{as_value, one_value, ended, with_more, as_locator}
+use Rattle.pli_type.specs.TypingSteps.{or_bad_argument, or_wrong_argument, begins_somewhere}
 use Rattle.pli_type.specs.declared.beginning.Beginning.{Beginning}
 use Rattle.pli_type.specs.declared.expression_type.ExpressionType.{ExpressionType}
 use Rattle.pli_type.specs.laws.Laws.{is_of_types, AreOfTypes, IsFault, IsToldOfTypes, FaultsAreOfTypes}
+use Rattle.pli_type.specs.TypingSteps as steps
 use Rattle.pli_type_tree.specs.TypedTree.{Callee, TypedExpression, TypedArguments, TypedRange, TypedStatements}
 use Rattle.pli_type_tree.specs.TypedTree.{Form, TypedProcedure}
 
@@ -250,7 +252,7 @@ only_assigned n at equals (DenotesVariable target) e =
 only_assigned n at equals (DenotesResult value) e = told _ _ refl
 only_assigned n at equals DenotesEmpty e = told _ _ refl
 
-only_items : (n : Naming) (es : List Expression) → Only (statements.items n es)
+only_items : (n : Naming) (es : List Expression) → Only (steps.items n es)
 only_items n [] = fine _
 only_items n (e ∷ es) =
     only_then _ _
@@ -327,16 +329,16 @@ only_all_allocated n temporary (a ∷ others) =
     only_then _ _ (only_allocated n temporary a)
     (λ x. only_then _ _ (only_all_allocated n (temporary + kept_for x) others) (λ xs. fine _))
 
-only_allocate : (n : Naming) (temporary : ℕ) (list : List Allocation) → Only (statements.allocate_typed n temporary list)
+only_allocate : (n : Naming) (temporary : ℕ) (list : List Allocation) → Only (steps.allocate_typed n temporary list)
 only_allocate n temporary list = only_then _ _ (only_all_allocated n temporary list) (λ xs. fine _)
 
-only_free : (n : Naming) (list : List Reference) → Only (statements.free_typed n list)
+only_free : (n : Naming) (list : List Reference) → Only (steps.free_typed n list)
 only_free n list = only_then _ _ (only_in_turn (freed n) (only_freed n) list) (λ xs. fine _)
 
 only_limit : (n : Naming) (e : Expression) → Only (statements.limit n e)
 only_limit n e = only_then _ _ (only_value_of n e) (λ v. only_or WrongOperandType (first_token e) _ refl)
 
-only_possible : (n : Naming) (o : Option Expression) → Only (statements.possible_limit n o)
+only_possible : (n : Naming) (o : Option Expression) → Only (steps.possible_limit n o)
 only_possible n None = fine _
 only_possible n (Some e) = only_then _ _ (only_limit n e) (λ x. fine _)
 
@@ -357,7 +359,7 @@ only_controls at is_located range (DenotesVariable r) = only_if _ _ _ (only_suit
 only_controls at is_located range (DenotesResult value) = told _ _ refl
 only_controls at is_located range DenotesEmpty = told _ _ refl
 
-only_possible_condition : (n : Naming) (o : Option Expression) → Only (statements.possible_condition n o)
+only_possible_condition : (n : Naming) (o : Option Expression) → Only (steps.possible_condition n o)
 only_possible_condition n None = fine _
 only_possible_condition n (Some e) = only_then _ _ (only_condition n e) (λ x. fine _)
 

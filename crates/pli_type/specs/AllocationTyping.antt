@@ -8,11 +8,12 @@ use Rattle.pli_base.specs.Syntax.{Reference}
 use Rattle.pli_base.specs.declared.code.Code.TheVariants.{NotAVariable, CannotAllocateOrFree}
 use Rattle.pli_base.specs.declared.token.Fault.{Fault}
 use Rattle.pli_type.specs.Beginnings.{area_meant, whole_at}
+use Rattle.pli_type.specs.Faults.{or_fault}
 use Rattle.pli_type.specs.FunctionCalls.{Denoted, DenotesVariable}
 use Rattle.pli_type.specs.Names.{LocatorVariable, OfPointer, OfOffset, NamedStorage, Begins, IsBased, NamedAs}
 use Rattle.pli_type.specs.Names.{AVariable, Naming}
 use Rattle.pli_type.specs.References.{AsLocator, AsTarget, Referent, locator_at}
-use Rattle.pli_type.specs.Typing.{or_fault, own_token, referred}
+use Rattle.pli_type.specs.Typing.{own_token, referred}
 pub use Rattle.pli_type_tree.specs.Allocations.{kept_for}
 use Rattle.pli_type_tree.specs.Templates.{Template}
 use Rattle.pli_type.specs.declared.beginning.Beginning.{Beginning}
@@ -27,6 +28,13 @@ in_turn each (x ∷ xs) = do
   y ← each x
   ys ← in_turn each xs
   Ok (y ∷ ys)
+
+-- what may be left out
+abbrev pub if_written : {A B : Type 0} → (A → Result B Fault) → Option A → Result (Option B) Fault
+if_written each None = Ok None
+if_written each (Some x) = do
+  y ← each x
+  Ok (Some y)
 
 -- a variable or a part of one; T1 at this token where it is none
 abbrev pub only_variable : (at : ℕ) → Denoted → Result Referent Fault

@@ -1,5 +1,5 @@
 -- The typed unit, or all its faults of types (X3.74): one for each statement, in the order of the text.
-use Rattle.std.specs.Prelude.{Bool, true, false, ◌&&◌, Option, None, List, [], ◌∷◌, length}
+use Rattle.std.specs.Prelude.{Bool, true, false, ◌&&◌, Option, None, List, [], ◌∷◌}
 use Rattle.std.specs.Prelude.{Result, Ok, Err}
 use Rattle.std.specs.List.{list_any}
 use Rattle.pli_base.specs.Statements.{ExternalProcedure, Main, ProcedureOption, Statements}
@@ -7,9 +7,9 @@ use Rattle.pli_base.specs.declared.token.Fault.{Fault}
 use Rattle.pli_map.specs.Description.{Description}
 use Rattle.pli_map.specs.ParameterTypes.{ParameterType}
 use Rattle.pli_type.specs.Names.{NamedUnit}
-use Rattle.pli_type.specs.StatementTyping.{Surroundings, WithProcedures, enclosing, function_end}
+use Rattle.pli_type.specs.StatementTyping.{Surroundings, WithProcedures, enclosing, procedure_of}
 use Rattle.pli_type.specs.StatementTyping.{statements_typed}
-use Rattle.pli_type.specs.Temporaries.{Next, temporaries_among}
+use Rattle.pli_type.specs.Temporaries.{Next}
 use Rattle.pli_type_tree.specs.TypedTree.{Signature, TypedUnit, TypedProcedure, TypedStatements}
 
 -- the external procedure is block 0; it gives this, if it is a function
@@ -22,19 +22,7 @@ first_inside = record { block = 1; temporary = 0 }
 
 -- the external procedure as a typed one, with its statements
 abbrev pub external_of : NamedUnit → TypedStatements → TypedProcedure
-external_of u list = record {
-  is_on_unit = false;
-  head = record {
-    number = 0;
-    statement = u.tree.heading.number;
-    variables = u.automatic 0;
-    temporaries = temporaries_among u.is_based u.tree.statements;
-  };
-  parent = None;
-  parameters = length (u.parameters 0);
-  function_end = function_end (u.returned 0) u.tree.end;
-  statements = list;
-}
+external_of u list = procedure_of u None 0 u.tree.heading.number u.tree.end u.tree.statements list
 
 -- what the external procedure takes and gives
 abbrev pub outer_signature : NamedUnit → Signature

@@ -30,7 +30,7 @@ use Rattle.pli_type.specs.declared.expression_type.ExpressionType.TheVariants as
 use Rattle.pli_type_tree.specs.TypedTree.{TypedExpression, Literal, Calculated, Operands, NoOperand}
 use Rattle.pli_type_tree.specs.TypedTree.{OperandThen, TypedOperation, Fit, Operate, AsPointer, AsOffset}
 use Rattle.pli_type_tree.specs.TypedTree.{Conversion, ByOperations, AsPointerIn, AsOffsetIn, ToPlace}
-use Rattle.pli_type_tree.specs.ValueTypes.{longest}
+use Rattle.pli_type_tree.specs.Extents.{longest}
 use Rattle.pli_value.specs.Value.{Value, Number, Characters, Bits, Located}
 use Rattle.pli_value.specs.declared.locator.Locator.TheVariants as locators
 
@@ -157,25 +157,18 @@ with_two operation left right = Calculated (Operate operation) (all_operands (le
 
 -- a prefix operator
 
--- a number is itself behind `+`
-abbrev pub with_plus : TypedValue → Option ℕ → Option TypedValue
-with_plus v (Some p) = Some v
-with_plus v None = None
-
--- behind `-` it has its own type, so a constant is a constant still
-abbrev pub with_minus : TypedValue → Option ℕ → Option TypedValue
-with_minus v (Some p) = Some (record { expression = with_one (Operate Negate) v.expression; kind = v.kind })
-with_minus v None = None
-
 -- `^` takes bits
 abbrev pub with_not : TypedExpression → ExpressionType → Option TypedValue
 with_not e types.Bits = Some (record { expression = with_one (Operate Not) e; kind = types.Bits })
 with_not e other = None
 
--- `+` and `-` take a number, `^` bits
+-- `+` and `-` take a number, which is itself after `+`, and of its own type after `-`, so that a constant is a
+-- constant still; `^` takes bits
 abbrev pub prefix_value : (greatest : ℕ) → PrefixOperator → TypedValue → Option TypedValue
-prefix_value greatest prefixes.Plus v = with_plus v (precision_of greatest v.kind)
-prefix_value greatest prefixes.Minus v = with_minus v (precision_of greatest v.kind)
+prefix_value greatest prefixes.Plus v = option_map (λ p. v) (precision_of greatest v.kind)
+prefix_value greatest prefixes.Minus v =
+    option_map (λ p. record { expression = with_one (Operate Negate) v.expression; kind = v.kind })
+    (precision_of greatest v.kind)
 prefix_value greatest prefixes.Not v = with_not v.expression v.kind
 
 -- an infix operator

@@ -2,7 +2,7 @@
 -- own). A built-in function converts nothing.
 use Rattle.std.specs.Prelude.{ℕ, ◌-◌, max, map, nat_eq, nat_le, Bool, false, ◌&&◌, Option, Some, None}
 use Rattle.std.specs.Prelude.{option_map}
-use Rattle.std.specs.Prelude.{option_and_then, List, [], ◌∷◌, length, Result, Ok, slice_get, ℤ, if◌then◌else◌}
+use Rattle.std.specs.Prelude.{option_and_then, List, [], ◌∷◌, length, Result, slice_get, ℤ, if◌then◌else◌}
 use Rattle.pli_base.specs.Reading.{at_fault}
 use Rattle.pli_base.specs.Syntax.{Expression, Constant}
 use Rattle.pli_base.specs.declared.code.Code.TheVariants.{WrongNumberOfArguments, WrongBuiltInArgument}
@@ -25,6 +25,7 @@ use Rattle.pli_type.specs.ExpressionTypes.{precisions}
 use Rattle.pli_type.specs.ExpressionTypes.{TypedValue, held_type}
 use Rattle.pli_type.specs.ExpressionTypes.{precision_of, count_precision, all_operands, null_value}
 use Rattle.pli_type.specs.ExpressionTypes.{empty_value}
+use Rattle.pli_type.specs.Faults.{or_fault}
 use Rattle.pli_type.specs.References.{Role, AsValue, AsArgument, Referent}
 use Rattle.pli_type_tree.specs.TypedTree.{NewestOf, Operate, TypedExpression, Literal, Held, Calculated}
 use Rattle.pli_type_tree.specs.TypedTree.{Generations, Address, AsPointer, AsOffset, Bounded, TypedReference}
@@ -120,10 +121,6 @@ roles_of functions.Offset given = exactly given two
 abbrev pub a_count : ExpressionType
 a_count = types.FixedBinary count_precision
 
--- FIXED BINARY of so many digits
-abbrev pub number_type : (precision : ℕ) → ExpressionType
-number_type precision = types.FixedBinary precision
-
 -- a string of characters or of bits
 abbrev pub string_kind : ExpressionType → Option ExpressionType
 string_kind types.Characters = Some types.Characters
@@ -136,34 +133,31 @@ of_one_kind types.Characters types.Characters = Some types.Characters
 of_one_kind types.Bits types.Bits = Some types.Bits
 of_one_kind left right = None
 
--- the first, where there is a second too
-abbrev pub with_number : Option ExpressionType → Option ℕ → Option ExpressionType
-with_number kind None = None
-with_number kind (Some p) = kind
-
 -- ABS gives the precision of its operand, MAX and MIN the greater one, MOD that of its second operand; SUBSTR
 -- gives a string of its first argument's kind
 abbrev pub call_type : (greatest : ℕ) → BuiltInFunction → List ExpressionType → Option ExpressionType
-call_type greatest functions.Abs (x ∷ []) = option_map number_type (precision_of greatest x)
-call_type greatest functions.Sign (x ∷ []) = with_number (Some a_count) (precision_of greatest x)
+call_type greatest functions.Abs (x ∷ []) = option_map types.FixedBinary (precision_of greatest x)
+call_type greatest functions.Sign (x ∷ []) = option_map (λ p. a_count) (precision_of greatest x)
 call_type greatest functions.Length (s ∷ []) = option_map (λ kind. a_count) (string_kind s)
 call_type greatest functions.Max (x ∷ y ∷ []) =
-    option_map (λ ps. number_type (max ps.0 ps.1)) (precisions greatest x y)
+    option_map (λ ps. types.FixedBinary (max ps.0 ps.1)) (precisions greatest x y)
 call_type greatest functions.Min (x ∷ y ∷ []) =
-    option_map (λ ps. number_type (max ps.0 ps.1)) (precisions greatest x y)
+    option_map (λ ps. types.FixedBinary (max ps.0 ps.1)) (precisions greatest x y)
 call_type greatest functions.Mod (x ∷ y ∷ []) =
-    option_map (λ ps. number_type ps.1) (precisions greatest x y)
+    option_map (λ ps. types.FixedBinary ps.1) (precisions greatest x y)
 call_type greatest functions.Index (s ∷ t ∷ []) = option_map (λ kind. a_count) (of_one_kind s t)
-call_type greatest functions.Substring (s ∷ i ∷ []) = with_number (string_kind s) (precision_of greatest i)
+call_type greatest functions.Substring (s ∷ i ∷ []) =
+    option_and_then (λ p. string_kind s) (precision_of greatest i)
 call_type greatest functions.Substring (s ∷ i ∷ n ∷ []) =
-    with_number (with_number (string_kind s) (precision_of greatest i)) (precision_of greatest n)
+    option_and_then (λ q. option_and_then (λ p. string_kind s) (precision_of greatest i))
+    (precision_of greatest n)
 call_type greatest function kinds = None
 
 -- DIVIDE gives the precision that is written, one that a number may have
 abbrev pub quotient_type : (greatest : ℕ) → (x y : ExpressionType) → (precision : ℕ) → Option ExpressionType
 quotient_type greatest x y precision =
     if nat_le 1 precision && nat_le precision greatest
-    then option_map (λ ps. number_type precision) (precisions greatest x y)
+    then option_map (λ ps. types.FixedBinary precision) (precisions greatest x y)
     else None
 
 -- what is calculated
@@ -309,14 +303,9 @@ of_arguments greatest functions.Offset (p ∷ a ∷ []) =
     located_within pointer_within (meant_as p.denoted) (area_of a.denoted)
 of_arguments greatest function arguments = option_and_then (of_values greatest function) (values_in arguments)
 
--- T13 at the function's name where it does not take the arguments
-abbrev pub or_bad_argument : (at : ℕ) → Option TypedValue → Result TypedValue Fault
-or_bad_argument at None = at_fault WrongBuiltInArgument at
-or_bad_argument at (Some v) = Ok v
-
--- T6 there where their number is wrong
+-- T6 at the function's name where the number of arguments is wrong, T13 there where it does not take them
 abbrev pub function_called : (greatest : ℕ) → BuiltInFunction → (at : ℕ) → (roles : Option (List Role))
     → List Argument → Result TypedValue Fault
 function_called greatest function at None arguments = at_fault WrongNumberOfArguments at
 function_called greatest function at (Some roles) arguments =
-    or_bad_argument at (of_arguments greatest function arguments)
+    or_fault WrongBuiltInArgument at (of_arguments greatest function arguments)

@@ -9,7 +9,7 @@ use Rattle.pli_base.specs.Declarations.{integer_of}
 use Rattle.pli_base.specs.declared.declaration.InitialValue.{InitialValue}
 use Rattle.pli_base.specs.declared.declaration.InitialValue.TheVariants as initial
 use Rattle.pli_map.specs.Description.{Description, Area, Array, Structure, Members, NoMembers, MemberThen}
-use Rattle.pli_map.specs.Parts.{PlacedPart}
+use Rattle.pli_map.specs.PlacedParts.{PlacedPart}
 use Rattle.pli_map.specs.Sizes.{alignment_of, count_of, size_of, stride_of}
 use Rattle.pli_map.specs.Values.{first_value}
 use Rattle.pli_operation.specs.Operations.{Calculation, Calculates, fitted_to}

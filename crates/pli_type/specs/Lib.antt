@@ -2,6 +2,7 @@ pub mod AllocationTyping
 pub mod Beginnings
 pub mod Checked
 pub mod ExpressionTypes
+pub mod Faults
 pub mod FunctionCalls
 pub mod InitialScalars
 pub mod NamedUnits
@@ -12,6 +13,7 @@ pub mod StatementTyping
 pub mod Typing
 pub mod Temporaries
 pub mod TextOrder
+pub mod TypingSteps
 pub mod examples
 pub mod laws
 pub mod views

@@ -1,23 +1,22 @@
 -- Calls of procedures: how arguments are handed over, and what a function gives (X3.74; the order of faults
 -- is own).
 use Rattle.std.specs.Prelude.{ℕ, nat_eq, Option, Some, None, option_map, List, [], ◌∷◌, length, Result, Ok}
-use Rattle.std.specs.Prelude.{if◌then◌else◌}
+use Rattle.std.specs.Prelude.{if◌then◌else◌, option_and_then}
 use Rattle.pli_base.specs.Reading.{at_fault}
 use Rattle.pli_base.specs.declared.code.Code.TheVariants.{WrongNumberOfArguments, WrongArgument}
 use Rattle.pli_base.specs.declared.code.Code.TheVariants.{NotCallableHere}
 use Rattle.pli_base.specs.declared.token.Fault.{Fault}
-use Rattle.pli_map.specs.Description.{Description}
 use Rattle.pli_map.specs.ParameterTypes.{ParameterType, Stated, AnyString, agrees}
 use Rattle.pli_type.specs.Beginnings.{area_meant, whole_at}
-use Rattle.pli_type.specs.ExpressionTypes.{TypedValue, converted, suited_to_form, type_of}
+use Rattle.pli_type.specs.ExpressionTypes.{TypedValue, converted, suited_to_form}
+use Rattle.pli_type.specs.Faults.{or_fault}
 use Rattle.pli_type.specs.FunctionCalls.{Denoted, DenotesVariable, Meant, OneValue}
 use Rattle.pli_type.specs.FunctionCalls.{meant_as, Argument}
 use Rattle.pli_type.specs.Names.{NamedProcedure}
-use Rattle.pli_type.specs.declared.beginning.Beginning.{Beginning}
 use Rattle.pli_type.specs.declared.expression_type.ExpressionType.{ExpressionType}
 use Rattle.pli_type_tree.specs.TypedTree.{Callee, TypedExpression, Called, TypedReference}
 use Rattle.pli_type_tree.specs.TypedTree.{TypedArguments, NoArgument, ByPlace, ByDummy, ByString}
-use Rattle.pli_type_tree.specs.WellTyped.{is_area_type}
+use Rattle.pli_type_tree.specs.Extents.{is_area_type}
 
 -- the place that a reference to what is of this type hands over: that of a whole area, where it is one
 abbrev pub place_of : TypedReference → ParameterType → Option TypedReference
@@ -50,40 +49,24 @@ passed type (Some place) value more = Some (ByPlace place more)
 passed type None (Some e) more = handed type e more
 passed type None None more = None
 
--- an argument, and those behind it
-abbrev pub passed_before : (greatest : ℕ) → ParameterType → Argument → Option TypedArguments
-    → Option TypedArguments
-passed_before greatest type a None = None
-passed_before greatest type a (Some more) =
-    passed type (passed_place type a.denoted) (passed_value greatest type (meant_as a.denoted)) more
-
 -- as many arguments as parameters, where each suits its parameter
 abbrev pub all_passed : (greatest : ℕ) → (parameters : List ParameterType) → List Argument
     → Option TypedArguments
 all_passed greatest [] [] = Some NoArgument
-all_passed greatest (t ∷ ts) (a ∷ more) = passed_before greatest t a (all_passed greatest ts more)
+all_passed greatest (t ∷ ts) (a ∷ more) =
+    option_and_then (passed t (passed_place t a.denoted) (passed_value greatest t (meant_as a.denoted)))
+    (all_passed greatest ts more)
 all_passed greatest parameters arguments = None
 
--- T7 at the called name where one does not suit
-abbrev pub or_wrong_argument : (at : ℕ) → Option TypedArguments → Result TypedArguments Fault
-or_wrong_argument at None = at_fault WrongArgument at
-or_wrong_argument at (Some arguments) = Ok arguments
-
--- T6 there where their number is wrong
+-- T6 at the called name where their number is wrong, T7 there where one does not suit
 abbrev pub arguments_passed : (greatest : ℕ) → NamedProcedure → (at : ℕ) → List Argument
     → Result TypedArguments Fault
 arguments_passed greatest p at arguments =
     if nat_eq (length arguments) (length p.parameters)
-    then or_wrong_argument at (all_passed greatest p.parameters arguments)
+    then or_fault WrongArgument at (all_passed greatest p.parameters arguments)
     else at_fault WrongNumberOfArguments at
 
 -- what a function gives; T8 at the called name of what is none
 abbrev pub result_of : (at : ℕ) → Callee → TypedArguments → Option ExpressionType → Result TypedValue Fault
 result_of at callee arguments None = at_fault NotCallableHere at
 result_of at callee arguments (Some kind) = Ok (record { expression = Called callee arguments; kind = kind })
-
--- the type of what a procedure gives, whose RETURNS names this area if it gives an OFFSET; one that gives
--- nothing, or an aggregate, has none
-abbrev pub type_returned : (area : Option Beginning) → Option Description → Option ExpressionType
-type_returned area None = None
-type_returned area (Some d) = type_of area d

@@ -1,7 +1,7 @@
 -- References: which part of which variable is meant, and where the first fault stands.
 use Rattle.std.specs.Prelude.{ℕ, zero, suc, ◌+◌, ◌*◌, nat_eq, Bool, true, false, ◌&&◌, Option, Some, None}
 use Rattle.std.specs.Prelude.{option_map}
-use Rattle.std.specs.Prelude.{option_and_then, List, [], ◌∷◌, ◌++◌, length, Result, Ok, if◌then◌else◌}
+use Rattle.std.specs.Prelude.{option_and_then, List, [], ◌∷◌, ◌++◌, length, Result, if◌then◌else◌}
 use Rattle.pli_base.specs.Reading.{at_fault}
 use Rattle.pli_base.specs.declared.code.Code.TheVariants.{AggregateNotAllowedHere, WrongNumberOfSubscripts}
 use Rattle.pli_base.specs.declared.code.Code.TheVariants.{LocatorMissingOrNotAllowed}
@@ -9,11 +9,12 @@ use Rattle.pli_base.specs.declared.token.Fault.{Fault}
 use Rattle.pli_map.specs.Description as described
 use Rattle.pli_map.specs.Description.{Description, Array, Structure}
 use Rattle.pli_map.specs.ParameterTypes.{ParameterType, Stated, stated, element_type, is_aggregate_type}
-use Rattle.pli_map.specs.Parts.{member_behind}
+use Rattle.pli_map.specs.PlacedParts.{member_behind}
 use Rattle.pli_map.specs.Sizes.{count_of, stride_of}
 use Rattle.pli_map.specs.declared.description.Bounds.{Bounds}
 use Rattle.pli_type.specs.Beginnings.{whole_at}
 use Rattle.pli_type.specs.ExpressionTypes.{all_operands}
+use Rattle.pli_type.specs.Faults.{or_fault}
 use Rattle.pli_type.specs.Names.{NamedStorage, Begins, IsBased, NamedVariable, LocatorVariable, OfPointer}
 use Rattle.pli_type.specs.Names.{OfOffset}
 use Rattle.pli_type.specs.declared.beginning.Beginning.{Beginning}
@@ -29,9 +30,8 @@ pub data Role : Type 0 where
 -- no aggregate may stand here
 abbrev pub wants_scalar : Role → Bool
 wants_scalar AsValue = true
-wants_scalar AsArgument = false
-wants_scalar AsTarget = false
 wants_scalar AsLocator = true
+wants_scalar role = false
 
 -- parts of variables
 
@@ -170,17 +170,12 @@ abbrev pub is_passed : NamedStorage → Bool
 is_passed (Begins root is_parameter) = is_parameter
 is_passed (IsBased block number implied) = false
 
--- T10 where a reference begins nowhere: without a locator that is a POINTER or an OFFSET which names an area,
--- where the variable is BASED, or with a locator, where it is not
-abbrev pub begins_somewhere : (at : ℕ) → Option Referent → Result Referent Fault
-begins_somewhere at None = at_fault LocatorMissingOrNotAllowed at
-begins_somewhere at (Some r) = Ok r
-
--- T2 where no aggregate may stand, then T10
+-- T2 where no aggregate may stand; then T10 where a reference begins nowhere: without a locator that is a
+-- POINTER or an OFFSET which names an area, where the variable is BASED, or with a locator, where it is not
 abbrev pub permitted : Role → (at : ℕ) → ParameterType → Option Referent → Result Referent Fault
 permitted role at type r =
     if wants_scalar role && is_aggregate_type type then at_fault AggregateNotAllowedHere at
-    else begins_somewhere at r
+    else or_fault LocatorMissingOrNotAllowed at r
 
 -- a reference to a part of a variable, with all its subscripts, from where it begins
 abbrev pub referent_from : NamedVariable → List TypedExpression → StridedPart → Root → Referent

@@ -9,7 +9,7 @@ use Rattle.pli_base.specs.Results.{◌>>=◌}
 use Rattle.pli_base.specs.Reading.{at_fault}
 use Rattle.pli_base.specs.Statements as tree
 use Rattle.pli_base.specs.Statements.{Range, Statement, Numbered, Body, Assign, Declare, Statements}
-use Rattle.pli_base.specs.Statements.{Before, Ended, Allocation, Alternative}
+use Rattle.pli_base.specs.Statements.{Before, Ended, Alternative}
 use Rattle.pli_base.specs.Syntax.{Expression, Reference, Named, JoinedParts, Alone, Joined}
 use Rattle.pli_base.specs.Syntax.{Arguments, Absent, Given}
 use Rattle.pli_base.specs.declared.syntax.Joining.TheVariants.{Member, Located}
@@ -23,26 +23,26 @@ use Rattle.pli_map.specs.ParameterTypes.{ParameterType, Stated, AnyString, is_ag
 use Rattle.pli_map.specs.Same.{same}
 use Rattle.pli_map.specs.Scalars.{is_area}
 use Rattle.pli_map.specs.declared.parameter.StringForm.{StringForm}
-use Rattle.pli_type.specs.AllocationTyping.{in_turn, all_allocated, freed}
+use Rattle.pli_type.specs.AllocationTyping.{in_turn, all_allocated, freed, if_written}
 use Rattle.pli_type.specs.Beginnings.{area_meant, whole_at}
-use Rattle.pli_type.specs.ExpressionTypes.{TypedValue, conversion_to, converted, precision_of, printed}
-use Rattle.pli_type.specs.ExpressionTypes.{suited_to_form, unconverted}
+use Rattle.pli_type.specs.ExpressionTypes.{TypedValue, conversion_to, converted, printed, as_number}
+use Rattle.pli_type.specs.ExpressionTypes.{suited_to_form, unconverted, only_bits}
+use Rattle.pli_type.specs.Faults.{or_fault}
 use Rattle.pli_type.specs.FunctionCalls.{Denoted, DenotesVariable, DenotesEmpty, area_of}
 use Rattle.pli_type.specs.FunctionCalls.{Meant, OneValue, WholeAggregate, Argument}
 use Rattle.pli_type.specs.Names.{NamedAs, AProcedure, ALabel, Naming, NamedUnit}
 use Rattle.pli_type.specs.ProcedureCalls.{arguments_passed}
 use Rattle.pli_type.specs.References.{AsArgument, AsLocator, AsTarget, AsValue, Referent}
 use Rattle.pli_type.specs.Temporaries.{Next, behind, temporaries_among, limits_kept}
-use Rattle.pli_type.specs.Typing.{first_token, own_token, or_fault, meant, denoted, referred, value_of}
+use Rattle.pli_type.specs.Typing.{first_token, own_token, meant, denoted, referred, value_of}
 use Rattle.pli_type.specs.Typing.{all_arguments}
 use Rattle.pli_type_tree.specs.TypedTree as typed
-use Rattle.pli_type_tree.specs.TypedTree.{Callee, TypedExpression, TypedReference, Whole, Part, ElementOf}
-use Rattle.pli_type_tree.specs.TypedTree.{NoSubscript, SubscriptThen, BlockHead, TypedRange, Iteration, Form}
+use Rattle.pli_type_tree.specs.TypedTree.{Callee, TypedExpression, TypedReference, Whole, Part}
+use Rattle.pli_type_tree.specs.TypedTree.{NoSubscript, BlockHead, TypedRange, Iteration, Form}
 use Rattle.pli_type_tree.specs.TypedTree.{TypedArguments, TypedStatement, TypedStatements, NoStatement}
 use Rattle.pli_type_tree.specs.TypedTree.{StatementThen, OtherWise, NoElse, Else, TypedProcedure}
-use Rattle.pli_type_tree.specs.WellTyped.{is_area_type}
+use Rattle.pli_type_tree.specs.Extents.{is_area_type}
 use Rattle.pli_type.specs.declared.beginning.Beginning.{Beginning}
-use Rattle.pli_type.specs.declared.expression_type.ExpressionType.{ExpressionType}
 use Rattle.pli_type.specs.declared.expression_type.ExpressionType.TheVariants as types
 
 -- assignments
@@ -118,33 +118,17 @@ assignment n at target equals e = do
 
 -- conditions and items
 
--- a string of bits
-abbrev pub truth_of : TypedValue → Option TypedExpression
-truth_of v = truth v.kind
-  where
-    truth : ExpressionType → Option TypedExpression
-    truth types.Bits = Some v.expression
-    truth other = None
-
 -- a condition is a string of bits, else T4 at its first token
 abbrev pub condition : Naming → Expression → Result TypedExpression Fault
 condition n e = do
   v ← value_of n e
-  or_fault WrongOperandType (first_token e) (truth_of v)
+  or_fault WrongOperandType (first_token e) (only_bits v.expression v.kind)
 
 -- an item of PUT, which is T14 at its first token where it can't be printed
 abbrev pub item : Naming → Expression → Result TypedExpression Fault
 item n e = do
   v ← value_of n e
   or_fault CannotPrint (first_token e) (printed v)
-
--- items of PUT, one after the other
-abbrev pub items : Naming → List Expression → Result (List TypedExpression) Fault
-items n [] = Ok []
-items n (e ∷ es) = do
-  x ← item n e
-  xs ← items n es
-  Ok (x ∷ xs)
 
 -- where statements stand
 
@@ -198,11 +182,7 @@ with_labels labels (b ∷ bs) =
 
 -- in a group: the labels of its list are known too
 abbrev pub in_group : Statements → Surroundings → Surroundings
-in_group statements s = record {
-  blocks = with_labels (labels_of statements) s.blocks;
-  begins = s.begins;
-  value = s.value;
-}
+in_group statements s = record s { blocks = with_labels (labels_of statements) s.blocks }
 
 -- a block of this number, whose list this is
 abbrev pub enclosing : (number : ℕ) → Statements → Enclosing
@@ -211,11 +191,8 @@ enclosing number statements =
 
 -- in a BEGIN block of this number
 abbrev pub in_begin : (number : ℕ) → Statements → Surroundings → Surroundings
-in_begin number statements s = record {
-  blocks = enclosing number statements ∷ s.blocks;
-  begins = suc s.begins;
-  value = s.value;
-}
+in_begin number statements s =
+    record s { blocks = enclosing number statements ∷ s.blocks; begins = suc s.begins }
 
 -- in a procedure whose block has this number
 abbrev pub in_procedure : (number : ℕ) → (value : Option Description) → Statements → Surroundings
@@ -251,14 +228,10 @@ label_found [] label = None
 label_found (b ∷ bs) label =
     if list_any (nat_eq label) b.labels then Some 0 else option_map suc (label_found bs label)
 
--- a jump to the label of a statement in the block so many static links outward, if it is found there
-abbrev pub jump_to : (label : ℕ) → Option ℕ → Option Form
-jump_to label None = None
-jump_to label (Some outward) = Some (typed.Goto outward label)
-
--- a GOTO leads to a label of a list that it stands in, and any other leads nowhere
+-- a GOTO leads to a label of a list that it stands in, in the block so many static links outward; any other
+-- leads nowhere
 abbrev pub jump : Surroundings → NamedAs → Option Form
-jump s (ALabel statement) = jump_to statement (label_found s.blocks statement)
+jump s (ALabel statement) = option_map (λ outward. typed.Goto outward statement) (label_found s.blocks statement)
 jump s other = None
 
 -- GOTO: A11 at the label where it leads nowhere. Resolution tells this fault of each text already, so no unit
@@ -309,44 +282,23 @@ return_typed n s at (Some e) = do
   v ← value_of n e
   returned_value n.greatest (area_here n s) at (first_token e) s.begins s.value v
 
--- ALLOCATE and FREE
-
--- ALLOCATE with its items, one after the other, the first of whose temporaries is this one
-abbrev pub allocate_typed : Naming → (temporary : ℕ) → List Allocation → Result Form Fault
-allocate_typed n temporary list = all_allocated n temporary list >>= λ xs. Ok (typed.Allocate xs)
-
--- FREE with its items, one after the other
-abbrev pub free_typed : Naming → List Reference → Result Form Fault
-free_typed n list = in_turn (freed n) list >>= λ xs. Ok (typed.Free xs)
-
 -- groups with a control variable
-
--- the value, if it is a number
-abbrev pub number_of : (greatest : ℕ) → TypedValue → Option TypedExpression
-number_of greatest v = option_map (λ p. v.expression) (precision_of greatest v.kind)
 
 -- TO and BY take a number, else T4 at its first token
 abbrev pub limit : Naming → Expression → Result TypedExpression Fault
 limit n e = do
   v ← value_of n e
-  or_fault WrongOperandType (first_token e) (number_of n.greatest v)
-
--- the one that may be left out
-abbrev pub possible_limit : Naming → Option Expression → Result (Option TypedExpression) Fault
-possible_limit n None = Ok None
-possible_limit n (Some e) = do
-  x ← limit n e
-  Ok (Some x)
+  or_fault WrongOperandType (first_token e) (as_number n.greatest v.expression v.kind)
 
 -- TO and BY in the order in which they stand; what REPEAT says is looked at behind the variable
 abbrev pub limits : Naming → Option Range → Result TypedRange Fault
 limits n (Some (tree.To to by)) = do
   x ← limit n to
-  y ← possible_limit n by
+  y ← if_written (limit n) by
   Ok (typed.ToBy x y)
 limits n (Some (tree.By by to)) = do
   x ← limit n by
-  y ← possible_limit n to
+  y ← if_written (limit n) to
   Ok (typed.ByTo x y)
 limits n other = Ok typed.Once
 
@@ -354,8 +306,7 @@ limits n other = Ok typed.Once
 abbrev pub without_subscripts : TypedReference → Bool
 without_subscripts (Whole root) = true
 without_subscripts (Part root offset d NoSubscript) = true
-without_subscripts (Part root offset d (SubscriptThen stride value more)) = false
-without_subscripts (ElementOf root subscripts) = false
+without_subscripts reference = false
 
 -- an arrow stands among these parts
 abbrev pub has_arrow : JoinedParts → Bool
@@ -387,13 +338,6 @@ controls at is_located range (DenotesVariable r) =
     else at_fault BadControlVariable at
 controls at is_located range denoted = at_fault NotAVariable at
 
--- WHILE behind them, which may be left out
-abbrev pub possible_condition : Naming → Option Expression → Result (Option TypedExpression) Fault
-possible_condition n None = Ok None
-possible_condition n (Some e) = do
-  x ← condition n e
-  Ok (Some x)
-
 -- what REPEAT gives a variable of this type, whose declaration names this area if it is an OFFSET, where it
 -- suits that
 abbrev pub turned : (greatest : ℕ) → (area : Option Beginning) → TypedValue → ParameterType
@@ -423,7 +367,7 @@ iteration n temporary variable equals first range tested = do
   d ← referred n AsLocator variable
   r ← controls (own_token variable) (has_locator variable) kept d
   convert ← or_fault CannotAssign equals (conversion_to n.greatest r.area r.description v.kind)
-  x ← possible_condition n tested
+  x ← if_written (condition n) tested
   turns ← with_repeat n r kept range
   Ok (record {
     control = r.reference;
@@ -465,28 +409,11 @@ abbrev pub made : {A B : Type 0} → (A → B) → Result (WithProcedures A) (Li
 made make (Ok x) = Ok (record { part = make x.part; procedures = x.procedures })
 made make (Err fs) = Err fs
 
--- PUT with its items
-abbrev pub put_form : (skip : Bool) → Result (List TypedExpression) Fault
-    → Result (WithProcedures Form) (List Fault)
-put_form skip typed_items = made (typed.Put skip) (of_own typed_items)
-
--- IF with its three parts
-abbrev pub if_form : Result TypedExpression Fault → Result (WithProcedures TypedStatement) (List Fault)
-    → Result (WithProcedures OtherWise) (List Fault) → Result (WithProcedures Form) (List Fault)
-if_form tested consequence alternative =
-    let parts : Result (WithProcedures (TypedStatement × OtherWise)) (List Fault) =
-    together (λ s otherwise. (s, otherwise)) consequence alternative in
-    together (λ x both. typed.If x both.0 both.1) (of_own tested) parts
-
--- a group with WHILE: what controls it, then its list
-abbrev pub while_form : Result TypedExpression Fault → Result (WithProcedures TypedStatements) (List Fault)
-    → Result (WithProcedures Form) (List Fault)
-while_form tested list = together typed.While (of_own tested) list
-
--- a group with a control variable: what controls it, then its list
-abbrev pub iterate_form : Result Iteration Fault → Result (WithProcedures TypedStatements) (List Fault)
-    → Result (WithProcedures Form) (List Fault)
-iterate_form controlled list = together typed.Iterate (of_own controlled) list
+-- an IF's consequence and its ELSE
+abbrev pub both_ways : Result (WithProcedures TypedStatement) (List Fault)
+    → Result (WithProcedures OtherWise) (List Fault)
+    → Result (WithProcedures (TypedStatement × OtherWise)) (List Fault)
+both_ways consequence alternative = together (λ s otherwise. (s, otherwise)) consequence alternative
 
 -- what an activation of a block begins with
 abbrev pub head_of : NamedUnit → (number statement : ℕ) → Statements → BlockHead
@@ -517,14 +444,12 @@ procedure_of u parent number statement end statements list = record {
 -- an ON-unit with its typed statement as a list
 abbrev pub on_unit_of : NamedUnit → (parent : Option ℕ) → (number statement : ℕ) → (unit : Statement)
     → TypedStatements → TypedProcedure
-on_unit_of u parent number statement unit list = record {
-  is_on_unit = true;
-  head = head_of u number statement (only unit);
-  parent = parent;
-  parameters = 0;
-  function_end = None;
-  statements = list;
-}
+on_unit_of u parent number statement unit list =
+    record (procedure_of u parent number statement 0 (only unit) list) {
+      is_on_unit = true;
+      parameters = 0;
+      function_end = None;
+    }
 
 -- a procedure or an ON-unit stands behind those in it, and leaves this form in its place
 abbrev pub as_procedure : Form → (TypedStatements → TypedProcedure)
@@ -579,25 +504,28 @@ abbrev mutual
   body_typed u s x number at (tree.Do None statements end) =
       made typed.Group (statements_typed u (in_group statements s) x statements)
   body_typed u s x number at (tree.Do (Some (tree.While tested)) statements end) =
-      while_form (condition (naming_at u s) tested)
+      together typed.While (of_own (condition (naming_at u s) tested))
       (statements_typed u (in_group statements s) x statements)
   body_typed u s x number at (tree.Do (Some (tree.Iterate variable equals first range tested)) statements
       end) =
-      iterate_form (iteration (naming_at u s) x.temporary variable equals first range tested)
+      together typed.Iterate
+      (of_own (iteration (naming_at u s) x.temporary variable equals first range tested))
       (statements_typed u (in_group statements s) (behind_limits range x) statements)
   body_typed u s x number at (tree.If tested consequence alternative) =
-      if_form (condition (naming_at u s) tested) (statement_typed u s x consequence)
-      (alternative_typed u s (behind u.is_based x consequence) alternative)
+      together (λ x both. typed.If x both.0 both.1) (of_own (condition (naming_at u s) tested))
+      (both_ways (statement_typed u s x consequence)
+      (alternative_typed u s (behind u.is_based x consequence) alternative))
   body_typed u s x number at tree.Stop = Ok (alone typed.Stop)
   body_typed u s x number at (tree.Allocate list) =
-      of_own (allocate_typed (naming_at u s) x.temporary list)
-  body_typed u s x number at (tree.Free list) = of_own (free_typed (naming_at u s) list)
+      of_own (all_allocated (naming_at u s) x.temporary list >>= λ xs. Ok (typed.Allocate xs))
+  body_typed u s x number at (tree.Free list) =
+      of_own (in_turn (freed (naming_at u s)) list >>= λ xs. Ok (typed.Free xs))
   body_typed u s x number at (tree.Call name arguments) =
       of_own (call_typed (naming_at u s) name arguments)
   body_typed u s x number at (tree.Goto label) = of_own (goto_typed (naming_at u s) s label)
   body_typed u s x number at (tree.Return value) = of_own (return_typed (naming_at u s) s at value)
   body_typed u s x number at (tree.Put skip printed_items) =
-      put_form skip (items (naming_at u s) printed_items)
+      made (typed.Put skip) (of_own (in_turn (item (naming_at u s)) printed_items))
   body_typed u s x number at (tree.On c unit) =
       as_procedure (typed.On c x.block) (on_unit_of u (Some (block_at s)) x.block number unit)
       (listed unit (statement_typed u (in_on_unit x.block unit s) (inside x) unit) (Ok (alone NoStatement)))

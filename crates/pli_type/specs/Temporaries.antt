@@ -4,7 +4,7 @@ use Rattle.std.specs.Prelude.{ℕ, suc, ◌+◌, Bool, Option, Some, None, List,
 use Rattle.pli_base.specs.Statements.{Range, To, By, Repeat, Control, While, Iterate, Statement, Numbered}
 use Rattle.pli_base.specs.Statements.{Allocation, Body, Do, If, Allocate, Statements, Ended, Before}
 use Rattle.pli_base.specs.Statements.{Alternative, NoElse, Else}
-use Rattle.pli_resolve.specs.TreeBlocks.{blocks_in}
+use Rattle.pli_resolve.specs.BlockCounts.{blocks_in}
 
 -- what a group keeps of what limits it: TO and BY, and 1 where TO stands without BY
 abbrev pub limits_kept : Option Range → ℕ

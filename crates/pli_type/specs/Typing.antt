@@ -1,7 +1,7 @@
 -- Typed expressions: an expression of the source tree gives a typed one with its type, or the first fault of
 -- types in the order of evaluation: operands from left to right, then their operator; arguments, then the
 -- called name; in a reference its locator, then each subscript, then the reference itself (own).
-use Rattle.std.specs.Prelude.{ℕ, ◌+◌, Bool, true, false, Option, Some, None, option_map}
+use Rattle.std.specs.Prelude.{ℕ, ◌+◌, Bool, true, false, Option, Some, None, option_and_then}
 use Rattle.std.specs.Prelude.{List, [], ◌∷◌, ◌++◌, Result, Ok}
 use Rattle.pli_base.specs.Results.{◌>>=◌}
 use Rattle.pli_base.specs.Reading.{at_fault}
@@ -9,20 +9,20 @@ use Rattle.pli_base.specs.Syntax.{Expression, Referred, Constant, Parenthesized,
 use Rattle.pli_base.specs.Syntax.{Named}
 use Rattle.pli_base.specs.Syntax.{JoinedParts, Alone, Joined, Arguments, Absent, Given, Expressions, Empty}
 use Rattle.pli_base.specs.Syntax.{Listed}
-use Rattle.pli_base.specs.declared.code.Code.{Code}
 use Rattle.pli_base.specs.declared.code.Code.TheVariants.{NotAVariable, AggregateNotAllowedHere}
 use Rattle.pli_base.specs.declared.code.Code.TheVariants.{WrongOperandType}
 use Rattle.pli_base.specs.declared.syntax.Joining.TheVariants.{Member, Located}
 use Rattle.pli_base.specs.declared.token.Fault.{Fault}
-use Rattle.pli_type.specs.ExpressionTypes.{TypedValue, precision_of, constant}
+use Rattle.pli_type.specs.ExpressionTypes.{TypedValue, constant, type_of, as_number}
 use Rattle.pli_type.specs.ExpressionTypes.{prefix_value, infix_value, null_value}
+pub use Rattle.pli_type.specs.Faults.{or_fault}
 use Rattle.pli_type.specs.FunctionCalls.{Denoted, DenotesVariable, DenotesResult, DenotesEmpty}
 use Rattle.pli_type.specs.FunctionCalls.{Meant, OneValue}
 use Rattle.pli_type.specs.FunctionCalls.{WholeAggregate, meant_as, Argument, number_written, roles_of}
 use Rattle.pli_type.specs.FunctionCalls.{function_called}
 use Rattle.pli_type.specs.Names.{NamedVariable, NamedProcedure, NamedAs, AVariable, AFunction, AProcedure}
 use Rattle.pli_type.specs.Names.{Naming}
-use Rattle.pli_type.specs.ProcedureCalls.{arguments_passed, result_of, type_returned}
+use Rattle.pli_type.specs.ProcedureCalls.{arguments_passed, result_of}
 use Rattle.pli_type.specs.References.{Role, AsValue, AsArgument, AsLocator, variable_meant, LocatorBefore}
 use Rattle.pli_type.specs.References.{NotLocated, LocatedWrongly, located_by, locator_at}
 use Rattle.pli_resolve.specs.declared.built_in.BuiltInFunction.{BuiltInFunction}
@@ -52,11 +52,6 @@ abbrev pub how_many : Expressions → ℕ
 how_many Empty = 0
 how_many (Listed first more) = 1 + how_many more
 
--- what is there, or a fault at a token
-abbrev pub or_fault : {A : Type 0} → Code → (at : ℕ) → Option A → Result A Fault
-or_fault code at None = at_fault code at
-or_fault code at (Some x) = Ok x
-
 -- one value; an aggregate in its place is T2
 abbrev pub one_value : (at : ℕ) → Meant → Result TypedValue Fault
 one_value at (OneValue v) = Ok v
@@ -65,7 +60,7 @@ one_value at (WholeAggregate r) = at_fault AggregateNotAllowedHere at
 -- a subscript is a number, else T4 at its first token
 abbrev pub subscript_value : (greatest : ℕ) → (at : ℕ) → TypedValue → Result TypedExpression Fault
 subscript_value greatest at v =
-    or_fault WrongOperandType at (option_map (λ p. v.expression) (precision_of greatest v.kind))
+    or_fault WrongOperandType at (as_number greatest v.expression v.kind)
 
 -- what stands between arrows, so far: a name of a variable, with what stands in front of it, and the
 -- subscripts behind its names; what a function gives; EMPTY; or a name of something else
@@ -111,11 +106,12 @@ abbrev pub given_by : BuiltInFunction → TypedValue → Segment
 given_by functions.Empty v = OfEmpty
 given_by function v = OfFunction v
 
--- a call of a function with its arguments: T6, T7 or T8 at its name, in this order
+-- a call of a function with its arguments: T6, T7 or T8 at its name, in this order; the last where it gives
+-- nothing, or an aggregate
 abbrev pub procedure_called : Naming → NamedProcedure → (at : ℕ) → List Argument → Result Segment Fault
 procedure_called n p at gs = do
   passed ← arguments_passed n.greatest p at gs
-  v ← result_of at p.callee passed (type_returned p.area p.returned)
+  v ← result_of at p.callee passed (option_and_then (type_of p.area) p.returned)
   Ok (OfFunction v)
 
 -- no roles where the number of arguments is wrong

@@ -3,6 +3,7 @@ ghost use Rattle.std.specs.Prelude.{◌≡◌, [], ◌∷◌, IfOk, length, map,
 ghost use Rattle.pli_type.specs.ExpressionTypes as ext;
 ghost use Rattle.pli_type.specs.FunctionCalls as spec;
 ghost use Rattle.pli_type.specs.views.ValueView.{value_view};
+ghost use Rattle.pli_type.specs.TypingSteps as steps;
 ghost use Rattle.pli_type_tree.specs.views.TypedView.{expression_view, reference_view};
 
 use crate::beginning::Beginning;
@@ -102,7 +103,7 @@ pub fn call_type(
 
 /// The type of a part of a string: the string's own, where a number says with which element it begins.
 fn part_type(greatest: u8, string: ExpressionType, first: ExpressionType) -> Option<ExpressionType>
-    ensures { result ≡ spec.with_number (spec.string_kind string) (ext.precision_of greatest first) }
+    ensures { result ≡ steps.with_number (spec.string_kind string) (ext.precision_of greatest first) }
 {
     first.precision(greatest)?;
     match string {

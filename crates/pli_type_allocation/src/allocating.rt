@@ -6,7 +6,7 @@ ghost use Rattle.pli_base.specs.views.SyntaxView.{reference_view};
 ghost use Rattle.pli_type.specs.AllocationTyping as spec;
 ghost use Rattle.pli_type.specs.Beginnings.{root_at};
 ghost use Rattle.pli_type.specs.Names as names;
-ghost use Rattle.pli_type.specs.StatementTyping.{allocate_typed};
+ghost use Rattle.pli_type.specs.TypingSteps.{allocate_typed};
 ghost use Rattle.pli_type_operands.specs.views.TypingView.{referent_view};
 ghost use Rattle.pli_type_expression.specs.views.SegmentView.{variable_view};
 ghost use Rattle.pli_type_names.specs.SymbolMeaning.{IsVariable};

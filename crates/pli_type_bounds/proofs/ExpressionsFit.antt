@@ -20,13 +20,14 @@ use Rattle.pli_resolve.specs.declared.built_in.BuiltInFunction.TheVariants as fu
 use Rattle.pli_type.specs.FunctionCalls.{Denoted, DenotesVariable, DenotesResult, DenotesEmpty, Meant, OneValue, WholeAggregate, meant_as, Argument}
 use Rattle.pli_type.specs.FunctionCalls.{roles_of, function_called}
 use Rattle.pli_type.specs.Names.{LocatorVariable, OfPointer, OfOffset, NamedAs, AVariable, AFunction, AProcedure, NamedStorage, Begins, IsBased, NamedVariable, NamedProcedure, Naming}
-use Rattle.pli_type.specs.ProcedureCalls.{place_of, passed_place, passed_value, handed, passed, passed_before, all_passed, or_wrong_argument}
-use Rattle.pli_type.specs.ProcedureCalls.{arguments_passed, result_of, type_returned}
+use Rattle.pli_type.specs.ProcedureCalls.{place_of, passed_place, passed_value, handed, passed, all_passed}
+use Rattle.pli_type.specs.ProcedureCalls.{arguments_passed, result_of}
 use Rattle.pli_type.specs.References.{Role, AsValue, AsArgument, AsLocator, wants_scalar, variable_meant, whole_meant, StridedPart, part_on, part_of, whole_part, with_subscripts, subscripts_at, reference_to, open_part, open_reference, open_referent, open_settled, Referent, permitted, settled}
-use Rattle.pli_type.specs.References.{LocatorBefore, NotLocated, LocatedBy, LocatedWrongly, locator_at, located_by, pointer_of, root_by, passed_root, begins_somewhere, referent_from}
-use Rattle.pli_type.specs.Typing.{first_token, how_many, or_fault, one_value}
-use Rattle.pli_type.specs.Typing.{subscript_value, Segment, OfVariable, OfFunction, OfEmpty, OfNoVariable, is_call, with_more, ended, as_locator, named_alone, given_by, procedure_called, roles_or_none}
+use Rattle.pli_type.specs.References.{LocatorBefore, NotLocated, LocatedBy, LocatedWrongly, locator_at, located_by, pointer_of, root_by, passed_root, referent_from}
+use Rattle.pli_type.specs.Typing.{first_token, how_many, or_fault, one_value, roles_or_none}
+use Rattle.pli_type.specs.Typing.{subscript_value, Segment, OfVariable, OfFunction, OfEmpty, OfNoVariable, is_call, with_more, ended, as_locator, named_alone, given_by, procedure_called}
 use Rattle.pli_type.specs.Typing.{as_value, denoted, meant, referred, joined, begun, subscripts_in, all_subscripts, all_arguments, value_of}
+use Rattle.pli_type.specs.TypingSteps.{passed_before, or_wrong_argument, type_returned, begins_somewhere}
 use Rattle.pli_type.specs.declared.beginning.Beginning.{Beginning}
 use Rattle.pli_type.specs.declared.expression_type.ExpressionType.{ExpressionType}
 use Rattle.pli_type_tree.specs.Templates.{Template}

@@ -19,12 +19,13 @@ use Rattle.pli_type.specs.FunctionCalls.{Denoted, DenotesVariable, DenotesResult
 use Rattle.pli_type.specs.Names.{NamedAs, AProcedure, ALabel, NamedProcedure, Naming}
 use Rattle.pli_type.specs.ProcedureCalls.{arguments_passed}
 use Rattle.pli_type.specs.References.{AsArgument, AsLocator, AsTarget, AsValue, Referent}
-use Rattle.pli_type.specs.StatementTyping.{are_alike, aggregate_assigned, scalar_assigned, string_assigned, one_assigned, area_put, area_assigned, variable_assigned, assigned, assignment, truth_of, condition, item, items}
-use Rattle.pli_type.specs.StatementTyping.{Surroundings, Enclosing, label_found, jump_to, jump, goto_typed, arguments_typed, no_function, call_of}
-use Rattle.pli_type.specs.StatementTyping.{call_typed, area_here, returned_value, return_typed, number_of, limit, possible_limit, limits}
-use Rattle.pli_type.specs.StatementTyping.{without_subscripts, has_locator, suits_range, suited_control, controls, possible_condition, turned, next_value, with_repeat}
+use Rattle.pli_type.specs.StatementTyping.{are_alike, aggregate_assigned, scalar_assigned, string_assigned, one_assigned, area_put, area_assigned, variable_assigned, assigned, assignment, condition, item, suited_control}
+use Rattle.pli_type.specs.StatementTyping.{Surroundings, Enclosing, label_found, jump, goto_typed, arguments_typed, no_function, call_of}
+use Rattle.pli_type.specs.StatementTyping.{call_typed, area_here, returned_value, return_typed, limit, limits}
+use Rattle.pli_type.specs.StatementTyping.{without_subscripts, has_locator, suits_range, controls, turned, next_value, with_repeat}
 use Rattle.pli_type.specs.StatementTyping.{iteration}
 use Rattle.pli_type.specs.Typing.{first_token, own_token, or_fault, denoted, meant, referred, value_of}
+use Rattle.pli_type.specs.TypingSteps.{truth_of, items, jump_to, number_of, possible_limit, possible_condition}
 use Rattle.pli_type.specs.declared.beginning.Beginning.{Beginning}
 use Rattle.pli_type.specs.declared.expression_type.ExpressionType.{ExpressionType}
 use Rattle.pli_type.specs.declared.expression_type.ExpressionType.TheVariants as types

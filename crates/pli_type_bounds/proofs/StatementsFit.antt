@@ -14,11 +14,12 @@ use Rattle.pli_resolve.specs.TreeBlocks as blocks
 use Rattle.pli_type.specs.NamedUnits.{names_based}
 use Rattle.pli_type.specs.Names.{NamedUnit, NamedAs}
 use Rattle.pli_type.specs.declared.beginning.Beginning.{Beginning}
-use Rattle.pli_type.specs.StatementTyping.{Enclosing, Surroundings, naming_at, block_at, leaves_nothing, assignment, items}
-use Rattle.pli_type.specs.StatementTyping.{condition, iteration, allocate_typed, free_typed, call_typed, goto_typed, return_typed, WithProcedures, of_own, together}
-use Rattle.pli_type.specs.StatementTyping.{alone, made, head_of, function_end, procedure_of, on_unit_of, as_procedure, put_before, inside, behind_limits, in_begin, in_group, in_on_unit, in_procedure, lasting_alone, only, with_labels, labels_of}
+use Rattle.pli_type.specs.StatementTyping.{Enclosing, Surroundings, naming_at, block_at, leaves_nothing, assignment, function_end}
+use Rattle.pli_type.specs.StatementTyping.{condition, iteration, call_typed, goto_typed, return_typed, WithProcedures, of_own, together}
+use Rattle.pli_type.specs.StatementTyping.{alone, made, head_of, procedure_of, on_unit_of, as_procedure, put_before, inside, behind_limits, in_begin, in_group, in_on_unit, in_procedure, lasting_alone, only, with_labels, labels_of}
 use Rattle.pli_type.specs.StatementTyping.{statement_typed, body_typed, alternative_typed, statements_typed}
 use Rattle.pli_type.specs.Temporaries.{Next, behind, based_among, temporaries_in, temporaries_of, temporaries_among, temporaries_behind}
+use Rattle.pli_type.specs.TypingSteps.{items, allocate_typed, free_typed}
 use Rattle.pli_type_laws.specs.TypedUnits.{unit_with}
 use Rattle.pli_type_laws.proofs.Shapes.{IsAllocation, allocate_keeps, HasOwn, iteration_keeps}
 use Rattle.pli_type_name_laws.specs.Nesting.{NestsWithin, BodyNests, ListNests, ElseNests}

@@ -24,7 +24,7 @@ use Rattle.pli_type.specs.NamedUnits.{is_automatic, is_based, all_globals, area_
 use Rattle.pli_type.specs.NamedUnits.{named_unit, templates_of, checked_unit}
 use Rattle.pli_type.specs.Names.{NamedUnit, NamedAs}
 use Rattle.pli_type.specs.declared.beginning.Beginning.{Beginning}
-use Rattle.pli_type.specs.StatementTyping.{WithProcedures, enclosing, function_end, statements_typed}
+use Rattle.pli_type.specs.StatementTyping.{WithProcedures, enclosing, statements_typed, function_end}
 use Rattle.pli_type.specs.Temporaries.{temporaries_among}
 use Rattle.pli_type_laws.proofs.BlocksKnown.{Sits, sits_all}
 use Rattle.pli_type_laws.proofs.BlocksKnown as counted

@@ -2,6 +2,7 @@
 ghost use Rattle.std.specs.Prelude.{◌≡◌, ℕ, List, Some, None, map, option_map, IfOk};
 ghost use Rattle.pli_type.specs.Names as names;
 ghost use Rattle.pli_type.specs.References as spec;
+ghost use Rattle.pli_type.specs.TypingSteps as steps;
 ghost use Rattle.pli_base.specs.answers.FailureAnswers.{Gives};
 ghost use Rattle.pli_type_expression.specs.views.SegmentView.{locator_view};
 ghost use Rattle.pli_type_operands.specs.views.TypingView.{referent_view, role_view};
@@ -107,7 +108,7 @@ fn referent<'a>(
     subscripts: Vec<TypedExpression>,
 ) -> Result<Referent<'a>, TypeError>
     ensures { (named : names.NamedVariable) → IsVariable variable.entry named
-        → Gives referent_view result (spec.begins_somewhere at
+        → Gives referent_view result (steps.begins_somewhere at
         (option_map (spec.referent_from named (map expression_view subscripts.items) (part_view part.now))
         (spec.root_by named.storage (description_view whole.now) (locator_view locator)))) }
 {
@@ -187,7 +188,7 @@ fn open_referent<'a>(
     subscripts: Vec<TypedExpression>,
 ) -> Result<Referent<'a>, TypeError>
     ensures { (named : names.NamedVariable) → IsVariable variable.entry named
-        → Gives referent_view result (spec.begins_somewhere at
+        → Gives referent_view result (steps.begins_somewhere at
         (option_map (spec.open_referent named (map expression_view subscripts.items) (type_seen taken.entry))
         (spec.passed_root named.storage (locator_view locator)))) }
 {

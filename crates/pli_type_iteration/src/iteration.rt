@@ -9,6 +9,7 @@ ghost use Rattle.pli_map.specs.views.ParameterView.{type_seen, type_view};
 ghost use Rattle.pli_type.specs.declared.beginning.Beginning.{Beginning};
 ghost use Rattle.pli_type.specs.StatementTyping as spec;
 ghost use Rattle.pli_type.specs.views.ValueView.{value_view};
+ghost use Rattle.pli_type.specs.TypingSteps as steps;
 ghost use Rattle.pli_base.specs.answers.FailureAnswers.{Gives};
 ghost use Rattle.pli_type_operands.specs.views.TypingView.{denoted_view, referent_view};
 ghost use Rattle.pli_type_names.specs.UnitNaming.{naming_in};
@@ -55,7 +56,7 @@ fn possible_limit(
     expression: &Option<Expression>,
 ) -> Result<Option<TypedExpression>, TypeError>
     ensures { Gives (option_map typed.expression_view) result
-        (spec.possible_limit (naming_in naming.now) (option_map syntax.expression_view expression.now)) }
+        (steps.possible_limit (naming_in naming.now) (option_map syntax.expression_view expression.now)) }
 {
     match expression {
         None => Ok(None),
@@ -199,7 +200,7 @@ fn possible_condition(
     expression: &Option<Expression>,
 ) -> Result<Option<Box<TypedExpression>>, TypeError>
     ensures { Gives (option_map (λ x. typed.expression_view x.value)) result
-        (spec.possible_condition (naming_in naming.now) (option_map syntax.expression_view expression.now)) }
+        (steps.possible_condition (naming_in naming.now) (option_map syntax.expression_view expression.now)) }
 {
     match expression {
         None => Ok(None),

@@ -13,8 +13,8 @@ use Rattle.pli_type.specs.FunctionCalls.{Denoted, DenotesVariable, DenotesResult
 use Rattle.pli_type.specs.Names.{LocatorVariable, OfPointer, OfOffset, NamedStorage, Begins, IsBased, NamedAs, AVariable, Naming}
 use Rattle.pli_type.specs.References.{AsLocator, AsTarget, Referent}
 use Rattle.pli_type.specs.declared.beginning.Beginning.{Beginning}
-use Rattle.pli_type.specs.StatementTyping.{allocate_typed, free_typed}
 use Rattle.pli_type.specs.Typing.{own_token, referred}
+use Rattle.pli_type.specs.TypingSteps.{allocate_typed, free_typed}
 use Rattle.pli_type_laws.proofs.Conversions.{OnGiven}
 use Rattle.pli_type_laws.proofs.Denotations.{OnRead, IsReferent, IsDenoted}
 use Rattle.pli_type_laws.proofs.Expressions.{IsMeaning, N, read_option, referred_typed}

@@ -12,8 +12,9 @@ use Rattle.pli_type.specs.ExpressionTypes.{type_of}
 use Rattle.pli_type.specs.FunctionCalls.{Denoted, DenotesVariable, DenotesResult, DenotesEmpty, Meant, OneValue, meant_as, Argument}
 use Rattle.pli_type.specs.NamedUnits.{is_plain}
 use Rattle.pli_type.specs.Names.{NamedProcedure}
-use Rattle.pli_type.specs.ProcedureCalls.{place_of, passed_place, passed_value, handed, passed, passed_before, all_passed, or_wrong_argument}
-use Rattle.pli_type.specs.ProcedureCalls.{arguments_passed, result_of, type_returned}
+use Rattle.pli_type.specs.ProcedureCalls.{place_of, passed_place, passed_value, handed, passed, all_passed}
+use Rattle.pli_type.specs.ProcedureCalls.{arguments_passed, result_of}
+use Rattle.pli_type.specs.TypingSteps.{passed_before, or_wrong_argument, type_returned}
 use Rattle.pli_type.specs.declared.expression_type.ExpressionType.{ExpressionType}
 use Rattle.pli_type_laws.proofs.Conversions.{OnGiven, given_weaker, conversion_held, string_suits}
 use Rattle.pli_type_laws.proofs.Denotations.{OnRead, IsMeant, IsDenoted, AreArguments, scalar_typed, denoted_meant}

@@ -12,11 +12,12 @@ use Rattle.pli_resolve.specs.declared.built_in.BuiltInFunction.TheVariants as fu
 use Rattle.pli_type.specs.FunctionCalls.{Denoted, DenotesVariable, DenotesResult, DenotesEmpty, Meant, OneValue, WholeAggregate, meant_as, Argument}
 use Rattle.pli_type.specs.FunctionCalls.{roles_of, function_called}
 use Rattle.pli_type.specs.Names.{NamedAs, AVariable, AFunction, AProcedure, NamedProcedure, Naming}
-use Rattle.pli_type.specs.ProcedureCalls.{arguments_passed, result_of, type_returned}
+use Rattle.pli_type.specs.ProcedureCalls.{arguments_passed, result_of}
 use Rattle.pli_type.specs.References.{Role, AsValue, AsArgument, AsLocator, LocatorBefore, NotLocated, locator_at, variable_meant}
-use Rattle.pli_type.specs.Typing.{first_token, how_many, or_fault, one_value}
-use Rattle.pli_type.specs.Typing.{subscript_value, Segment, OfVariable, OfFunction, OfEmpty, OfNoVariable, is_call, with_more, ended, as_locator, named_alone, given_by, procedure_called, roles_or_none}
+use Rattle.pli_type.specs.Typing.{first_token, how_many, or_fault, one_value, roles_or_none}
+use Rattle.pli_type.specs.Typing.{subscript_value, Segment, OfVariable, OfFunction, OfEmpty, OfNoVariable, is_call, with_more, ended, as_locator, named_alone, given_by, procedure_called}
 use Rattle.pli_type.specs.Typing.{as_value, denoted, meant, referred, joined, begun, subscripts_in, all_subscripts, all_arguments, value_of}
+use Rattle.pli_type.specs.TypingSteps.{type_returned}
 use Rattle.pli_type.specs.declared.beginning.Beginning.{Beginning}
 use Rattle.pli_type_laws.proofs.Calls.{IsCallable, arguments_fit, result_typed}
 use Rattle.pli_type_laws.proofs.Conversions.{OnGiven}

@@ -14,12 +14,13 @@ use Rattle.pli_operation.specs.declared.operation.Operation.TheVariants.{Absolut
 use Rattle.pli_resolve.specs.declared.built_in.BuiltInFunction.{BuiltInFunction}
 use Rattle.pli_resolve.specs.declared.built_in.BuiltInFunction.TheVariants as functions
 use Rattle.pli_type.specs.ExpressionTypes.{TypedValue, precision_of, precisions, all_operands}
-use Rattle.pli_type.specs.FunctionCalls.{Meant, OneValue, WholeAggregate, meant_as, Argument, calculation, of_values, string_kind, with_number, of_one_kind}
+use Rattle.pli_type.specs.FunctionCalls.{Meant, OneValue, WholeAggregate, meant_as, Argument, calculation, of_values, string_kind, of_one_kind}
 use Rattle.pli_type.specs.Beginnings.{area_meant, whole_at}
-use Rattle.pli_type.specs.FunctionCalls.{Denoted, DenotesVariable, DenotesResult, DenotesEmpty, a_count, number_type, bound_value, bound_among, bound_there, bound_in, the_bound, generations_in, generations_of, address_in, address_of, value_in, values_in}
-use Rattle.pli_type.specs.FunctionCalls.{area_of, offset_within, pointer_within, located_within, divided, of_arguments, or_bad_argument, function_called}
+use Rattle.pli_type.specs.FunctionCalls.{Denoted, DenotesVariable, DenotesResult, DenotesEmpty, a_count, bound_value, bound_among, bound_there, bound_in, the_bound, generations_in, generations_of, address_in, address_of, value_in, values_in}
+use Rattle.pli_type.specs.FunctionCalls.{area_of, offset_within, pointer_within, located_within, divided, of_arguments, function_called}
 use Rattle.pli_type.specs.NamedUnits.{are_bounds, may_be}
 use Rattle.pli_type.specs.References.{Role}
+use Rattle.pli_type.specs.TypingSteps.{with_number, number_type, or_bad_argument}
 use Rattle.pli_type.specs.declared.beginning.Beginning.{Beginning}
 use Rattle.pli_type.specs.declared.expression_type.ExpressionType.{ExpressionType}
 use Rattle.pli_type.specs.declared.expression_type.ExpressionType.TheVariants as types

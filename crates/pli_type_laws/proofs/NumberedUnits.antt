@@ -15,12 +15,13 @@ use Rattle.pli_gen.specs.WellNumbered.{KeepApart, next_temporary, IsWellNumbered
 use Rattle.pli_parse_expression.specs.Expressions.{Deeper}
 use Rattle.pli_type.specs.Checked.{in_unit, first_inside, external_of, unit_of, typed_as, checked}
 use Rattle.pli_type.specs.Names.{NamedUnit}
-use Rattle.pli_type.specs.StatementTyping.{Surroundings, naming_at, block_at, leaves_nothing, assignment, items, condition, iteration}
-use Rattle.pli_type.specs.StatementTyping.{allocate_typed, free_typed, call_typed, goto_typed, return_typed, WithProcedures, alone, of_own, together, made, head_of}
+use Rattle.pli_type.specs.StatementTyping.{Surroundings, naming_at, block_at, leaves_nothing, assignment, condition, iteration}
+use Rattle.pli_type.specs.StatementTyping.{call_typed, goto_typed, return_typed, WithProcedures, alone, of_own, together, made, head_of}
 use Rattle.pli_type.specs.StatementTyping.{procedure_of, on_unit_of, as_procedure, put_before, inside, behind_limits, in_group, in_begin, in_on_unit, in_procedure, only}
 use Rattle.pli_type.specs.StatementTyping.{statement_typed, body_typed, alternative_typed, statements_typed}
 use Rattle.pli_resolve.specs.TreeBlocks as blocks
 use Rattle.pli_type.specs.Temporaries.{Next, behind, limits_kept, based_among, temporaries_in, temporaries_of, temporaries_among, temporaries_behind}
+use Rattle.pli_type.specs.TypingSteps.{items, allocate_typed, free_typed}
 use Rattle.pli_type_laws.proofs.Counting.{same, below, below_next, below_bound, in_blocks, of_blocks, in_both, of_both}
 use Rattle.pli_type_laws.proofs.Counting.{blocks_placed, ordered_distinct}
 use Rattle.pli_type_laws.proofs.Denotations.{OnRead}

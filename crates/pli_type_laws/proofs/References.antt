@@ -12,9 +12,10 @@ use Rattle.pli_type.specs.ExpressionTypes.{all_operands}
 use Rattle.pli_type.specs.NamedUnits.{is_plain, may_stand, are_dimensions, are_bounds, is_any_length, is_open_element, may_be}
 use Rattle.pli_type.specs.Names.{LocatorVariable, OfPointer, OfOffset, NamedStorage, Begins, IsBased, NamedVariable}
 use Rattle.pli_type.specs.References.{Role, wants_scalar, StridedPart, part_of, with_subscripts, subscripts_at, reference_to, Referent}
-use Rattle.pli_type.specs.References.{LocatorBefore, NotLocated, LocatedBy, LocatedWrongly, pointer_of, root_by, is_passed, begins_somewhere}
+use Rattle.pli_type.specs.References.{LocatorBefore, NotLocated, LocatedBy, LocatedWrongly, pointer_of, root_by, is_passed}
 use Rattle.pli_type.specs.References.{permitted, referent_from, settled, open_part, open_reference, open_referent, open_settled, passed_root, whole_meant}
 use Rattle.pli_type.specs.References.{variable_meant, locator_at, located_by}
+use Rattle.pli_type.specs.TypingSteps.{begins_somewhere}
 use Rattle.pli_type.specs.declared.beginning.Beginning.{Beginning}
 use Rattle.pli_type_laws.proofs.Conversions.{OnGiven}
 use Rattle.pli_type_laws.proofs.Denotations.{OnRead, IsOfWhole, IsReferent}

@@ -23,11 +23,12 @@ use Rattle.pli_type.specs.NamedUnits.{is_based_whole, names_based}
 use Rattle.pli_type.specs.Names.{LocatorVariable, OfPointer, OfOffset, NamedStorage, Begins, IsBased, NamedAs, AVariable, AFunction, AProcedure, ALabel, Untyped, Naming}
 use Rattle.pli_type.specs.ProcedureCalls.{arguments_passed}
 use Rattle.pli_type.specs.References.{AsArgument, AsLocator, AsTarget, AsValue, Referent}
-use Rattle.pli_type.specs.StatementTyping.{are_alike, aggregate_assigned, area_put, area_assigned, scalar_assigned, string_assigned, one_assigned, variable_assigned, assigned, assignment, Surroundings, label_found, jump_to, jump, goto_typed}
-use Rattle.pli_type.specs.StatementTyping.{arguments_typed, no_function, call_of, call_typed, area_here, returned_value, return_typed, allocate_typed, free_typed}
-use Rattle.pli_type.specs.StatementTyping.{limit, limits, controls, possible_condition, turned, with_repeat, has_locator, iteration}
+use Rattle.pli_type.specs.StatementTyping.{are_alike, aggregate_assigned, area_put, area_assigned, scalar_assigned, string_assigned, one_assigned, variable_assigned, assigned, assignment, Surroundings, label_found, jump, goto_typed}
+use Rattle.pli_type.specs.StatementTyping.{arguments_typed, no_function, call_of, call_typed, area_here, returned_value, return_typed}
+use Rattle.pli_type.specs.StatementTyping.{limit, limits, controls, turned, with_repeat, has_locator, iteration}
 use Rattle.pli_type.specs.Temporaries.{limits_kept, based_among}
 use Rattle.pli_type.specs.Typing.{first_token, own_token, or_fault, denoted, meant, referred, value_of}
+use Rattle.pli_type.specs.TypingSteps.{jump_to, allocate_typed, free_typed, possible_condition}
 use Rattle.pli_type.specs.declared.beginning.Beginning.{Beginning}
 use Rattle.pli_type_laws.proofs.Conversions.{OnGiven}
 use Rattle.pli_type_laws.proofs.Denotations.{OnRead}

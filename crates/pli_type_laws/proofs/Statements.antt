@@ -12,13 +12,14 @@ use Rattle.pli_resolve.specs.declared.block_numbers.ResolvedBlockKind.TheVariant
 use Rattle.pli_type.specs.Names.{NamedUnit, NamedAs}
 use Rattle.pli_type.specs.declared.beginning.Beginning.{Beginning}
 use Rattle.pli_type.specs.StatementTyping as source
-use Rattle.pli_type.specs.StatementTyping.{Enclosing, Surroundings, naming_at, block_at, leaves_nothing, assignment, items}
-use Rattle.pli_type.specs.StatementTyping.{condition, iteration, allocate_typed, free_typed, call_typed, goto_typed, return_typed, WithProcedures, of_own, together}
-use Rattle.pli_type.specs.StatementTyping.{made, head_of, function_end, procedure_of, on_unit_of, as_procedure, put_before, inside, behind_limits}
+use Rattle.pli_type.specs.StatementTyping.{Enclosing, Surroundings, naming_at, block_at, leaves_nothing, assignment, function_end}
+use Rattle.pli_type.specs.StatementTyping.{condition, iteration, call_typed, goto_typed, return_typed, WithProcedures, of_own, together}
+use Rattle.pli_type.specs.StatementTyping.{made, head_of, procedure_of, on_unit_of, as_procedure, put_before, inside, behind_limits}
 use Rattle.pli_type.specs.StatementTyping.{alone, lasting_alone, listed, only, says_nothing}
 use Rattle.pli_type.specs.StatementTyping.{statement_typed, body_typed, alternative_typed, statements_typed}
 use Rattle.pli_resolve.specs.TreeBlocks as blocks
 use Rattle.pli_type.specs.Temporaries.{Next, behind}
+use Rattle.pli_type.specs.TypingSteps.{items, allocate_typed, free_typed}
 use Rattle.pli_type_laws.proofs.Allocations.{allocate_is_typed, free_is_typed}
 use Rattle.pli_type_laws.proofs.BlocksKnown.{Within, within_self, within_both, within_behind, begun_count, Sits, sits_parts}
 use Rattle.pli_type_laws.proofs.BlocksKnown.{AreHome, home_labels, home_lasting, StandsDirectly, begin_no_procedure, unit_no_procedure}

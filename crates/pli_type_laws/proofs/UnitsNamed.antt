@@ -18,10 +18,11 @@ use Rattle.pli_type.specs.AllocationTyping.{all_allocated}
 use Rattle.pli_type.specs.Names.{NamedUnit}
 use Rattle.pli_type.specs.StatementTyping.{Enclosing, Surroundings, WithProcedures, naming_at, block_at, labels_of, with_labels, in_group, in_begin}
 use Rattle.pli_type.specs.StatementTyping.{in_procedure, in_on_unit, only, inside, behind_limits, head_of, procedure_of, on_unit_of}
-use Rattle.pli_type.specs.StatementTyping.{as_procedure, alone, of_own, made, together, put_before, put_form, if_form, says_nothing}
-use Rattle.pli_type.specs.StatementTyping.{assignment, items, condition, iteration, call_typed, goto_typed, return_typed, free_typed}
+use Rattle.pli_type.specs.StatementTyping.{as_procedure, alone, of_own, made, together, put_before, says_nothing}
+use Rattle.pli_type.specs.StatementTyping.{assignment, condition, iteration, call_typed, goto_typed, return_typed}
 use Rattle.pli_type.specs.StatementTyping.{statement_typed, body_typed, alternative_typed, statements_typed}
 use Rattle.pli_type.specs.Temporaries.{Next, behind}
+use Rattle.pli_type.specs.TypingSteps.{put_form, if_form, items, free_typed}
 use Rattle.pli_type_laws.proofs.Denotations.{OnRead}
 use Rattle.pli_type_laws.proofs.NumberedParts.{blocks_within}
 use Rattle.pli_type_laws.proofs.Shapes.{IsSimple, simple_assignment, simple_goto, simple_call, simple_return, simple_free}

@@ -5,6 +5,7 @@ ghost use Rattle.pli_map.specs.views.DescriptionView.{description_view};
 ghost use Rattle.pli_map.specs.views.ParameterView.{type_seen, type_view};
 ghost use Rattle.pli_type.specs.FunctionCalls as spec;
 ghost use Rattle.pli_type.specs.views.ValueView.{value_view};
+ghost use Rattle.pli_type.specs.TypingSteps as steps;
 ghost use Rattle.pli_type_operands.specs.Bounded.{bound_given, dimension_given, if_dimension, is_bound, which_bound};
 ghost use Rattle.pli_type_operands.specs.Quotients.{precision_written, quotient_of};
 ghost use Rattle.pli_base.specs.answers.FailureAnswers.{Gives};
@@ -452,7 +453,7 @@ pub fn function_called(
     at: u32,
     arguments: Vec<Argument<'_>>,
 ) -> Result<TypedValue, TypeError>
-    ensures { Gives value_view result (spec.or_bad_argument at
+    ensures { Gives value_view result (steps.or_bad_argument at
         (spec.of_arguments greatest function (map argument_view arguments.entry.items))) }
 {
     match of_arguments(alloc, greatest, function, arguments)? {

@@ -6,6 +6,7 @@ ghost use Rattle.pli_map.specs.views.ParameterView.{type_seen, type_view};
 ghost use Rattle.pli_type.specs.FunctionCalls.{meant_as, meant_by};
 ghost use Rattle.pli_type.specs.ProcedureCalls as spec;
 ghost use Rattle.pli_type.specs.views.ValueView.{value_view};
+ghost use Rattle.pli_type.specs.TypingSteps as steps;
 ghost use Rattle.pli_base.specs.answers.FailureAnswers.{Gives};
 ghost use Rattle.pli_type_operands.specs.views.TypingView.{argument_view, denoted_view, meant_view, referent_view};
 ghost use Rattle.pli_type_tree.specs.TypedTree as tree;
@@ -199,7 +200,7 @@ pub fn result_of(
     area: Option<Beginning>,
 ) -> Result<TypedValue, TypeError>
     ensures { Gives value_view result (spec.result_of at (callee_view callee) (arguments_view arguments.items)
-        (spec.type_returned area (option_map (λ d. description_view d.now) returned.entry))) }
+        (steps.type_returned area (option_map (λ d. description_view d.now) returned.entry))) }
 {
     let Some(description) = returned else {
         return Err(fault(Code::NotCallableHere, at));

@@ -2,6 +2,7 @@
 ghost use Rattle.std.specs.Prelude.{map};
 ghost use Rattle.pli_base.specs.views.SyntaxView as syntax;
 ghost use Rattle.pli_type.specs.StatementTyping as spec;
+ghost use Rattle.pli_type.specs.TypingSteps as steps;
 ghost use Rattle.pli_base.specs.answers.FailureAnswers.{Gives};
 ghost use Rattle.pli_type_names.specs.UnitNaming.{naming_in};
 ghost use Rattle.pli_type_tree.specs.views.TypedView.{expression_view, form_view};
@@ -39,7 +40,7 @@ fn items(
     expressions: &[Expression],
 ) -> Result<Vec<TypedExpression>, TypeError>
     ensures { Gives (λ items. map expression_view items.items) result
-        (spec.items (naming_in naming.now) (map syntax.expression_view expressions.now)) }
+        (steps.items (naming_in naming.now) (map syntax.expression_view expressions.now)) }
 {
     let mut items = Vec::new(alloc);
     for expression in expressions {

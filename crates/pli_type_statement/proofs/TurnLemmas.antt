@@ -9,8 +9,9 @@ use Rattle.pli_base.specs.declared.token.Fault.{Fault}
 use Rattle.pli_base.specs.views.StatementView as source
 use Rattle.pli_type.specs.Names.{NamedUnit}
 use Rattle.pli_type.specs.StatementTyping as spec
-use Rattle.pli_type.specs.StatementTyping.{Surroundings, WithProcedures, alone, of_own, together, made, put_before, leaves_nothing, body_typed, statement_typed, statements_typed, naming_at, items, put_form, condition, iteration}
+use Rattle.pli_type.specs.StatementTyping.{Surroundings, WithProcedures, alone, of_own, together, made, put_before, leaves_nothing, body_typed, statement_typed, statements_typed, naming_at, condition, iteration}
 use Rattle.pli_type.specs.Temporaries.{Next, behind, kept_by, temporaries_of}
+use Rattle.pli_type.specs.TypingSteps.{items, put_form}
 use Rattle.pli_type_tree.specs.TypedTree as typed
 use Rattle.pli_type_tree.specs.TypedTree.{Form, TypedExpression, TypedStatement, TypedStatements, StatementThen, NoStatement}
 use Rattle.pli_type_tree.specs.declared.statement.TypedStatement as program
@@ -126,7 +127,7 @@ do_group u s x number at None ss end =
     plain_group _ ∙ ap (λ y. made typed.Group (statements_typed u (spec.in_group ss s) y ss)) (same_next x.block (x.temporary + 0) x.block x.temporary refl (omega arith))
 do_group u s x number at (Some (tree.While e)) ss end =
     header_group headers.While (condition (naming_at u s) e) _
-    ∙ ap (λ y. spec.while_form (condition (naming_at u s) e) (statements_typed u (spec.in_group ss s) y ss)) (same_next x.block (x.temporary + 0) x.block x.temporary refl (omega arith))
+    ∙ ap (λ y. together typed.While (of_own (condition (naming_at u s) e)) (statements_typed u (spec.in_group ss s) y ss)) (same_next x.block (x.temporary + 0) x.block x.temporary refl (omega arith))
 do_group u s x number at (Some (tree.Iterate v equals e r c)) ss end =
     header_group headers.Iterate (iteration (naming_at u s) x.temporary v equals e r c) _
 

@@ -1,6 +1,6 @@
 -- Which kind of block a procedure or an ON-unit has.
 use Rattle.std.specs.Prelude.{if◌then◌else◌}
-use Rattle.pli_program.specs.Program.{BlockKind, Procedure, OnUnit}
+use Rattle.pli_program.specs.Kinds.{BlockKind, Procedure, OnUnit}
 use Rattle.pli_type_tree.specs.TypedTree.{TypedProcedure}
 
 -- that of an ON-unit, or that of a procedure

@@ -1,20 +1,11 @@
 -- What a unit's globals are: variables, which are made from templates, and entries, which have signatures.
 use Rattle.std.specs.Prelude.{Bool, true, false, Option, Some, None, List, [], ◌∷◌, if◌then◌else◌}
-use Rattle.pli_base.specs.Name.{Name}
 use Rattle.pli_map.specs.Description.{Description}
 use Rattle.pli_program.specs.declared.kind.VariableKind.{VariableKind}
 use Rattle.pli_program.specs.declared.kind.VariableKind.TheVariants.{Static, Controlled}
-use Rattle.pli_program.specs.Program.{ProgramVariable}
-use Rattle.pli_type_tree.specs.Templates.{Template, variable_of}
+use Rattle.pli_type_tree.specs.Templates.{Template}
 use Rattle.pli_type_tree.specs.TypedTree.{Signature, Global, OwnVariable, ExternalVariable, EntryPoint}
-
--- the variable that a global is, unless it is an entry
-abbrev pub global_variable : Global → Option (ProgramVariable Name)
-global_variable (OwnVariable kind t) =
-    Some (record { kind = kind; global = record { external = None; variable = variable_of t } })
-global_variable (ExternalVariable name kind t) =
-    Some (record { kind = kind; global = record { external = Some name; variable = variable_of t } })
-global_variable (EntryPoint name signature) = None
+pub use Rattle.pli_type_tree.specs.ProgramVariables.{global_variable}
 
 -- the templates of those that are variables
 abbrev pub templates_in : List Global → List Template

@@ -1,8 +1,10 @@
 pub mod Allocations
 pub mod Blocks
 pub mod Conversions
+pub mod Extents
 pub mod Globals
 pub mod Iterations
+pub mod ProgramVariables
 pub mod Templates
 pub mod TypedOperations
 pub mod TypedTree

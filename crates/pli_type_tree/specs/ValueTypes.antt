@@ -16,6 +16,7 @@ use Rattle.pli_operation.specs.declared.operation.Operation.TheVariants.{Concate
 use Rattle.pli_operation.specs.declared.operation.Operation.TheVariants.{Substring, Within}
 use Rattle.pli_operation.specs.declared.operation.Relation.{Relation}
 use Rattle.pli_operation.specs.declared.operation.Relation.TheVariants.{Equal, Unequal}
+pub use Rattle.pli_type_tree.specs.Extents.{longest}
 use Rattle.pli_type_tree.specs.TypedTree.{TypedOperation, Fit, Operate}
 use Rattle.pli_value.specs.Value.{Value, Number, Characters, Bits, Located}
 use Rattle.pli_value.specs.declared.locator.Locator.{Locator}
@@ -41,10 +42,6 @@ type_held (Bit n) = Some (Strings OfBits n n)
 type_held Pointer = Some Pointers
 type_held Offset = Some Offsets
 type_held d = None
-
--- no string is longer
-abbrev pub longest : ℕ
-longest = 32767
 
 -- what strings of a form are made of
 abbrev pub kind_of_form : StringForm → StringKind

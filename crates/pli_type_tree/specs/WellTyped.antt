@@ -15,6 +15,7 @@ use Rattle.pli_map.specs.declared.description.Bounds.{Bounds}
 use Rattle.pli_map.specs.declared.parameter.StringForm.{StringForm}
 use Rattle.pli_value.specs.Value.{Value}
 use Rattle.pli_program.specs.declared.kind.VariableKind.TheVariants.{Static, Controlled}
+pub use Rattle.pli_type_tree.specs.Extents.{is_area_type}
 use Rattle.pli_type_tree.specs.Globals.{kind_of, described_as, signature_of}
 use Rattle.pli_type_tree.specs.Templates.{variable_of}
 use Rattle.pli_type_tree.specs.TypedTree.{Root, InSlot, OfProgram, NewestOf, Located, TypedOperation}
@@ -80,11 +81,6 @@ IsNarrowDescription d = Unit {0}
 abbrev pub IsNarrow : ParameterType → Type 0
 IsNarrow (Stated d) = IsNarrowDescription d
 IsNarrow type = Unit {0}
-
--- an area
-abbrev pub is_area_type : ParameterType → Bool
-is_area_type (Stated d) = is_area d
-is_area_type type = false
 
 -- a block around: its number; its slots, the first ones, so many, those of its parameters; the labels of its
 -- lists that are running; and those among them that last while it runs, of its own list and of none of its

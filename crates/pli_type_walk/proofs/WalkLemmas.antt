@@ -5,8 +5,9 @@ use Rattle.pli_type.specs.Names.{Naming, NamedUnit}
 use Rattle.pli_type.specs.NamedUnits.{named_unit}
 use Rattle.pli_base.specs.views.StatementView.{unit_view}
 use Rattle.pli_resolve.specs.ResolvedUnits.{resolved_unit_of}
-use Rattle.pli_type.specs.StatementTyping.{Surroundings, WithProcedures, alone, of_own, together, made, naming_at, if_form}
+use Rattle.pli_type.specs.StatementTyping.{Surroundings, WithProcedures, alone, of_own, together, made, naming_at}
 use Rattle.pli_type.specs.Temporaries.{Next}
+use Rattle.pli_type.specs.TypingSteps.{if_form}
 use Rattle.pli_base.specs.answers.FailureAnswers.{Gives}
 use Rattle.pli_base.specs.declared.failure.Failure.{Failure}
 use Rattle.pli_base.specs.declared.failure.Failure.TheVariants as errors

@@ -3,7 +3,7 @@
 -- next block fits is as plain areas have it (own).
 use Rattle.std.specs.Prelude.{ℕ, nat_eq, nat_le, nat_lt, Bool, ◌&&◌, Option, Some, None, List, [], ◌∷◌, map}
 use Rattle.std.specs.Prelude.{replicate, if◌then◌else◌}
-use Rattle.pli_area.specs.Areas as area
+use Rattle.pli_area.specs.Placing as area
 use Rattle.pli_run.specs.declared.ending.RunError.TheVariants.{OutsideArea}
 use Rattle.pli_run.specs.declared.ending.RunError.TheVariants as error
 use Rattle.pli_map.specs.Same.{same}

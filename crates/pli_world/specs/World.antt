@@ -19,7 +19,7 @@ use Rattle.pli_map.specs.Sizes.{size_of}
 use Rattle.pli_value.specs.Value.{Value}
 use Rattle.pli_value.specs.declared.number.Raised.TheVariants as raised
 use Rattle.pli_operation.specs.Operations.{Calculation, Calculates, RaisesCondition, OutOfString, Misfits}
-use Rattle.pli_program.specs.Program.{ProgramVariable}
+use Rattle.pli_program.specs.Kinds.{ProgramVariable}
 use Rattle.pli_program.specs.declared.kind.VariableKind.{VariableKind}
 use Rattle.pli_program.specs.declared.kind.VariableKind.TheVariants as kinds
 use Rattle.pli_world.specs.Activations.{Activation, outward_from, with_newest, without_newest}

@@ -1,14 +1,15 @@
 -- Laws of expansion: its recursion is well founded, and it rests on the names that it looked up, and on
 -- nothing else.
-use Rattle.std.specs.Prelude.{◌≡◌, ℕ, suc, ◌≤◌, List, [], ◌∷◌, ◌++◌, length, Contains, Ok, Err, if◌then◌else◌}
+use Rattle.std.specs.Prelude.{◌≡◌, ℕ, suc, ◌≤◌, List, [], ◌∷◌, ◌++◌, length, Contains, Ok, if◌then◌else◌}
 use Rattle.pli_base.specs.Name.{Name}
 use Rattle.pli_base.specs.declared.code.Code.TheVariants.{RecursiveInclude}
 use Rattle.pli_base.specs.declared.token.Origin.{Origin}
 use Rattle.pli_members.specs.Members.{Store, lines_of, version_of}
 use Rattle.pli_base.specs.Words.{is_among}
-use Rattle.pli_include.specs.Expansion.{Look, Progress, Outcome, included, expanded_within, stopped}
+use Rattle.pli_include.specs.Expansion.{Look, Progress, included, expanded_within, stopped}
 use Rattle.pli_include.specs.Expansion.{found, looking}
 use Rattle.pli_include.specs.Expanded.{expansion_of, outcome_of}
+pub use Rattle.pli_include.specs.LookedIn.{looked_in}
 
 -- The level is never met: where no more tokens were read than may be, a directive is what its definition
 -- says, with the same level for the directives of the member that it names.
@@ -19,11 +20,6 @@ LevelIsNeverMet =
     ≡ (if is_among name path then stopped RecursiveInclude at s
     else found limit (included (suc limit) limit look (path ++ name ∷ []))
     at name (look name) (looking name s))
-
--- the names that were looked up
-abbrev pub looked_in : Outcome → List Name
-looked_in (Ok s) = s.looked
-looked_in (Err stop) = stop.looked
 
 -- the two have the same under each of the names
 abbrev pub Agree : Look → Look → List Name → Type 0

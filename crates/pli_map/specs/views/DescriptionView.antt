@@ -1,14 +1,10 @@
 -- What a description of the program says, apart from where it lies in memory.
-use Rattle.std.specs.Prelude.{List, [], ◌∷◌, map}
+use Rattle.std.specs.Prelude.{List, map}
 use Rattle.pli_map.specs.Description as tree
 use Rattle.pli_map.specs.declared.description.Description.{Description}
 use Rattle.pli_map.specs.declared.description.Description.TheOpen.{Description-F}
 use Rattle.pli_map.specs.declared.description.Description.TheFolds.{fold-Description}
-
--- a list of descriptions as the members of a structure
-abbrev pub members_of : List tree.Description → tree.Members
-members_of [] = tree.NoMembers
-members_of (d ∷ ds) = tree.MemberThen d (members_of ds)
+pub use Rattle.pli_map.specs.views.MembersView.{members_of}
 
 -- one level, with what each description inside says in its place
 abbrev pub level_view : Description-F tree.Description → tree.Description

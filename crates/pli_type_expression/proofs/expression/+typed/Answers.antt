@@ -9,6 +9,7 @@ use Rattle.pli_type.specs.FunctionCalls as calls
 use Rattle.pli_type.specs.References.{AsLocator, AsValue, NotLocated}
 use Rattle.pli_type.specs.views.ValueView.{value_view}
 use Rattle.pli_type.specs.Typing as typing
+use Rattle.pli_type.specs.TypingSteps as steps
 use Rattle.pli_type_names.specs.UnitNaming.{naming_in}
 use Rattle.pli_type_tree.specs.views.TypedView.{expression_view}
 use Rattle.pli_type_operands.specs.views.TypingView.{argument_view, denoted_view, role_view}
@@ -325,7 +326,7 @@ called-returns t c =
     let gs = map argument_view c.in_ok-arguments.arguments.items in
     gives_as value_view c.function_called.result _ _
     (call_typed n c.args.function c.args.at xs (Some (map role_view c.in-Some.roles.now)) given gs c.in_ok-arguments.ensures
-    ∙ ap (λ g. calls.or_bad_argument c.args.at (calls.of_arguments g c.args.function gs)) (sym c.greatest.ensures.value)) c.function_called.ensures
+    ∙ ap (λ g. steps.or_bad_argument c.args.at (calls.of_arguments g c.args.function gs)) (sym c.greatest.ensures.value)) c.function_called.ensures
 
 pub subscripts_in-all_subscripts-requires : goal.subscripts_in-all_subscripts-requires
 subscripts_in-all_subscripts-requires t c =

@@ -8,6 +8,7 @@ use Rattle.pli_type_parts.specs.Around.{blocks_of, surroundings_of}
 use Rattle.pli_type_parts.specs.views.AroundView.{around_view, lists_view}
 use Rattle.pli_type_simple.proofs.CallLemmas.{meant_label, no_jump}
 use Rattle.pli_type.specs.Typing.{or_fault}
+use Rattle.pli_type.specs.TypingSteps as steps
 use Rattle.pli_type_simple.proofs.jumps.jump.Goals as goal
 
 pub returns-in_default : goal.returns-in_default
@@ -24,5 +25,5 @@ returns-in-None c =
     let is = meant_label c.in-Label.statement (n.meaning c.args.label.at) (subst (λ a. IsMeantAs a (n.meaning c.args.label.at)) c.in-Label.is c.meaning.ensures) in
     subst (λ e. Fails e (spec.goto_typed n s c.args.label)) (sym c.fault-in-None.ensures)
     (ap (λ m. or_fault BadGoto c.args.label.at (spec.jump s m)) is
-    ∙ ap (λ o. or_fault BadGoto c.args.label.at (spec.jump_to c.in-Label.statement o))
+    ∙ ap (λ o. or_fault BadGoto c.args.label.at (steps.jump_to c.in-Label.statement o))
     (ap (λ ls. spec.label_found (blocks_of (lists_view ls)) c.in-Label.statement) (sym c.as_slice.ensures.value) ∙ sym c.outward_to.ensures ∙ c.in-None.is))

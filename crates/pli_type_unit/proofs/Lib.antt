@@ -1,0 +1,5 @@
+mod GlobalsAlike
+pub mod LimitsAlike
+mod NamesAlike
+mod SymbolsAlike
+mod UnitsAlike

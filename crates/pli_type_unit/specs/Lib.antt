@@ -1,0 +1,3 @@
+pub mod UnitNames
+pub mod examples
+pub mod laws

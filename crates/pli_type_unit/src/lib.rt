@@ -1,0 +1,7 @@
+//! Units as types see them: where their variables begin and what their names mean, and the law that this is what the
+//! type checker finds.
+#![tactic(auto)]
+
+mod laws;
+
+pub use laws::{name_examples, units_are_checked};
