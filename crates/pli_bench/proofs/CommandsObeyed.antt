@@ -22,8 +22,6 @@ use Rattle.pli_ledger.specs.Refused.{IsRefused}
 use Rattle.pli_ledger.specs.Work.{ledger_after}
 use Rattle.pli_ledger.specs.declared.stored.StoredModule.{StoredModule}
 use Rattle.pli_deck_write.specs.ModuleSpelling.{SpellsModule}
-use Rattle.pli_deck_write.specs.WrittenModules.{Spells}
-use Rattle.pli_deck_write.proofs.WrittenLaws.{as_spelled}
 use Rattle.pli_code.specs.declared.fault.DeckFault.{DeckFault}
 use Rattle.pli_run.specs.declared.ending.Ending.{Ending}
 use Rattle.pli_run.specs.declared.ending.Ran.{Ran}
@@ -187,7 +185,7 @@ read_as m = Ok m
 -- so is what is loaded of its bytes
 pub loaded_built : (s : State) (bytes slice : List ℕ) (m : Module) → Stands s bytes → slice ≡ bytes → ((n : Module) → SpellsModule slice n → read_as n ≡ read_as m) → scratch s.store.entries ≡ Made m
 loaded_built s bytes slice m at same loads =
-    let loaded = loads at.of.made (as_spelled slice at.of.made (subst (λ bs. Spells bs at.of.made) (sym same) at.of.spelled)) in
+    let loaded = loads at.of.made (subst (λ bs. SpellsModule bs at.of.made) (sym same) at.of.spelled) in
     let one : at.of.made ≡ m = cc in
     at.of.is ∙ ap Made one
 

@@ -24,7 +24,7 @@ use Rattle.pli_bench.specs.Exchanges.{Exchange}
 use Rattle.pli_bench.specs.Commands.{Command, Add, Delete, Insert, Replace, Remove, ListLines, ListMembers}
 use Rattle.pli_bench.specs.Commands.{Build, ListWork, Dump, Run, Quit, command_of}
 use Rattle.pli_bench.specs.Dumps.{hex_from}
-use Rattle.pli_deck_write.specs.WrittenModules.{module_spelling, Spells}
+use Rattle.pli_deck_write.specs.ModuleBytes.{module_written}
 
 -- the members, what is kept of their units, whether a module of them stands, and the steps of a bare RUN
 pub record State : Type 0 where
@@ -121,13 +121,11 @@ Builds e =
 abbrev pub work_line : Ledger → List ℕ
 work_line l = line (codes "EXPANDED " ++ decimal l.expanded ++ codes " COMPILED " ++ decimal l.compiled)
 
--- the bytes of the members' module are shown, if a module of them stands; they spell that module, and no
--- other
+-- the bytes of the members' module are shown, if a module of them stands
 abbrev pub Dumps : Bool → Exchange State → Type 0
 Dumps false e = Says not_built e
 Dumps true e =
-    (m : Module) × (scratch e.before.store.entries ≡ Made m) × Spells (module_spelling m).bytes m
-    × Says (hex_from 0 (module_spelling m).bytes ++ okay) e
+    (m : Module) × (scratch e.before.store.entries ≡ Made m) × Says (hex_from 0 (module_written m) ++ okay) e
 
 -- a run broke off: some first bytes of the output, a line end, and that memory was refused
 pub record Breaks (output answer : List ℕ) : Type 0 where

@@ -7,6 +7,7 @@ ghost use Rattle.pli_bench.specs.answers.Obeying.{Does, as_edit, edit_answer, en
 ghost use Rattle.pli_bench.specs.Exchanges.{span};
 ghost use Rattle.pli_bench.specs.Runs.{AnsweredOne, Marked, Served, Takes, Blames, piece_limit};
 ghost use Rattle.pli_bench.specs.Session.{Obeys, Step, no_memory, quits, opened};
+ghost use Rattle.pli_bench.specs.laws.ShownModules.{ShowsModule};
 
 use crate::answer::{put_ending, put_parts, put_refusal};
 use crate::command::{Command, read_command};
@@ -118,6 +119,14 @@ impl Bench {
                 Err(Failed) => Err(WriteFailed),
             },
         }
+    }
+
+    /// Law: the bytes that DUMP shows where a module stands spell the module of the members, and no other.
+    #[tactic(auto, using(crate::proofs::DumpsObeyed::shows))]
+    pub fn shows_its_module(&self)
+        ensures { ShowsModule self.now }
+    {
+        let _ = &self.standing;
     }
 
     /// Answers the commands of `reader` on `writer`, up to QUIT or to the end. Bytes are asked for at most `reads`

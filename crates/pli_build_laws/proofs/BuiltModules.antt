@@ -15,9 +15,10 @@ use Rattle.pli_link.specs.Links.{linked_unit, module_of}
 use Rattle.pli_link.specs.Names.{externals, procedures}
 use Rattle.pli_link.specs.Units.{Compiled, AreWritten}
 use Rattle.pli_link.specs.declared.linking.LinkFault.{LinkFault}
+use Rattle.pli_deck_write.specs.DeckBytes.{deck_written}
+use Rattle.pli_deck_write.specs.DeckFields.{any_version}
 use Rattle.pli_deck_write.specs.Spelling.{deck_bytes}
-use Rattle.pli_deck_write.specs.WrittenDecks.{deck}
-use Rattle.pli_deck_write.proofs.WrittenLaws.{deck_written}
+use Rattle.pli_deck_write.proofs.BytesAlike.{deck_same}
 use Rattle.pli_link_laws.specs.LinkedModules.{IsSaidAlone}
 use Rattle.pli_link_laws.proofs.LinkedFrom.{of_faultless}
 use Rattle.pli_link_laws.proofs.ModulesSay.{linked_modules_are_spelled}
@@ -48,8 +49,8 @@ made_of (b ∷ text) cs m h = let bad : ⊥ = cc in absurd bad
 -- a deck that is not too long has few bytes
 few_bytes : (d : Deck) → is_long d ≡ false → length (deck_bytes d) < 4294967296
 few_bytes d short =
-    let few = ltb-false 4294967295 (length (deck d).bytes) short in
-    let same = ap length (deck_written d) in
+    let few = ltb-false 4294967295 (length (deck_written d)) short in
+    let same = ap length (deck_same any_version d) in
     omega (arith, few, same)
 
 module _ (entries : List (Name × Member)) where

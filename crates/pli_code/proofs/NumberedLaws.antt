@@ -13,7 +13,8 @@ use Rattle.pli_map.specs.declared.dimension.WhichBound.{WhichBound}
 use Rattle.pli_map.specs.declared.dimension.WhichBound.TheVariants as bounds
 use Rattle.pli_map.specs.declared.parameter.StringForm.{StringForm}
 use Rattle.pli_map.specs.declared.parameter.StringForm.TheVariants as forms
-use Rattle.pli_code.specs.Numbered.{error_number, error_of, relation_number, relation_of, condition_number, condition_of, bound_number, which_of, string_number, string_form_of}
+use Rattle.pli_code.specs.Numbered.{error_number, relation_number, condition_number, bound_number, string_number}
+use Rattle.pli_code.specs.NumberReaders.{error_of, relation_of, condition_of, which_of, string_form_of}
 use Rattle.pli_code.specs.Instructions.{error, relation, condition, which_bound, string_form}
 use Rattle.pli_code.proofs.FieldLaws.{IsField, byte_law, shaped_law, from_to_law}
 

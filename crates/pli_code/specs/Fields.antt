@@ -8,7 +8,6 @@ use Rattle.std.specs.Prelude.{if◌then◌else◌}
 use Rattle.std.specs.Int.{Width, cast_unsigned, cast_signed, is_in_range}
 use Rattle.std.specs.List.{flat_map, list_all}
 use Rattle.byteorder.specs.Endian.{big_bytes, big_number}
-pub use Rattle.pli_code.specs.Spellings.{Form}
 use Rattle.pli_code.specs.declared.fault.DeckFault.{DeckFault}
 use Rattle.pli_code.specs.declared.fault.DeckFault.TheVariants.{Truncated, OutOfRange}
 
@@ -136,6 +135,12 @@ list_of counts f = record {
   fits = λ xs. counts.fits (length xs) && list_all f.fits xs;
   read = λ bytes. counts.read bytes >>= λ n. many f.read n.0 n.1;
 }
+
+-- one of several forms: a byte, its tag, says which, and what the form has stands behind the tag
+pub record Form : Type 0 where
+  pub tag : ℕ
+  pub bytes : List ℕ
+  pub fits : Bool
 
 -- the form of this tag, with a value of this field
 abbrev pub form : {X : Type 0} → (tag : ℕ) → Field X → X → Form

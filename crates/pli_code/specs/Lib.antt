@@ -3,14 +3,12 @@ pub mod CodeTables
 pub mod Decks
 pub mod FaultNumbers
 pub mod Fields
-pub mod InstructionForms
 pub mod Instructions
 pub mod ModuleParts
 pub mod Modules
+pub mod NumberReaders
 pub mod Numbered
-pub mod Numbers
 pub mod Operands
-pub mod Spellings
 pub mod Versions
 pub mod examples
 pub mod views

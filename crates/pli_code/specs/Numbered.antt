@@ -1,6 +1,5 @@
--- What the numbers stand for that bytes have for errors, relations, conditions, bounds and forms of strings
--- (own).
-use Rattle.std.specs.Prelude.{ℕ, [], ◌∷◌, get_or}
+-- The numbers that stand in bytes for errors, relations, conditions, bounds and forms of strings (own).
+use Rattle.std.specs.Prelude.{ℕ}
 use Rattle.pli_base.specs.declared.statement.Condition.{Condition}
 use Rattle.pli_base.specs.declared.statement.Condition.TheVariants as conditions
 use Rattle.pli_map.specs.declared.dimension.WhichBound.{WhichBound}
@@ -11,32 +10,52 @@ use Rattle.pli_run.specs.declared.ending.RunError.{RunError}
 use Rattle.pli_run.specs.declared.ending.RunError.TheVariants as errors
 use Rattle.pli_operation.specs.declared.operation.Relation.{Relation}
 use Rattle.pli_operation.specs.declared.operation.Relation.TheVariants as relations
-pub use Rattle.pli_code.specs.Numbers.{error_number, relation_number, condition_number, bound_number}
-pub use Rattle.pli_code.specs.Numbers.{string_number}
+use Rattle.pli_program.specs.Program.{BlockKind, Procedure, BeginBlock, OnUnit}
 
--- the error of a number from 1 to 13; a number that no error has is not asked for
-abbrev pub error_of : ℕ → RunError
-error_of n =
-    get_or (errors.TooManyActivations ∷ errors.SubscriptRange ∷ errors.StringRange ∷ errors.NullLocator
-    ∷ errors.DeadLocator ∷ errors.DescriptionMismatch ∷ errors.NoGeneration ∷ errors.OutsideArea
-    ∷ errors.NoReturnedValue ∷ errors.FixedOverflow ∷ errors.ZeroDivide ∷ errors.Area
-    ∷ errors.StorageLimit ∷ []) n errors.TooManyActivations
+-- the number of an error, from 1 to 13
+abbrev pub error_number : RunError → ℕ
+error_number errors.SubscriptRange = 1
+error_number errors.StringRange = 2
+error_number errors.NullLocator = 3
+error_number errors.DeadLocator = 4
+error_number errors.DescriptionMismatch = 5
+error_number errors.NoGeneration = 6
+error_number errors.OutsideArea = 7
+error_number errors.NoReturnedValue = 8
+error_number errors.FixedOverflow = 9
+error_number errors.ZeroDivide = 10
+error_number errors.Area = 11
+error_number errors.StorageLimit = 12
+error_number errors.TooManyActivations = 13
 
--- the relation of a number from 0 to 5
-abbrev pub relation_of : ℕ → Relation
-relation_of n =
-    get_or (relations.Equal ∷ relations.Unequal ∷ relations.Less ∷ relations.AtMost ∷ relations.Greater
-    ∷ []) n relations.AtLeast
+-- the number of a relation, from 0 to 5
+abbrev pub relation_number : Relation → ℕ
+relation_number relations.Equal = 0
+relation_number relations.Unequal = 1
+relation_number relations.Less = 2
+relation_number relations.AtMost = 3
+relation_number relations.Greater = 4
+relation_number relations.AtLeast = 5
 
--- the condition of a number from 0 to 2
-abbrev pub condition_of : ℕ → Condition
-condition_of n = get_or (conditions.FixedOverflow ∷ conditions.ZeroDivide ∷ []) n conditions.Area
+-- the number of a condition, from 0 to 2
+abbrev pub condition_number : Condition → ℕ
+condition_number conditions.FixedOverflow = 0
+condition_number conditions.ZeroDivide = 1
+condition_number conditions.Area = 2
 
--- the bound of a number, 0 or 1
-abbrev pub which_of : ℕ → WhichBound
-which_of n = get_or (bounds.Low ∷ []) n bounds.High
+-- the number of a bound, 0 or 1
+abbrev pub bound_number : WhichBound → ℕ
+bound_number bounds.Low = 0
+bound_number bounds.High = 1
 
--- the form of a number from 2 to 4
-abbrev pub string_form_of : ℕ → StringForm
-string_form_of n =
-    get_or (forms.Bit ∷ forms.Bit ∷ forms.Character ∷ forms.Varying ∷ []) n forms.Bit
+-- the number of a form of strings, from 2 to 4: the tag of its descriptions
+abbrev pub string_number : StringForm → ℕ
+string_number forms.Character = 2
+string_number forms.Varying = 3
+string_number forms.Bit = 4
+
+-- the number of a block's kind: 0 for a procedure, 1 for a BEGIN block and 2 for an ON-unit
+abbrev pub kind_number : BlockKind → ℕ
+kind_number Procedure = 0
+kind_number BeginBlock = 1
+kind_number OnUnit = 2

@@ -1,9 +1,11 @@
 //! The numbers that stand in bytes for errors, relations, conditions, bounds and forms of strings, and what they stand
 //! for.
 ghost use Rattle.std.specs.Prelude.{◌≡◌};
-ghost use Rattle.pli_code.specs.Numbered.{condition_number, condition_of, error_number, error_of, relation_number};
-ghost use Rattle.pli_code.specs.Numbered.{relation_of};
-ghost use Rattle.pli_code.specs.Numbered.{bound_number, string_form_of, string_number, which_of};
+ghost use Rattle.pli_code.specs.Numbered.{condition_number, error_number, relation_number};
+ghost use Rattle.pli_code.specs.NumberReaders.{condition_of, error_of};
+ghost use Rattle.pli_code.specs.NumberReaders.{relation_of};
+ghost use Rattle.pli_code.specs.Numbered.{bound_number, string_number};
+ghost use Rattle.pli_code.specs.NumberReaders.{string_form_of, which_of};
 
 use pli_base::statement::Condition;
 use pli_map::{StringForm, WhichBound};

@@ -1,3 +1,2 @@
 mod FaultsTold
-mod LongDecks
 mod TypedCompiled

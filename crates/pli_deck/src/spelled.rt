@@ -64,7 +64,7 @@ impl SpelledDeck {
     }
 
     /// Whether they are more than the four bytes of a deck's length in a module can count (own).
-    #[tactic(auto, using(crate::proofs::LongDecks::long_told))]
+    #[tactic(auto, using(pli_deck_write::proofs::BytesAlike::deck_same))]
     pub fn is_long(&self) -> bool
         ensures { result ≡ is_long (deck_view self.now) }
     {

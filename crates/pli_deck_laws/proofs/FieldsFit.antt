@@ -15,7 +15,8 @@ use Rattle.pli_value.specs.Value.{Value, Number, Characters, Bits, Located}
 use Rattle.pli_code.specs.Fields.{Field, u1, u2, u4, byte, from_to, list_of, count_of_one, ◌⊗◌}
 use Rattle.pli_code.specs.Instructions.{precision, bound, dimension_number}
 use Rattle.pli_code.specs.Versions.{written}
-use Rattle.pli_deck_write.specs.Descriptions.{string_length, area_size, bounds, dimensions, listed, members, element_of, description_within, description}
+use Rattle.pli_deck_write.specs.Descriptions.{string_length, area_size, bounds, dimensions, members, element_of, description_within, description}
+use Rattle.pli_map.specs.Description.{listed}
 use Rattle.pli_deck_write.specs.DeckFields.{is_written, is_name, name, optional, bit_string, integer, characters, constant, signature, parameter_count}
 use Rattle.pli_gen.specs.Limits.{member_count, has_many_members, one_has_many, has_many_types}
 use Rattle.pli_deck_laws.specs.Limits.{level_limit, IfThere, IsPrecision, IsLength, IsBound, AreBounds, IsDescribed, AreDescribed, IsDimension, IsOpenElement, IsParameterType, IsConstant}

@@ -21,7 +21,8 @@ use Rattle.pli_code.specs.Instructions.{instruction_in}
 use Rattle.pli_code.specs.Versions.{version_number}
 use Rattle.pli_code.specs.declared.version.Version.{Version}
 use Rattle.pli_code.specs.declared.version.Version.TheVariants.{First, Second, Third}
-use Rattle.pli_deck_write.specs.DeckFields.{is_name, name, flag, number_if, none_last, is_number_if, optional, byte_count, bits_in, bits_at, bit_string, integer, characters, constant_form, constant_readers, constant, initial, template, parameter_count, parameter_number, signature, global_form, global_readers, global, kind_number, kind_of, block_kind, block_of, block_parts, block, behind, past, after_magic, if_it_may, version_among, or_bad_version, version_in, code_of, code_parts, code, contents, deck_of, deck_parts, deck_in_versions}
+use Rattle.pli_deck_write.specs.DeckFields.{is_name, name, flag, number_if, none_last, is_number_if, optional, byte_count, bits_in, bits_at, bit_string, integer, characters, constant_form, constant_readers, constant, initial, template, parameter_count, parameter_number, signature, global_form, global_readers, global, kind_of, block_kind, block_of, block_parts, block, behind, past, after_magic, if_it_may, version_among, or_bad_version, version_in, code_of, code_parts, code, contents, deck_of, deck_parts, deck_in_versions}
+use Rattle.pli_code.specs.Numbered.{kind_number}
 use Rattle.pli_code.proofs.FieldLaws.{AreBytes-drop, bind_ok, ok_is, held_ok, guard_ok, both_true, Taken, IsField, nothing_law, byte_law, u2_law, u4_law, count_law, byte_again, as_shaped, answered, checked_law, word_law, long_law, followed_law, ◌⊠◌, shaped_law, list_law, from_to_law}
 use Rattle.pli_code.proofs.FormLaws.{AllRead, unknown_reads, made_reads, made_again, tagged_law}
 use Rattle.pli_deck_write.proofs.DescriptionLaws.{description_law}

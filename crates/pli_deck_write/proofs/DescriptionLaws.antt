@@ -10,9 +10,10 @@ use Rattle.pli_map.specs.Description.{Description, FixedBinary, Character, Varyi
 use Rattle.pli_map.specs.Description.{Area, Array, Structure, Members, NoMembers, MemberThen}
 use Rattle.pli_map.specs.ParameterTypes.{ParameterType, Stated, AnyString, AnyArray, ArrayOf, StructureOf}
 use Rattle.pli_map.specs.ParameterTypes.{is_open, listed_types, structure_with, array_of, structure_of}
+use Rattle.pli_map.specs.Description.{listed}
 use Rattle.pli_map.specs.views.DescriptionView.{members_of}
 use Rattle.pli_code.specs.Fields.{AreBytes, BothWays, Field, nothing, ◌⊗◌, form, unknown, opened_by, may_begin, u2, u4, count_of_one, from_to, checked}
-use Rattle.pli_deck_write.specs.Descriptions.{string_length, area_size, bounds, dimensions, listed, members, is_element_tag, is_element, element_of, form_if, any_string_tag, type_form, open_readers, type_readers, too_deep, description_within, description}
+use Rattle.pli_deck_write.specs.Descriptions.{string_length, area_size, bounds, dimensions, members, is_element_tag, is_element, element_of, form_if, any_string_tag, type_form, open_readers, type_readers, too_deep, description_within, description}
 use Rattle.pli_code.specs.Instructions.{precision, bound, dimension_number}
 use Rattle.pli_code.specs.Versions.{has_stars}
 use Rattle.pli_code.specs.declared.version.Version.{Version}

@@ -20,7 +20,8 @@ use Rattle.pli_map.specs.views.ParameterView.{type_view}
 use Rattle.pli_code.specs.Fields.{list}
 use Rattle.pli_code.specs.Versions.{written}
 use Rattle.pli_code.specs.declared.version.Version.{Version}
-use Rattle.pli_deck_write.specs.Descriptions.{any_string_tag, type_form, dimensions, listed, description_within, description}
+use Rattle.pli_deck_write.specs.Descriptions.{any_string_tag, type_form, dimensions, description_within, description}
+use Rattle.pli_map.specs.Description.{listed}
 use Rattle.pli_deck_write.proofs.DescriptionViews.{fixed_said, character_said, varying_said, bit_said, pointer_said, offset_said, array_said, structure_said, stated_said, any_string_said, any_array_said, array_of_said, structure_of_said}
 use Rattle.pli_deck_write.proofs.TypeLemmas.{listed-types_of}
 

@@ -1,3 +1,4 @@
+pub mod BytesAlike
 pub mod DeckLaws
 pub mod DescriptionLaws
 pub mod DescriptionPuts
@@ -10,4 +11,3 @@ pub mod SpellingLaws
 pub mod TypeLemmas
 pub mod WholeLaws
 pub mod Worked
-pub mod WrittenLaws

@@ -1,5 +1,5 @@
--- How a deck's items are written and read, by the version.
-use Rattle.std.specs.Prelude.{ℕ, ◌+◌, ◌/◌, nat_eq, nat_le, nat_lt, Bool, true, ℤ}
+-- The bytes of a deck's items: numbers, and what they stand in, by the version.
+use Rattle.std.specs.Prelude.{ℕ, ◌+◌, ◌/◌, nat_eq, nat_le, nat_lt, Bool, true, false, ℤ}
 use Rattle.std.specs.Prelude.{List, [], ◌∷◌, ◌++◌, length, take, drop, Option, Some, None, Result, Ok}
 use Rattle.std.specs.Prelude.{Err, get_or}
 use Rattle.std.specs.Prelude.{if◌then◌else◌}
@@ -10,6 +10,7 @@ use Rattle.pli_map.specs.ParameterTypes.{ParameterType}
 use Rattle.pli_value.specs.Locators.{is_null}
 use Rattle.pli_value.specs.Packing.{packed, unpacked}
 use Rattle.pli_value.specs.Value.{Value, Number, Characters, Bits, Located}
+use Rattle.pli_value.specs.declared.locator.Locator.{Locator}
 use Rattle.pli_value.specs.declared.locator.Locator.TheVariants as locators
 use Rattle.pli_code.specs.declared.fault.DeckFault.TheVariants.{Truncated, BadMagic, BadVersion}
 use Rattle.pli_code.specs.declared.fault.DeckFault.{DeckFault}
@@ -23,12 +24,17 @@ use Rattle.pli_code.specs.Fields.{Field, Form, Reader, byte_at, nothing, checked
 use Rattle.pli_code.specs.Fields.{◌⊗◌, shaped, list_of, form, made, unknown, tagged, byte, u1, u2, u4}
 use Rattle.pli_code.specs.Fields.{from_to, count_of_one, list}
 use Rattle.pli_deck_write.specs.Descriptions.{description}
-pub use Rattle.pli_deck_write.specs.WrittenDecks.{is_written, locator_tag, kind_number}
 use Rattle.pli_code.specs.Instructions.{instruction_in}
 use Rattle.pli_code.specs.Versions.{version_number}
 use Rattle.pli_code.specs.declared.version.Version.{Version}
 use Rattle.pli_code.specs.declared.version.Version.TheVariants.{First, Second, Third}
 use Rattle.pli_program.specs.declared.kind.VariableKind.TheVariants.{Static, Controlled}
+use Rattle.pli_code.specs.Numbered.{kind_number}
+
+-- a text is this name, as it is written in upper case
+abbrev pub is_written : Option Name → List ℕ → Bool
+is_written None text = false
+is_written (Some n) text = bytes_eq n text
 
 -- a text is a name in upper case
 abbrev pub is_name : List ℕ → Bool
@@ -96,6 +102,11 @@ integer Third = signed 8 w64 9223372036854775807
 -- a string of characters, with a count of two bytes
 unfoldable pub characters : Field (List ℕ)
 characters = list_of (from_to 0 32767 u2) byte
+
+-- the tag of a locator: 4 of a pointer, 5 of an offset
+abbrev pub locator_tag : Locator → ℕ
+locator_tag (locators.Offset position) = 5
+locator_tag pointer = 4
 
 -- the form of a constant; of locators null alone has a spelling, a tag behind which nothing stands
 abbrev pub constant_form : Version → Value → Form

@@ -1,9 +1,11 @@
--- How descriptions, and types in which a `*` stands, are written and read (own).
-use Rattle.std.specs.Prelude.{ℕ, zero, suc, ◌%◌, nat_eq, int_le, Bool, false, ◌&&◌, ◌||◌, List, []}
+-- The bytes of descriptions, and of types in which a `*` stands (own). Their precisions are those of a
+-- version, and so is whether a `*` may stand.
+use Rattle.std.specs.Prelude.{ℕ, zero, suc, ◌%◌, nat_eq, int_le, Bool, true, false, ◌&&◌, ◌||◌, List, []}
 use Rattle.std.specs.Prelude.{◌∷◌, map, get_or, if◌then◌else◌}
 use Rattle.std.specs.Int.{is_in_range}
 use Rattle.std.specs.List.{list_any}
 use Rattle.pli_map.specs.declared.description.Bounds.{Bounds}
+use Rattle.pli_map.specs.declared.parameter.StringForm.{StringForm}
 use Rattle.pli_map.specs.declared.parameter.StringForm.TheVariants as forms
 use Rattle.pli_map.specs.Description.{Description, FixedBinary, Character, Varying, Bit, Pointer, Offset}
 use Rattle.pli_map.specs.Description.{Area, Array, Structure}
@@ -13,8 +15,8 @@ use Rattle.pli_code.specs.Fields.{Field, Form, Reader, nothing, checked, ◌⊗�
 use Rattle.pli_code.specs.Fields.{unknown, tagged, opened_by, u2, u4, from_to, count_of_one}
 use Rattle.pli_code.specs.Instructions.{precision, bound, dimension_number}
 use Rattle.pli_code.specs.Versions.{has_stars}
-pub use Rattle.pli_deck_write.specs.WrittenTypes.{listed, is_element, any_string_tag}
 use Rattle.pli_code.specs.declared.version.Version.{Version}
+use Rattle.pli_map.specs.Description.{listed}
 
 -- a length of a string
 abbrev pub string_length : Field ℕ
@@ -41,6 +43,15 @@ members inner = list_of (from_to 1 65535 u2) inner
 abbrev pub is_element_tag : (tag : ℕ) → Bool
 is_element_tag tag = is_in_range 1 6 tag || is_in_range 10 12 tag
 
+-- it is such an element
+abbrev pub is_element : ParameterType → Bool
+is_element (Stated (Area n)) = false
+is_element (Stated (Array bs element)) = false
+is_element (Stated (Structure ds)) = false
+is_element (Stated scalar) = true
+is_element (AnyString f) = true
+is_element other = false
+
 -- such an element, by the field of what stands there; its tag is looked at first
 abbrev pub element_of : Field ParameterType → Field ParameterType
 element_of inner = record {
@@ -64,6 +75,12 @@ description_form v inner (Structure ds) = form 9 (members inner) (map Stated (li
 -- a form that may stand there if this is so
 abbrev pub form_if : Bool → Form → Form
 form_if good f = record { tag = f.tag; bytes = f.bytes; fits = good && f.fits }
+
+-- the tag of a string of any length
+abbrev pub any_string_tag : StringForm → ℕ
+any_string_tag forms.Character = 10
+any_string_tag forms.Varying = 11
+any_string_tag forms.Bit = 12
 
 -- a type, by the field of those within it. A string of any length is its tag alone; arrays and structures with
 -- something open within them have the tags of those that are stated

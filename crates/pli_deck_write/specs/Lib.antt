@@ -1,13 +1,12 @@
+pub mod DeckBytes
 pub mod DeckFaults
 pub mod DeckFields
-pub mod DeckStands
 pub mod Descriptions
+pub mod InstructionBytes
+pub mod ModuleBytes
 pub mod ModuleFields
 pub mod ModuleSpelling
 pub mod Spelling
 pub mod Whole
-pub mod WrittenDecks
-pub mod WrittenModules
-pub mod WrittenTypes
 pub mod answers
 pub mod examples

@@ -1,8 +1,12 @@
--- How modules are written and read (own).
+-- The bytes of modules (own): the decks of all units, and what their external names stand for.
 use Rattle.std.specs.Prelude.{ℕ, zero, suc, nat_eq, nat_lt, Bool, true, false, ◌&&◌, List}
 use Rattle.std.specs.Prelude.{[], ◌∷◌, ◌++◌, length, take, drop, Option, Some, None, Result, Ok, Err}
 use Rattle.std.specs.Prelude.{if◌then◌else◌}
+use Rattle.std.specs.Cmp.Lexicographic.{slice_cmp}
 use Rattle.std.specs.List.{flat_map, list_all, filter}
+use Rattle.std.specs.declared.cmp.Ordering.{Ordering}
+use Rattle.std.specs.declared.cmp.Ordering.TheVariants.{Less}
+use Rattle.std.specs.Ordering.{nat_cmp}
 use Rattle.pli_base.specs.Name.{Name}
 use Rattle.pli_code.specs.ModuleParts.{External, Member, Module}
 use Rattle.pli_code.specs.declared.fault.DeckFault.{DeckFault}
@@ -16,10 +20,20 @@ use Rattle.pli_deck_write.specs.DeckFields.{name, after_magic, version_in, any_v
 use Rattle.pli_deck_write.specs.DeckFields.{deck_in_versions}
 use Rattle.pli_deck_write.specs.DeckFaults.{fault_of}
 use Rattle.pli_deck_write.specs.Spelling.{deck_bytes, deck_read_in}
-pub use Rattle.pli_deck_write.specs.WrittenModules.{is_less, comes_after, global_tag, is_external}
-use Rattle.pli_code.specs.Decks.{Deck}
+use Rattle.pli_code.specs.Decks.{Deck, CodedGlobal, OwnVariable, ExternalVariable, EntryPoint}
+use Rattle.pli_program.specs.declared.kind.VariableKind.TheVariants.{Static, Controlled}
 
 -- ---- externals, in the order of their names
+
+-- the first of two comes before the second
+abbrev pub is_less : Ordering → Bool
+is_less Less = true
+is_less other = false
+
+-- a name comes behind that of the external before, if there is one
+abbrev pub comes_after : Option External → Name → Bool
+comes_after None n = true
+comes_after (Some e) n = is_less (slice_cmp nat_cmp e.name n)
 
 -- an external of its parts
 abbrev pub external_of : Name × (ℕ × (ℕ × ℕ)) → External
@@ -83,6 +97,18 @@ sized_deck v = record {
       && ((deck_in_versions (same_version v)).fits d && is_none (fault_of d));
   read = λ bytes. u4.read bytes >>= λ n. deck_in v n.0 n.1;
 }
+
+-- which of the five forms a global has
+abbrev pub global_tag : CodedGlobal → ℕ
+global_tag (OwnVariable Static _) = 0
+global_tag (OwnVariable Controlled _) = 1
+global_tag (ExternalVariable _ Static _) = 2
+global_tag (ExternalVariable _ Controlled _) = 3
+global_tag (EntryPoint _ _) = 4
+
+-- a global that other units know by its name
+abbrev pub is_external : CodedGlobal → Bool
+is_external g = nat_lt 1 (global_tag g)
 
 -- just one entry for each external global
 abbrev pub links_of : Deck → Field (List ℕ)

@@ -4,7 +4,6 @@ ghost use Rattle.pli_code.specs.declared.version.Version.{Version};
 ghost use Rattle.pli_deck_write.specs.Descriptions.{description};
 ghost use Rattle.pli_deck_write.specs.Spelling.{ReadIsSpelled, SpelledIsRead, OneSpelling, OneDeck};
 ghost use Rattle.pli_deck_write.specs.ModuleSpelling.{ReadModuleIsSpelled, SpelledModuleIsRead, OneModule};
-ghost use Rattle.pli_deck_write.specs.ModuleSpelling.{ModulesAsWritten, OneAsWritten};
 ghost use Rattle.pli_deck_write.specs.examples.DeckExamples.{WrittenSo, ReadSo};
 ghost use Rattle.pli_deck_write.specs.examples.FaultExamples.{DeckFaultsAre, StarFaultsAre};
 ghost use Rattle.pli_deck_write.specs.examples.ModuleExamples.{ModulesWrittenSo, ModulesReadSo, ModuleFaultsAre};
@@ -32,13 +31,6 @@ pub fn modules_both_ways()
     ensures read { ReadModuleIsSpelled }
     ensures spelled { SpelledModuleIsRead }
     ensures one_module { OneModule }
-{}
-
-/// Laws: a module is spelled by the bytes that it is written as, and no two modules are written as the same bytes.
-#[tactic(auto, using(crate::proofs::WrittenLaws::modules_as_written, crate::proofs::WrittenLaws::one_as_written))]
-pub fn modules_as_written()
-    ensures written { ModulesAsWritten }
-    ensures one { OneAsWritten }
 {}
 
 /// Worked examples: decks with their bytes, and bytes that are none.

@@ -4,6 +4,7 @@ ghost use Rattle.std.specs.List.{flat_map};
 ghost use Rattle.byteorder.specs.Endian.{big_bytes};
 ghost use Rattle.pli_code.specs.Fields.{u2, ◌⊗◌};
 ghost use Rattle.pli_deck_write.specs.DeckFields as deck_fields;
+ghost use Rattle.pli_code.specs.Numbered as numbered;
 ghost use Rattle.pli_program.specs.Templates as templates;
 ghost use Rattle.pli_type_tree.specs.views.TemplateView.{initial_view};
 ghost use Rattle.pli_code.specs.CodeTables as tables;
@@ -228,7 +229,7 @@ impl PutsOne for Globals {
 
 /// The number of a kind of blocks.
 fn kind_number(kind: BlockKind) -> u8
-    ensures { result ≡ deck_fields.kind_number (kind_view kind) }
+    ensures { result ≡ numbered.kind_number (kind_view kind) }
 {
     match kind {
         BlockKind::Procedure => 0,

@@ -10,7 +10,6 @@ use Rattle.pli_code.specs.views.CodeView.{lent_member_view, lent_module_view}
 use Rattle.pli_deck_write.specs.ModuleSpelling.{module_bytes, SpellsModule}
 use Rattle.pli_deck_write.specs.Spelling.{deck_bytes}
 use Rattle.pli_deck_write.specs.answers.SpelledUnits.{AreDecks}
-use Rattle.pli_deck_write.proofs.WrittenLaws.{as_written}
 use Rattle.pli_deck_laws.specs.UnitTypes.{IsTypedUnit}
 use Rattle.pli_build_laws.proofs.BuiltModules.{built_modules_are_spelled}
 use Rattle.pli_meaning.specs.Scratch.{scratch, Made}
@@ -24,7 +23,7 @@ pub is_of_members : (entries : List (Name × Member)) (m : LentModule) (bytes : 
 is_of_members entries m bytes few is typed same = record {
   made = lent_module_view m;
   is = is;
-  spelled = as_written bytes (lent_module_view m) (subst (λ bs. SpellsModule bs (lent_module_view m)) (sym same) (built_modules_are_spelled entries (lent_module_view m) few is typed));
+  spelled = subst (λ bs. SpellsModule bs (lent_module_view m)) (sym same) (built_modules_are_spelled entries (lent_module_view m) few is typed);
 }
 
 -- the decks of what is linked are those of the units

@@ -11,12 +11,12 @@ use Rattle.pli_map.specs.Variables.{Variable}
 use Rattle.pli_value.specs.declared.locator.Locator.{Locator}
 use Rattle.pli_value.specs.declared.locator.Locator.TheVariants.{Null, Pointer, Offset}
 use Rattle.pli_world.specs.Storage.{Block, Generation, Based, Place, block_at, contents_of, generation_in}
-use Rattle.pli_world.specs.World.{World, Answer, Yields, Raises, Wrong, further, made_of, used, led_into, block_in, unless_dead, unless_gone, unless_replaced}
+use Rattle.pli_world.specs.World.{World, Answer, Yields, Raises, Wrong, further, made_of, used, led_into, block_in, unless_replaced, unless_dead}
 use Rattle.pli_world.specs.Areas.{area_found, allocated_in, assigned, emptied, end_of_blocks, is_whole_area, is_within, offset_in, place_in, pointer_in, put_at, with_area, with_block}
 use Rattle.pli_world.specs.Targets.{Target, target_at}
 use Rattle.pli_stacks.specs.laws.Operations.{SameBeside, AnswerStays}
 use Rattle.pli_stacks.proofs.StorageAlone.{same_beside, Leaves, behind_leaves, making_stays, behind_made}
-use Rattle.pli_world.specs.Locating.{unless_ended, unless_other, located, is_allocated, is_whole_of, pointer_to, ended}
+use Rattle.pli_world.specs.Locating.{unless_other, located, is_allocated, is_whole_of, pointer_to, ended}
 use Rattle.pli_world.specs.Locating.{based, based_allocated, based_freed, addressed}
 use Rattle.pli_locators.specs.laws.AreaLaws as area
 use Rattle.pli_locators.specs.laws.Operations as law
@@ -33,7 +33,7 @@ leaves_stays w (Yields x v) same = subst (SameBeside w) (sym same) (same_beside 
 leaves_stays w (Raises e v) same = same
 leaves_stays w Wrong same = tt
 
-unless_ended_leaves : (o : Option Target) (w : World) → Leaves w (unless_ended o w)
+unless_ended_leaves : (o : Option Target) (w : World) → Leaves w (unless_dead o w)
 unless_ended_leaves None w = refl
 unless_ended_leaves (Some t) w = refl
 
@@ -48,7 +48,7 @@ pub located_leaves : (d : Description) (l : _) (w : World) → Leaves w (located
 unfolding located
 located_leaves d Null w = refl
 located_leaves d (Pointer n k) w =
-    leaves_further w (unless_ended (target_at n k w.storage) w) (unless_other d) (unless_ended_leaves (target_at n k w.storage) w)
+    leaves_further w (unless_dead (target_at n k w.storage) w) (unless_other d) (unless_ended_leaves (target_at n k w.storage) w)
     (λ t. unless_other_leaves d t w)
 located_leaves d (Offset k) w = tt
 
@@ -75,7 +75,7 @@ living_leaves : (o : Option Generation) (w : World) → Leaves w (unless_dead o 
 living_leaves None w = refl
 living_leaves (Some g) w = refl
 
-block_leaves : (o : Option Block) (w : World) → Leaves w (unless_gone o w)
+block_leaves : (o : Option Block) (w : World) → Leaves w (unless_dead o w)
 block_leaves None w = refl
 block_leaves (Some b) w = refl
 
@@ -83,7 +83,7 @@ led_leaves : (p : Place) (g : Generation) (w : World) → Leaves w (led_into p g
 led_leaves p g w =
     leaves_if w (nat_eq p.position 0) (Yields (contents_of g) w) _ refl
     (leaves_further w (block_in g p.position p.whole w) _
-    (leaves_further w (unless_gone (block_at g.blocks p.position) w) (unless_replaced p.whole) (block_leaves (block_at g.blocks p.position) w)
+    (leaves_further w (unless_dead (block_at g.blocks p.position) w) (unless_replaced p.whole) (block_leaves (block_at g.blocks p.position) w)
     (λ b. leaves_if w (same b.description p.whole) (Yields b w) (Raises DescriptionMismatch w) refl refl))
     (λ b. refl))
 

@@ -21,8 +21,9 @@ use Rattle.pli_value.specs.declared.locator.Locator.TheVariants.{Pointer}
 use Rattle.pli_world.specs.Storage.{Based, Place}
 use Rattle.pli_world.specs.Targets.{Target, target_at}
 use Rattle.pli_world.specs.World.{World, Answer, Yields, Raises, Wrong, further, made_of}
-use Rattle.pli_world.specs.Locating.{unless_ended, unless_other, located, based, pointer_to, based_allocated, is_allocated, ended, based_freed, addressed}
+use Rattle.pli_world.specs.Locating.{unless_other, located, based, pointer_to, based_allocated, is_allocated, ended, based_freed, addressed}
 use Rattle.pli_stacks.proofs.AnsweredCalls.{first_refused, second_decides}
+use Rattle.pli_world.specs.World.{unless_dead}
 
 pub unless_other_same : (d : Description) (t : Target) (w : World) → same t.place.description d ≡ true → unless_other d t w ≡ Yields t w
 unless_other_same d t w e = rw e refl
@@ -34,18 +35,18 @@ unless_other_differs d t w e = rw e refl
 -- ---- locators
 
 module _ (d : Description) (number position : ℕ) (w : World) where
-  pub located_dead : (f : StoreFault) → Answered target_view (Err f) w w (unless_ended (target_at number position w.storage) w)
+  pub located_dead : (f : StoreFault) → Answered target_view (Err f) w w (unless_dead (target_at number position w.storage) w)
       → Answered target_view (Err f) w w (located d (Pointer number position) w)
   unfolding located
   located_dead f answer =
-      first_refused target_view target_view f w w w (unless_ended (target_at number position w.storage) w) (unless_other d) answer
+      first_refused target_view target_view f w w w (unless_dead (target_at number position w.storage) w) (unless_other d) answer
 
   pub located_there : (t : CodeTarget) (r : Result CodeTarget StoreFault)
-      → Answered target_view (Ok t) w w (unless_ended (target_at number position w.storage) w)
+      → Answered target_view (Ok t) w w (unless_dead (target_at number position w.storage) w)
       → Answered target_view r w w (unless_other d (target_view t) w) → Answered target_view r w w (located d (Pointer number position) w)
   unfolding located
   located_there t r answer next =
-      second_decides target_view target_view t r w w (unless_ended (target_at number position w.storage) w) (unless_other d) answer next
+      second_decides target_view target_view t r w w (unless_dead (target_at number position w.storage) w) (unless_other d) answer next
 
 -- ---- BASED variables
 

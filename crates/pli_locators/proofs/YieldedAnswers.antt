@@ -12,7 +12,8 @@ use Rattle.pli_world.specs.World.{World, Answer, Yields, Raises, Wrong, further}
 use Rattle.pli_world.specs.Targets.{Target, block_target, target_at, target_in}
 use Rattle.pli_stacks.specs.laws.Operations.{IfYields}
 use Rattle.pli_stacks.proofs.YieldedAnswers.{yields_guarded}
-use Rattle.pli_world.specs.Locating.{pointer_to, unless_ended, unless_other, located}
+use Rattle.pli_world.specs.Locating.{pointer_to, unless_other, located}
+use Rattle.pli_world.specs.World.{unless_dead}
 
 -- a pointer leads to this, and the world stays
 pub record IsTarget (l : Locator) (w : World) (t : Target) (v : World) : Type 0 where
@@ -57,7 +58,7 @@ yields_located d Null w = tt
 yields_located d (Pointer number position) w = by (target_at number position w.storage) refl
   where
     by : (o : Option Target) → target_at number position w.storage ≡ o
-        → IfYields (further (unless_ended o w) (unless_other d)) (IsTarget (Pointer number position) w)
+        → IfYields (further (unless_dead o w) (unless_other d)) (IsTarget (Pointer number position) w)
     by None e = tt
     by (Some t) e =
         yields_guarded (same t.place.description d) (Yields t w) (Raises DescriptionMismatch w) (IsTarget (Pointer number position) w)

@@ -7,12 +7,13 @@ ghost use Rattle.pli_store.specs.answers.Answered.{Answered};
 ghost use Rattle.pli_store.specs.views.StorageView.{SameStorage, made_count, place_view, storage_view, target_view};
 ghost use Rattle.pli_store.specs.views.StorageView.{with_storage};
 ghost use Rattle.pli_world.specs.Areas.{allocated_in};
-ghost use Rattle.pli_world.specs.Locating.{addressed, based_allocated, based_freed, located, pointer_to, unless_ended};
+ghost use Rattle.pli_world.specs.Locating.{addressed, based_allocated, based_freed, located, pointer_to};
 ghost use Rattle.pli_world.specs.Locating.{unless_other, without_whole};
 ghost use Rattle.pli_world.specs.Locating as plain;
 ghost use Rattle.pli_world.specs.Targets.{target_at};
 ghost use Rattle.pli_type_tree.specs.Templates.{variable_of};
 ghost use Rattle.pli_type_tree.specs.views.TemplateView.{initial_view};
+ghost use Rattle.pli_world.specs.World.{unless_dead};
 
 use pli_map::{Description, far_size};
 use pli_run::RunError;
@@ -31,7 +32,7 @@ fn living_at<'m>(
     generation: u32,
     position: u32,
 ) -> Result<Target<'m>, StoreFault>
-    ensures { (w : World) → Answered target_view result w w (unless_ended
+    ensures { (w : World) → Answered target_view result w w (unless_dead
         (target_at generation position (storage_view storage.now)) w) }
 {
     match storage.living(generation, position) {

@@ -25,3 +25,8 @@ mutual
 -- the description of AREA(n): an area's size is a multiple of 8 bytes
 abbrev pub area : ℕ → Description
 area n = Area (next_multiple_of n 8)
+
+-- the members of a structure, as a list
+abbrev pub listed : Members → List Description
+listed NoMembers = []
+listed (MemberThen d ds) = d ∷ listed ds

@@ -2,6 +2,7 @@
 use Rattle.std.specs.Prelude.{refl}
 use Rattle.pli_base.specs.Reading.{misfit, taken, misplaced}
 use Rattle.pli_base.specs.Words.{behind, name_first}
+use Rattle.pli_code.specs.Instructions.{instruction}
 use Rattle.pli_declare.specs.Resolution.{resolution_faults}
 use Rattle.pli_declare.specs.Resolved.{resolved_of}
 use Rattle.pli_declare_attributes.specs.Agreement.{set_agrees, is_missing}
@@ -12,7 +13,8 @@ use Rattle.pli_declare_attributes.specs.Initials.{is_bad_initial}
 use Rattle.pli_declare_attributes.specs.Types.{is_bad_precision, is_bad_length, scalar_of}
 use Rattle.pli_declare_outline.specs.Outlines.{outline_of}
 use Rattle.pli_declare_variables.specs.Places.{is_built_in}
-use Rattle.pli_deck_write.specs.WrittenTypes.{type_within}
+use Rattle.pli_deck_write.specs.Descriptions.{description_within}
+use Rattle.pli_deck_write.specs.DeckFields.{name, optional, constant, template, signature, global, block, code, contents, deck_in_versions}
 use Rattle.pli_include.specs.Expansion.{read_pieces, included, expanded_within}
 use Rattle.pli_include.specs.Pieces.{pieces_after}
 use Rattle.pli_lex.specs.Reading.{string_from, token_at, closing_width, piece_at, tokens_after}

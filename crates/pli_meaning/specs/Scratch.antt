@@ -29,7 +29,7 @@ use Rattle.pli_machine_step.specs.Outcomes.{Outcome}
 use Rattle.pli_code.specs.Decks.{Deck}
 use Rattle.pli_code.specs.ModuleParts.{Module}
 use Rattle.pli_code.specs.Versions.{written}
-use Rattle.pli_deck_write.specs.WrittenDecks.{deck}
+use Rattle.pli_deck_write.specs.DeckBytes.{deck_written}
 use Rattle.pli_gen_emit.specs.Coding.{code_of}
 use Rattle.pli_gen.specs.Limits.{is_too_long}
 use Rattle.pli_meaning_tree.specs.TreeMeaning.{whole_run}
@@ -95,7 +95,7 @@ compiled_tree u = record { version = written; name = u.procedure; is_main = u.is
 
 -- a deck has more bytes than the four bytes of its length in a module can count (own)
 abbrev pub is_long : Deck → Bool
-is_long d = nat_lt 4294967295 (length (deck d).bytes)
+is_long d = nat_lt 4294967295 (length (deck_written d))
 
 -- a deck, if it is not too long
 abbrev pub short_deck : Deck → Result Deck (List Fault)

@@ -48,6 +48,15 @@ and_then (Spent w) go = Spent w
 and_then Lost go = Lost
 and_then Short go = Short
 
+infixl 10 ◌>>=◌
+-- one thing is done, and then another with what it has given
+abbrev pub ◌>>=◌ : {A B : Type 0} → Doing A → (A → Doing B) → Doing B
+go >>= next = λ w left. and_then (go w left) next
+
+-- this is given, and nothing is done
+abbrev pub gives : {A : Type 0} → A → Doing A
+gives x w left = Gives x w left
+
 -- nothing is done
 abbrev pub nothing_done : Doing Flow
 nothing_done w left = Gives Next w left
@@ -61,11 +70,24 @@ after_flow go (Returned outward v) w left = Gives (Returned outward v) w left
 abbrev pub followed : Effect Flow → Doing Flow → Effect Flow
 followed o go = and_then o (after_flow go)
 
+infixl 10 ◌>>◌
+-- the same
+abbrev pub ◌>>◌ : Doing Flow → Doing Flow → Doing Flow
+go >> next = λ w left. followed (go w left) next
+
 -- what an operation gives that raises no condition; to what is wrong the language gives no meaning
 abbrev pub answered : {A : Type 0} → Answer A → (left : ℕ) → Effect A
 answered (Yields x w) left = Gives x w left
 answered (Raises e w) left = Fails (error_at e w) w
 answered Wrong left = Lost
+
+-- that is done
+abbrev pub performed : {A : Type 0} → (World → Answer A) → Doing A
+performed operation w left = answered (operation w) left
+
+-- that and no more, and then the next statement
+abbrev pub just : {A : Type 0} → (World → Answer A) → Doing Flow
+just operation = performed operation >>= λ _. nothing_done
 
 -- conditions
 
@@ -119,9 +141,7 @@ chosen false if_true if_false w left = if_false w left
 abbrev pub turns : (level : ℕ) → (test : Doing Bool) → (list between : Doing Flow) → Doing Flow
 turns zero test list between w left = Short
 turns (suc level) test list between w left =
-    and_then (test w left)
-    (λ b. chosen b (λ w left. followed (list w left)
-    (λ w left. followed (between w left) (turns level test list between))) nothing_done)
+    (test >>= λ b. chosen b (list >> (between >> turns level test list between)) nothing_done) w left
 
 -- a jump to a label of the newest activation that a list holds goes on there; the calls that the activation
 -- prepares are given up. Any other goes on out

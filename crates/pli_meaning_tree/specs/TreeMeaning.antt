@@ -16,7 +16,8 @@ use Rattle.pli_world.specs.Conditions.{Handler, error_of, handler, established, 
 use Rattle.pli_world.specs.Ends.{RunEnd, Ended, OutOfSteps, told}
 use Rattle.pli_world.specs.Storage.{Place}
 use Rattle.pli_world.specs.World.{Standing, World, Answer, Yields, known, further, nothing, height, held}
-use Rattle.pli_world.specs.World.{error_at, stored, copied, led_on, subscripted, calculation, entered, height_of}
+use Rattle.pli_world.specs.World.{error_at, stored, copied, led_on, subscripted, calculation, entered}
+use Rattle.pli_world.specs.World.{height_of}
 use Rattle.pli_world.specs.World.{slot_place, static_place, dummy_of, printed, line_ended, statics_made}
 use Rattle.pli_world.specs.Areas.{emptied, assigned}
 use Rattle.pli_world.specs.Locating.{place_by, freed_by, pointer_made, block_made, address_of, offset_made}
@@ -52,10 +53,10 @@ use Rattle.pli_value.specs.Conversions.{bit_constant}
 use Rattle.pli_map.specs.Variables.{Variable}
 use Rattle.pli_value.specs.Value.{Value, Number, Characters, Bits}
 use Rattle.pli_meaning_tree.specs.Effects.{Label, Effect, Gives, Jumps, Fails, Spent, Lost, Short, Flow}
-use Rattle.pli_meaning_tree.specs.Effects.{Next, Returned, Doing, and_then, nothing_done, followed}
-use Rattle.pli_meaning_tree.specs.Effects.{answered, handled, resolved, as_step, as_statement, back_at}
-use Rattle.pli_meaning_tree.specs.Effects.{truth, chosen, turns}
-use Rattle.pli_meaning_tree.specs.Effects.{caught, unless_full, leaving, block_end, procedure_end}
+use Rattle.pli_meaning_tree.specs.Effects.{Next, Returned, Doing, and_then, ◌>>=◌, ◌>>◌, gives, nothing_done}
+use Rattle.pli_meaning_tree.specs.Effects.{answered, performed, just, handled, resolved, as_step}
+use Rattle.pli_meaning_tree.specs.Effects.{as_statement, back_at, truth, chosen, turns, caught, unless_full}
+use Rattle.pli_meaning_tree.specs.Effects.{leaving, block_end, procedure_end}
 
 -- a program: its units, and which of them is the main one; no number has more binary digits than the greatest
 -- precision
@@ -104,134 +105,108 @@ printed_item v w left = Lost
 
 -- expressions and references, with numbers of at most so many digits, where calls do so
 module _ (greatest : ℕ) (call : Calls) where
+  -- what an operation gives that may raise a condition; 0 behind that
+  abbrev pub or_zero : (World → Answer Value) → Doing Value
+  or_zero operation w left = resolved call.condition (Number (pos 0)) (operation w) left
+
+  -- what it does; nothing behind that
+  abbrev pub or_nothing : (World → Answer Unit) → Doing Flow
+  or_nothing operation = (λ w left. resolved call.condition tt (operation w) left) >>= λ _. nothing_done
+
   abbrev mutual
     -- the value of an expression
     pub value_of : TypedExpression → Doing Value
-    value_of (Literal v) w left = Gives v w left
-    value_of (Held r) w left = and_then (place_of r w left) (λ p w left. answered (held p w) left)
-    value_of (Calculated operation operands) w left = operated operation operands [] w left
-    value_of (Called callee arguments) w left = and_then (called_with callee arguments [] w left) a_value
-    value_of (Generations number) w left =
-        resolved call.condition (Number (pos 0)) (generations_counted number w) left
-    value_of (Address r) w left =
-        and_then (place_of r w left) (λ p w left. answered (address_of p w) left)
-    value_of (AsPointer area e) w left =
-        and_then (value_of e w left)
-        (λ v w left. and_then (place_of area w left) (λ p w left. answered (pointer_within p v w) left))
-    value_of (AsOffset area e) w left =
-        and_then (value_of e w left)
-        (λ v w left. and_then (place_of area w left) (λ p w left. answered (offset_made p v w) left))
-    value_of (Bounded which dimension r) w left =
-        and_then (place_of r w left) (λ p w left. answered (bound_of_place which dimension p w) left)
+    value_of (Literal v) = gives v
+    value_of (Held r) = do p ← place_of r; performed (held p)
+    value_of (Calculated operation operands) = operated operation operands []
+    value_of (Called callee arguments) = called_with callee arguments [] >>= a_value
+    value_of (Generations number) = or_zero (generations_counted number)
+    value_of (Address r) = do p ← place_of r; performed (address_of p)
+    value_of (AsPointer area e) = do v ← value_of e; p ← place_of area; performed (pointer_within p v)
+    value_of (AsOffset area e) = do v ← value_of e; p ← place_of area; performed (offset_made p v)
+    value_of (Bounded which dimension r) = do p ← place_of r; performed (bound_of_place which dimension p)
 
     -- an operation on its operands, which are evaluated from left to right; those before, the last first; it
     -- gives 0 behind a condition
     pub operated : TypedOperation → Operands → (before : List Value) → Doing Value
-    operated operation NoOperand before w left =
-        resolved call.condition (Number (pos 0))
-        (calculation (comes_to greatest operation (in_order before [])) w) left
-    operated operation (OperandThen e more) before w left =
-        and_then (value_of e w left) (λ v w left. operated operation more (v ∷ before) w left)
+    operated operation NoOperand before =
+        or_zero (calculation (comes_to greatest operation (in_order before [])))
+    operated operation (OperandThen e more) before =
+        do v ← value_of e; operated operation more (v ∷ before)
 
     -- the place where a reference begins; of a BASED variable its locator is evaluated for that
     pub root_place : Root → Doing Place
-    root_place (InSlot outward slot) w left = answered (slot_place outward slot w) left
-    root_place (OfProgram number) w left = answered (static_place number w) left
-    root_place (NewestOf number) w left = answered (static_place number w) left
-    root_place (Located e description) w left =
-        and_then (value_of e w left) (λ v w left. answered (place_by description v w) left)
+    root_place (InSlot outward slot) = performed (slot_place outward slot)
+    root_place (OfProgram number) = performed (static_place number)
+    root_place (NewestOf number) = performed (static_place number)
+    root_place (Located e description) = do v ← value_of e; performed (place_by description v)
 
     -- the place of a reference: that of its variable, then the part, then a subscript after the other; or a
     -- subscript for each dimension
     pub place_of : TypedReference → Doing Place
-    place_of (Whole root) w left = root_place root w left
-    place_of (Part root offset description subscripts) w left =
-        and_then (root_place root w left)
-        (λ p w left. and_then (answered (led_on offset description p w) left)
-        (λ q w left. element_at subscripts q w left))
-    place_of (ElementOf root subscripts) w left =
-        and_then (root_place root w left) (λ p w left. element_by 1 subscripts p w left)
+    place_of (Whole root) = root_place root
+    place_of (Part root offset description subscripts) =
+        do p ← root_place root; q ← performed (led_on offset description p); element_at subscripts q
+    place_of (ElementOf root subscripts) = do p ← root_place root; element_by 1 subscripts p
 
     -- each subscript is evaluated, and tested before the next one is evaluated
     pub element_at : Subscripts → Place → Doing Place
-    element_at NoSubscript p w left = Gives p w left
-    element_at (SubscriptThen stride e more) p w left =
-        and_then (value_of e w left)
-        (λ v w left. and_then (element_of stride.low stride.high stride.multiplier p v w left)
-        (λ q w left. element_at more q w left))
+    element_at NoSubscript p = gives p
+    element_at (SubscriptThen stride e more) p = do
+      v ← value_of e
+      q ← element_of stride.low stride.high stride.multiplier p v
+      element_at more q
 
     -- the same by the dimensions from this one on
     pub element_by : (dimension : ℕ) → Operands → Place → Doing Place
-    element_by k NoOperand p w left = Gives p w left
-    element_by k (OperandThen e more) p w left =
-        and_then (value_of e w left)
-        (λ v w left. and_then (dimension_of k p v w left) (λ q w left. element_by (suc k) more q w left))
+    element_by k NoOperand p = gives p
+    element_by k (OperandThen e more) p =
+        do v ← value_of e; q ← dimension_of k p v; element_by (suc k) more q
 
     -- a procedure called with arguments, one after the other: a place is handed over as it is, and a value
     -- becomes a dummy argument before the next is looked at; the places before, the last first
     pub called_with : (callee : Callee) → TypedArguments → (before : List Place) → Doing (Option Value)
-    called_with callee NoArgument before w left = call.procedure callee (in_order before []) w left
-    called_with callee (ByPlace r more) before w left =
-        and_then (place_of r w left) (λ p w left. called_with callee more (p ∷ before) w left)
-    called_with callee (ByDummy description e more) before w left =
-        and_then (value_of e w left)
-        (λ v w left. and_then (answered (dummy_of description v w) left)
-        (λ p w left. called_with callee more (p ∷ before) w left))
-    called_with callee (ByString form e more) before w left =
-        and_then (value_of e w left)
-        (λ v w left. and_then (answered (string_dummy_of form v w) left)
-        (λ p w left. called_with callee more (p ∷ before) w left))
+    called_with callee NoArgument before = call.procedure callee (in_order before [])
+    called_with callee (ByPlace r more) before = do p ← place_of r; called_with callee more (p ∷ before)
+    called_with callee (ByDummy description e more) before =
+        do v ← value_of e; p ← performed (dummy_of description v); called_with callee more (p ∷ before)
+    called_with callee (ByString form e more) before =
+        do v ← value_of e; p ← performed (string_dummy_of form v); called_with callee more (p ∷ before)
 
   -- a condition of IF or WHILE
   abbrev pub condition : TypedExpression → Doing Bool
-  condition e w left = and_then (value_of e w left) truth
+  condition e = value_of e >>= truth
 
   -- an assignment: the target's place, the value, the store
   abbrev pub assigns : TypedReference → TypedExpression → Doing Flow
-  assigns target e w left =
-      and_then (place_of target w left)
-      (λ p w left. and_then (value_of e w left)
-      (λ v w left. and_then (answered (stored p v w) left) (λ _ w left. Gives Next w left)))
+  assigns target e = do p ← place_of target; v ← value_of e; just (stored p v)
 
   -- a string as the one at a place takes it
   abbrev pub fitted_at : Place → Value → Doing Value
-  fitted_at p v w left = resolved call.condition (Number (pos 0)) (string_as p v w) left
+  fitted_at p v = or_zero (string_as p v)
 
-  -- an assignment to a string whose length is known at its place: the value is fitted to that before the store
+  -- an assignment to a string whose length is known at its place: the value is fitted to that first
   abbrev pub assigns_string : TypedReference → TypedExpression → Doing Flow
-  assigns_string target e w left =
-      and_then (place_of target w left)
-      (λ p w left. and_then (value_of e w left)
-      (λ v w left. and_then (fitted_at p v w left)
-      (λ x w left. and_then (answered (stored p x w) left) (λ _ w left. Gives Next w left))))
+  assigns_string target e =
+      do p ← place_of target; v ← value_of e; x ← fitted_at p v; just (stored p x)
 
   -- of an aggregate: the target's place, the source's, then what the source holds is copied
   abbrev pub assigns_aggregate : (target source : TypedReference) → Doing Flow
-  assigns_aggregate target source w left =
-      and_then (place_of target w left)
-      (λ p w left. and_then (place_of source w left)
-      (λ q w left. and_then (answered (copied q p w) left) (λ _ w left. Gives Next w left)))
+  assigns_aggregate target source = do p ← place_of target; q ← place_of source; just (copied q p)
 
   -- of an area: the target's place, the source's, then the blocks of the source are put at the target, which
   -- stays as it is behind the condition that they have no room
   abbrev pub assigns_area : (target source : TypedReference) → Doing Flow
-  assigns_area target source w left =
-      and_then (place_of target w left)
-      (λ p w left. and_then (place_of source w left)
-      (λ q w left. and_then (resolved call.condition tt (assigned q p w) left)
-      (λ _ w left. Gives Next w left)))
+  assigns_area target source = do p ← place_of target; q ← place_of source; or_nothing (assigned q p)
 
   -- all blocks of an area end
   abbrev pub empties : TypedReference → Doing Flow
-  empties target w left =
-      and_then (place_of target w left)
-      (λ p w left. and_then (answered (emptied p w) left) (λ _ w left. Gives Next w left))
+  empties target = do p ← place_of target; just (emptied p)
 
   -- each item of PUT is evaluated and written before the next one is evaluated
   abbrev pub puts : List TypedExpression → Doing Flow
-  puts [] w left = Gives Next w left
-  puts (e ∷ es) w left =
-      followed (and_then (value_of e w left) (λ v w left. printed_item v w left)) (puts es)
+  puts [] = nothing_done
+  puts (e ∷ es) = (value_of e >>= printed_item) >> puts es
 
   -- a line is ended before the first item
   abbrev pub skips : (skip : Bool) → Doing Flow → Doing Flow
@@ -240,100 +215,88 @@ module _ (greatest : ℕ) (call : Calls) where
 
   -- a call, of what is no function
   abbrev pub does_call : (callee : Callee) → TypedArguments → Doing Flow
-  does_call callee arguments w left = and_then (called_with callee arguments [] w left) no_value
+  does_call callee arguments = called_with callee arguments [] >>= no_value
 
   -- an iteration's values are evaluated in turn, and kept as they are; those before
   abbrev pub keeps : List TypedExpression → (before : List Value) → (List Value → Doing Flow) → Doing Flow
-  keeps [] before go w left = go before w left
-  keeps (e ∷ es) before go w left =
-      and_then (value_of e w left) (λ v w left. keeps es (before ++ v ∷ []) go w left)
+  keeps [] before go = go before
+  keeps (e ∷ es) before go = do v ← value_of e; keeps es (before ++ v ∷ []) go
 
   -- the one of a number, from 0
   abbrev pub kept : List Value → (number : ℕ) → Doing Value
-  kept vs number w left = answered (known (slice_get vs number) w) left
+  kept vs number = performed (known (slice_get vs number))
 
   -- one operation after another on a value
   abbrev pub operated_by : List TypedOperation → Value → Doing Value
-  operated_by [] v w left = Gives v w left
-  operated_by (operation ∷ more) v w left =
-      and_then
-      (resolved call.condition (Number (pos 0)) (calculation (comes_to greatest operation (v ∷ [])) w) left)
-      (operated_by more)
+  operated_by [] v = gives v
+  operated_by (operation ∷ more) v =
+      or_zero (calculation (comes_to greatest operation (v ∷ []))) >>= operated_by more
 
   -- a value converted to the variable at a place: by operations; by an area, which is evaluated for that; or
   -- by operations that give a string, which is then fitted to the one at the place
   abbrev pub converted : Conversion → (at : Place) → Value → Doing Value
-  converted (ByOperations operations) p v w left = operated_by operations v w left
-  converted (AsPointerIn area) p v w left =
-      and_then (place_of area w left) (λ q w left. answered (pointer_within q v w) left)
-  converted (AsOffsetIn area) p v w left =
-      and_then (place_of area w left) (λ q w left. answered (offset_made q v w) left)
-  converted (ToPlace operations) p v w left =
-      and_then (operated_by operations v w left) (λ x w left. fitted_at p x w left)
+  converted (ByOperations operations) p v = operated_by operations v
+  converted (AsPointerIn area) p v = do q ← place_of area; performed (pointer_within q v)
+  converted (AsOffsetIn area) p v = do q ← place_of area; performed (offset_made q v)
+  converted (ToPlace operations) p v = do x ← operated_by operations v; fitted_at p x
 
   -- the control variable's place, a value, its conversion, the store
   abbrev pub sets : Iteration → Doing Value → Doing Flow
-  sets i value w left =
-      and_then (place_of i.control w left)
-      (λ p w left. and_then (value w left)
-      (λ v w left. and_then (converted i.conversion p v w left)
-      (λ x w left. and_then (answered (stored p x w) left) (λ _ w left. Gives Next w left))))
+  sets i value =
+      do p ← place_of i.control; v ← value; x ← converted i.conversion p v; just (stored p x)
 
   -- the control variable and a step more
   abbrev pub advanced : Iteration → (step : ℕ) → List Value → Doing Value
-  advanced i step vs w left =
-      and_then (place_of i.control w left)
-      (λ p w left. and_then (answered (held p w) left)
-      (λ x w left. and_then (kept vs step w left)
-      (λ c w left. resolved call.condition (Number (pos 0))
-      (calculation (calculated greatest Add (x ∷ c ∷ [])) w) left)))
+  advanced i step vs = do
+    p ← place_of i.control
+    x ← performed (held p)
+    c ← kept vs step
+    or_zero (calculation (calculated greatest Add (x ∷ c ∷ [])))
 
   -- it has not passed the limit, where there is one
   abbrev pub within_limit : Iteration → (limit : Option ℕ) → (step : ℕ) → List Value → Doing Bool
-  within_limit i None step vs w left = Gives true w left
-  within_limit i (Some limit) step vs w left =
-      and_then (place_of i.control w left)
-      (λ p w left. and_then (answered (held p w) left)
-      (λ x w left. and_then (kept vs limit w left)
-      (λ b w left. and_then (kept vs step w left)
-      (λ c w left. and_then
-      (resolved call.condition (Number (pos 0))
-      (calculation (calculated greatest Within (x ∷ b ∷ c ∷ [])) w) left) truth))))
+  within_limit i None step vs = gives true
+  within_limit i (Some limit) step vs = do
+    p ← place_of i.control
+    x ← performed (held p)
+    b ← kept vs limit
+    c ← kept vs step
+    v ← or_zero (calculation (calculated greatest Within (x ∷ b ∷ c ∷ [])))
+    truth v
 
   -- WHILE holds, where it stands
   abbrev pub while_holds : Option TypedExpression → Doing Bool
-  while_holds None w left = Gives true w left
-  while_holds (Some e) w left = condition e w left
+  while_holds None = gives true
+  while_holds (Some e) = condition e
 
   -- the test before a turn: the limit, then WHILE
   abbrev pub may_turn : Iteration → List Value → Doing Bool
-  may_turn i vs w left =
-      and_then (within_limit i (limit_number i.range) (step_number i.range) vs w left)
-      (λ b w left. chosen b (while_holds i.condition) (λ w left. Gives false w left) w left)
+  may_turn i vs =
+      within_limit i (limit_number i.range) (step_number i.range) vs
+      >>= λ b. chosen b (while_holds i.condition) (gives false)
 
   -- what comes between two turns: the step, or REPEAT
   abbrev pub advances : TypedRange → Iteration → List Value → Doing Flow
-  advances Once i vs w left = Gives Next w left
-  advances (ToBy to by) i vs w left = sets i (advanced i 2 vs) w left
-  advances (ByTo by to) i vs w left = sets i (advanced i 1 vs) w left
-  advances (Repeated next) i vs w left = assigns i.control next w left
-  advances (RepeatedString next) i vs w left = assigns_string i.control next w left
+  advances Once i vs = nothing_done
+  advances (ToBy to by) i vs = sets i (advanced i 2 vs)
+  advances (ByTo by to) i vs = sets i (advanced i 1 vs)
+  advances (Repeated next) i vs = assigns i.control next
+  advances (RepeatedString next) i vs = assigns_string i.control next
 
   -- without TO, BY and REPEAT there is one turn
   abbrev pub turned : (iterated : Bool) (level : ℕ) → (test : Doing Bool) → (list between : Doing Flow)
       → Doing Flow
-  turned true level test list between w left = turns level test list between w left
-  turned false level test list between w left =
-      and_then (test w left) (λ b w left. chosen b list nothing_done w left)
+  turned true level test list between = turns level test list between
+  turned false level test list between = test >>= λ b. chosen b list nothing_done
 
   -- an iteration: a, TO and BY are evaluated; the variable gets a; and then its turns, whose list is a step;
   -- what comes between two turns is at the group's statement
   abbrev pub iterates : (level number : ℕ) → Iteration → Doing Flow → Doing Flow
-  iterates level number i list w left =
+  iterates level number i list =
       keeps (i.start ∷ kept_by i.range) []
-      (λ vs w left. followed (sets i (kept vs 0) w left)
-      (turned (is_iterated i.range) level (may_turn i vs) (as_statement number list)
-      (back_at number (advances i.range i vs)))) w left
+      (λ vs. sets i (kept vs 0)
+      >> turned (is_iterated i.range) level (may_turn i vs) (as_statement number list)
+      (back_at number (advances i.range i vs)))
 
   -- a block of an area for a variable: the area is evaluated and has room for the block; behind the condition
   -- that it has none this is done again, which is a step
@@ -347,55 +310,46 @@ module _ (greatest : ℕ) (call : Calls) where
   -- pointer to it is put at the target's place; or a block of an area for one, and the pointer to that is put
   -- there, converted
   abbrev pub allocates_item : (level : ℕ) → AllocatedItem → Doing Flow
-  allocates_item level (AllocatesControlled number) w left =
-      and_then (answered (generation_stacked number w) left) (λ _ w left. Gives Next w left)
-  allocates_item level (AllocatesBased template temporary target) w left =
-      and_then (answered (pointer_made (variable_of template) w) left)
-      (λ v w left. and_then (place_of target w left)
-      (λ p w left. and_then (answered (stored p v w) left) (λ _ w left. Gives Next w left)))
-  allocates_item level (AllocatesInArea area template temporary target conversion) w left =
-      and_then (block_allocated level area (variable_of template) w left)
-      (λ v w left. and_then (place_of target w left)
-      (λ p w left. and_then (converted conversion p v w left)
-      (λ x w left. and_then (answered (stored p x w) left) (λ _ w left. Gives Next w left))))
+  allocates_item level (AllocatesControlled number) = just (generation_stacked number)
+  allocates_item level (AllocatesBased template temporary target) =
+      do v ← performed (pointer_made (variable_of template)); p ← place_of target; just (stored p v)
+  allocates_item level (AllocatesInArea area template temporary target conversion) = do
+    v ← block_allocated level area (variable_of template)
+    p ← place_of target
+    x ← converted conversion p v
+    just (stored p x)
 
   -- its items, one after the other
   abbrev pub allocates : (level : ℕ) → List AllocatedItem → Doing Flow
-  allocates level [] w left = Gives Next w left
-  allocates level (item ∷ items) w left = followed (allocates_item level item w left) (allocates level items)
+  allocates level [] = nothing_done
+  allocates level (item ∷ items) = allocates_item level item >> allocates level items
 
   -- an item of FREE: the newest generation of a CONTROLLED variable ends, or the one of a BASED variable to
   -- which a locator leads
   abbrev pub frees_item : FreedItem → Doing Flow
-  frees_item (FreesControlled number) w left =
-      and_then (answered (generation_unstacked number w) left) (λ _ w left. Gives Next w left)
-  frees_item (FreesBased e description) w left =
-      and_then (value_of e w left)
-      (λ v w left. and_then (answered (freed_by description v w) left) (λ _ w left. Gives Next w left))
+  frees_item (FreesControlled number) = just (generation_unstacked number)
+  frees_item (FreesBased e description) = do v ← value_of e; just (freed_by description v)
 
   -- its items, one after the other
   abbrev pub frees : List FreedItem → Doing Flow
-  frees [] w left = Gives Next w left
-  frees (item ∷ items) w left = followed (frees_item item w left) (frees items)
+  frees [] = nothing_done
+  frees (item ∷ items) = frees_item item >> frees items
 
   -- SIGNAL: the condition is raised, and behind its unit it goes on
   abbrev pub signals : Condition → Doing Flow
-  signals c w left = and_then (resolved call.condition tt (signalled c w) left) (λ _ w left. Gives Next w left)
+  signals c = or_nothing (signalled c)
 
   -- RETURN with a value
   abbrev pub returns_value : (outward : ℕ) → TypedExpression → Doing Flow
-  returns_value outward e w left =
-      and_then (value_of e w left) (λ v w left. Gives (Returned outward (Some v)) w left)
+  returns_value outward e = do v ← value_of e; gives (Returned outward (Some v))
 
 -- ON: the activation of the block of a unit in which it stands has this ON-unit from then on
 abbrev pub establishes : (unit block : ℕ) → Condition → (on_unit : ℕ) → Doing Flow
-establishes unit block c on_unit w left =
-    and_then (answered (established unit (Some block) c on_unit w) left) (λ _ w left. Gives Next w left)
+establishes unit block c on_unit = just (established unit (Some block) c on_unit)
 
 -- a jump to a label of the activation so many static links outward
 abbrev pub jumps_to : (outward : ℕ) → Label → Doing Flow
-jumps_to outward label w left =
-    and_then (answered (height_of outward w) left) (λ h w left. Jumps h label w left)
+jumps_to outward label = performed (height_of outward) >>= λ h w left. Jumps h label w left
 
 -- labels
 
@@ -454,41 +408,35 @@ module _ (greatest : ℕ) (call : Calls) (unit level : ℕ) where
 
     -- what a form says, of the statement of a number in a block
     pub does_form : (block number : ℕ) → Form → Doing Flow
-    does_form block number Null w left = Gives Next w left
-    does_form block number (Assign target e) w left = assigns greatest call target e w left
-    does_form block number (AssignString target e) w left = assigns_string greatest call target e w left
-    does_form block number (AssignAggregate target source) w left =
-        assigns_aggregate greatest call target source w left
-    does_form block number (AssignArea target source) w left = assigns_area greatest call target source w left
-    does_form block number (EmptyArea target) w left = empties greatest call target w left
-    does_form block number (Put skip items) w left =
-        skips greatest call skip (puts greatest call items) w left
-    does_form block number (Allocate items) w left = allocates greatest call level items w left
-    does_form block number (Free items) w left = frees greatest call items w left
-    does_form block number (If e consequence alternative) w left =
-        and_then (condition greatest call e w left)
-        (λ b w left. chosen b (does block consequence) (does_else block alternative) w left)
-    does_form block number (Begin head statements) w left =
-        in_block (head_in unit head) (static_link unit (Some block) w)
-        (as_list level unit statements (does_from head.number statements)) w left
-    does_form block number (Group statements) w left =
-        as_list level unit statements (does_from block statements) w left
-    does_form block number (While e statements) w left =
+    does_form block number Null = nothing_done
+    does_form block number (Assign target e) = assigns greatest call target e
+    does_form block number (AssignString target e) = assigns_string greatest call target e
+    does_form block number (AssignAggregate target source) = assigns_aggregate greatest call target source
+    does_form block number (AssignArea target source) = assigns_area greatest call target source
+    does_form block number (EmptyArea target) = empties greatest call target
+    does_form block number (Put skip items) = skips greatest call skip (puts greatest call items)
+    does_form block number (Allocate items) = allocates greatest call level items
+    does_form block number (Free items) = frees greatest call items
+    does_form block number (If e consequence alternative) =
+        condition greatest call e >>= λ b. chosen b (does block consequence) (does_else block alternative)
+    does_form block number (Begin head statements) =
+        λ w. in_block (head_in unit head) (static_link unit (Some block) w)
+        (as_list level unit statements (does_from head.number statements)) w
+    does_form block number (Group statements) = as_list level unit statements (does_from block statements)
+    does_form block number (While e statements) =
         turns level (back_at number (condition greatest call e))
-        (as_statement number (as_list level unit statements (does_from block statements))) nothing_done w
-        left
-    does_form block number (Iterate iteration statements) w left =
+        (as_statement number (as_list level unit statements (does_from block statements))) nothing_done
+    does_form block number (Iterate iteration statements) =
         iterates greatest call level number iteration
-        (as_list level unit statements (does_from block statements)) w left
-    does_form block number (Call called arguments) w left = does_call greatest call called arguments w left
-    does_form block number (Goto outward label) w left =
-        jumps_to outward (record { unit = unit; number = label }) w left
-    does_form block number (Return outward) w left = Gives (Returned outward None) w left
-    does_form block number (ReturnValue outward e) w left = returns_value greatest call outward e w left
-    does_form block number Stop w left = Fails Ended w
-    does_form block number (On c on_unit) w left = establishes unit block c on_unit w left
-    does_form block number (Revert c) w left = Gives Next (reverted c w) left
-    does_form block number (Signal c) w left = signals greatest call c w left
+        (as_list level unit statements (does_from block statements))
+    does_form block number (Call called arguments) = does_call greatest call called arguments
+    does_form block number (Goto outward label) = jumps_to outward (record { unit = unit; number = label })
+    does_form block number (Return outward) = gives (Returned outward None)
+    does_form block number (ReturnValue outward e) = returns_value greatest call outward e
+    does_form block number Stop = λ w left. Fails Ended w
+    does_form block number (On c on_unit) = establishes unit block c on_unit
+    does_form block number (Revert c) = λ w left. Gives Next (reverted c w) left
+    does_form block number (Signal c) = signals greatest call c
 
     -- an ELSE, if it stands
     pub does_else : (block : ℕ) → OtherWise → Doing Flow
@@ -499,10 +447,9 @@ module _ (greatest : ℕ) (call : Calls) (unit level : ℕ) where
     pub does_from : (block : ℕ) → TypedStatements → (from : Option Label) → Doing Flow
     does_from block NoStatement None w left = Gives Next w left
     does_from block NoStatement (Some label) w left = Lost
-    does_from block (StatementThen s more) None w left =
-        followed (does block s w left) (does_from block more None)
+    does_from block (StatementThen s more) None w left = (does block s >> does_from block more None) w left
     does_from block (StatementThen s more) (Some label) w left =
-        if bears unit s label then followed (does block s w left) (does_from block more None)
+        if bears unit s label then (does block s >> does_from block more None) w left
         else does_from block more (Some label) w left
 
   -- the statements of a list, with the jumps to its labels

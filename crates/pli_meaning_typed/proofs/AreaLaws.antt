@@ -19,7 +19,7 @@ use Rattle.pli_value.specs.declared.locator.Locator.TheVariants.{Null, Pointer, 
 use Rattle.pli_world.specs.Areas.{place_in, end_of_blocks, with_block, is_whole_area, area_found, with_area, put_at, allocated_in, emptied, assigned, is_within, offset_in, pointer_in}
 use Rattle.pli_world.specs.Locating.{locator_of, block_made, offset_made, pointer_within}
 use Rattle.pli_world.specs.Storage.{Block, Generation, Place, generation_in}
-use Rattle.pli_world.specs.World.{World, Answer, Yields, Raises, Wrong, further, unless_dead, led_into}
+use Rattle.pli_world.specs.World.{World, Answer, Yields, Raises, Wrong, further, led_into, unless_dead}
 use Rattle.pli_meaning_typed.specs.SoundWorlds.{IsVariable, AreSoundBlocks, Shape, IsSound, IsLater, Answers}
 use Rattle.pli_meaning_typed.proofs.BlockLemmas.{block_added, place_low}
 use Rattle.pli_meaning_typed.proofs.PointerLaws.{PointsTo, Pointed}

@@ -14,16 +14,18 @@ use Rattle.pli_value.specs.Value.{Value, Located}
 use Rattle.pli_value.specs.declared.locator.Locator.{Locator}
 use Rattle.pli_value.specs.declared.locator.Locator.TheVariants as locators
 use Rattle.pli_world.specs.Areas.{without_block}
-use Rattle.pli_world.specs.Locating.{unless_ended, unless_other, located, based, pointer_to, based_allocated, ended, is_allocated, based_freed}
+use Rattle.pli_world.specs.Locating.{unless_other, located, based, pointer_to, based_allocated, ended, is_allocated, based_freed}
 use Rattle.pli_world.specs.Locating.{is_whole_of, addressed, locator_of, place_by, freed_by, pointer_made, address_of}
 use Rattle.pli_world.specs.Storage.{Block, Generation, Based, Place, Contents, whole, generation_in, block_at, with_blocks, without, generation_limit}
-use Rattle.pli_world.specs.Targets.{Target, whole_at, block_target, target_in}
+use Rattle.pli_world.specs.Targets.{Target, block_target, target_in}
+use Rattle.pli_world.specs.Storage.{whole_at}
 use Rattle.pli_world.specs.World.{World, Yields, Raises, Wrong, further, made_of, used}
 use Rattle.pli_meaning_typed.specs.SoundWorlds.{IsPartAt, IsOwn, Shape, IsSound, IsLater, Answers}
 use Rattle.pli_meaning_typed.proofs.BlockLemmas.{block_found, block_removed}
 use Rattle.pli_meaning_typed.proofs.StackLaws.{ended_sound}
 use Rattle.pli_meaning_typed.proofs.StorageLemmas.{numbered}
 use Rattle.pli_meaning_typed.proofs.WorldLaws.{later_same, later_then, own_later, error_named, further_answers, small_near, new_part, MadeWhole, made_answers, blocks_sound, UsedAt, used_answers}
+use Rattle.pli_world.specs.World.{unless_dead}
 
 some_same : {A : Type 0} {x y : A} → Some x ≡ Some y → x ≡ y
 some_same e = cc
@@ -110,13 +112,13 @@ module _ (units : List TypedUnit) (x : Shape) (ss : List Shape) where
       unless t own false alike = error_named units x ss w DescriptionMismatch sound
 
       lives : (g : Generation) → generation_in w.storage n ≡ Some g → (b : Bool) → nat_eq k 0 ≡ b → (o : Option Block) → block_at g.blocks k ≡ o
-          → Answers units (Leads w d) (further (unless_ended (if b then Some (generation_target g) else option_map (block_target g.number) o) w) (unless_other d))
+          → Answers units (Leads w d) (further (unless_dead (if b then Some (generation_target g) else option_map (block_target g.number) o) w) (unless_other d))
       lives g e true z o f = unless (generation_target g) (generation_own n g w sound e) (same g.description d) refl
       lives g e false z None f = error_named units x ss w DeadLocator sound
       lives g e false z (Some b) f = unless (block_target g.number b) (block_own n g k b w sound e z f) (same b.description d) refl
 
       by : (o : Option Generation) → generation_in w.storage n ≡ o
-          → Answers units (Leads w d) (further (unless_ended (option_and_then (target_in k) o) w) (unless_other d))
+          → Answers units (Leads w d) (further (unless_dead (option_and_then (target_in k) o) w) (unless_other d))
       by None e = error_named units x ss w DeadLocator sound
       by (Some g) e = lives g e (nat_eq k 0) refl (block_at g.blocks k) refl
 

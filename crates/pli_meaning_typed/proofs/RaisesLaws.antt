@@ -12,7 +12,7 @@ use Rattle.pli_value.specs.declared.locator.Locator.{Locator}
 use Rattle.pli_world.specs.Areas.{place_in, end_of_blocks, with_area, is_whole_area, area_found, put_at, allocated_in, assigned}
 use Rattle.pli_world.specs.Locating.{block_made}
 use Rattle.pli_world.specs.Storage.{Block, Generation, Place, Contents, block_at, contents_of, generation_in}
-use Rattle.pli_world.specs.World.{World, Answer, Yields, Raises, Wrong, further, unless_dead, unless_gone, unless_replaced, led_into}
+use Rattle.pli_world.specs.World.{World, Answer, Yields, Raises, Wrong, further, unless_replaced, led_into, unless_dead}
 
 -- an operation leaves the world as it is
 abbrev Stays : {A : Type 0} → World → Answer A → Type 0
@@ -45,18 +45,18 @@ into_stays p g w = by (nat_eq p.position 0)
     met b true = refl
     met b false = refl
 
-    gone : (o : Option Block) → Stays w (unless_gone o w)
+    gone : (o : Option Block) → Stays w (unless_dead o w)
     gone None = refl
     gone (Some b) = refl
 
     contents_in : Block → World → Answer Contents
     contents_in b w = Yields (record { description = b.description; values = b.values }) w
 
-    by : (c : Bool) → Stays w (if c then Yields (contents_of g) w else further (further (unless_gone (block_at g.blocks p.position) w) (unless_replaced p.whole)) contents_in)
+    by : (c : Bool) → Stays w (if c then Yields (contents_of g) w else further (further (unless_dead (block_at g.blocks p.position) w) (unless_replaced p.whole)) contents_in)
     by true = refl
     by false =
-        further_stays w (further (unless_gone (block_at g.blocks p.position) w) (unless_replaced p.whole)) contents_in
-        (further_stays w (unless_gone (block_at g.blocks p.position) w) (unless_replaced p.whole) (gone (block_at g.blocks p.position)) (λ b. met b (same b.description p.whole)))
+        further_stays w (further (unless_dead (block_at g.blocks p.position) w) (unless_replaced p.whole)) contents_in
+        (further_stays w (unless_dead (block_at g.blocks p.position) w) (unless_replaced p.whole) (gone (block_at g.blocks p.position)) (λ b. met b (same b.description p.whole)))
         (λ b. refl)
 
 area_stays : (p : Place) (w : World) → Stays w (area_found p w)

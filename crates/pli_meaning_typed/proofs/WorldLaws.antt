@@ -25,7 +25,7 @@ use Rattle.pli_map.specs.Variables.{byte_limit}
 use Rattle.pli_map.specs.Values.{holds, are_held}
 use Rattle.pli_program.specs.declared.kind.VariableKind.{VariableKind}
 use Rattle.pli_program.specs.declared.kind.VariableKind.TheVariants as kinds
-use Rattle.pli_world.specs.World.{Standing, Lies, Stacked, World, Answer, Yields, Raises, Wrong, further, known, made_of, unless_dead, unless_gone, unless_replaced, led_into, used, parts_held}
+use Rattle.pli_world.specs.World.{Standing, Lies, Stacked, World, Answer, Yields, Raises, Wrong, further, known, made_of, unless_replaced, led_into, used, parts_held, unless_dead}
 use Rattle.pli_world.specs.World.{parts_stored, single, held, stored, copied, in_newest, with_slot, made_all}
 use Rattle.pli_map.specs.Variables.{Variable}
 use Rattle.pli_world.specs.World.{without_handed, begun_in, entered, ended_with, prepared_by, left_by, cleared, at_statement, stepped, dummy_of}
@@ -421,12 +421,12 @@ module _ (units : List TypedUnit) (s : Shape) (ss : List Shape) where
           )
 
       block : (g : Generation) → generation_in w.storage p.generation ≡ Some g → nat_eq p.position 0 ≡ false → (o : Option Block) → block_at g.blocks p.position ≡ o
-          → Answers units (UsedAt w d p) (further (further (unless_gone o w) (unless_replaced p.whole)) contents_in)
+          → Answers units (UsedAt w d p) (further (further (unless_dead o w) (unless_replaced p.whole)) contents_in)
       block g e z None f = error_named units s ss w DeadLocator sound
       block g e z (Some b) f = within g e z b f (same b.description p.whole) refl
 
       into : (g : Generation) → generation_in w.storage p.generation ≡ Some g → (b : Bool) → nat_eq p.position 0 ≡ b
-          → Answers units (UsedAt w d p) (if b then Yields (contents_of g) w else further (further (unless_gone (block_at g.blocks p.position) w) (unless_replaced p.whole)) contents_in)
+          → Answers units (UsedAt w d p) (if b then Yields (contents_of g) w else further (further (unless_dead (block_at g.blocks p.position) w) (unless_replaced p.whole)) contents_in)
       into g e true z = outside g e z
       into g e false z = block g e z (block_at g.blocks p.position) refl
 

@@ -84,27 +84,24 @@ refusal_in (Ok _) = None
 refusal_in (Err (Refused r)) = Some r
 refusal_in (Err OutOfMemory) = None
 
--- the letter and the number of a refusal
-abbrev pub refusal_label : Refusal → List ℕ
-refusal_label NameTaken = codes "M1"
-refusal_label NoSuchMember = codes "M2"
-refusal_label NoSuchLine = codes "M3"
-refusal_label LineTooLong = codes "M4"
-refusal_label BadByte = codes "M5"
-refusal_label TooManyLines = codes "M6"
-refusal_label TooManyMembers = codes "M7"
-refusal_label VersionsExhausted = codes "M8"
+-- the table: of each refusal its label and its text
+abbrev pub refusal_entry : Refusal → List ℕ × List ℕ
+refusal_entry NameTaken = (codes "M1", codes "NAME TAKEN")
+refusal_entry NoSuchMember = (codes "M2", codes "NO SUCH MEMBER")
+refusal_entry NoSuchLine = (codes "M3", codes "NO SUCH LINE")
+refusal_entry LineTooLong = (codes "M4", codes "LINE TOO LONG")
+refusal_entry BadByte = (codes "M5", codes "BAD BYTE")
+refusal_entry TooManyLines = (codes "M6", codes "TOO MANY LINES")
+refusal_entry TooManyMembers = (codes "M7", codes "TOO MANY MEMBERS")
+refusal_entry VersionsExhausted = (codes "M8", codes "VERSIONS EXHAUSTED")
 
--- what a refusal says
+-- its label
+abbrev pub refusal_label : Refusal → List ℕ
+refusal_label r = (refusal_entry r).0
+
+-- its text
 abbrev pub refusal_text : Refusal → List ℕ
-refusal_text NameTaken = codes "NAME TAKEN"
-refusal_text NoSuchMember = codes "NO SUCH MEMBER"
-refusal_text NoSuchLine = codes "NO SUCH LINE"
-refusal_text LineTooLong = codes "LINE TOO LONG"
-refusal_text BadByte = codes "BAD BYTE"
-refusal_text TooManyLines = codes "TOO MANY LINES"
-refusal_text TooManyMembers = codes "TOO MANY MEMBERS"
-refusal_text VersionsExhausted = codes "VERSIONS EXHAUSTED"
+refusal_text r = (refusal_entry r).1
 
 -- a refusal as it is shown: its label, a blank and its text
 abbrev pub refusal_shown : Refusal → List ℕ

@@ -7,37 +7,29 @@ use Rattle.pli_run.specs.declared.ending.RunError.TheVariants.{NoGeneration, Out
 use Rattle.pli_run.specs.declared.ending.RunError.TheVariants.{FixedOverflow, ZeroDivide, Area, StorageLimit}
 use Rattle.pli_run.specs.declared.ending.RunError.TheVariants.{TooManyActivations}
 
--- the label of an error
-abbrev pub error_label : RunError → List ℕ
-error_label SubscriptRange = codes "E1"
-error_label StringRange = codes "E2"
-error_label NullLocator = codes "E3"
-error_label DeadLocator = codes "E4"
-error_label DescriptionMismatch = codes "E5"
-error_label NoGeneration = codes "E6"
-error_label OutsideArea = codes "E7"
-error_label NoReturnedValue = codes "E8"
-error_label FixedOverflow = codes "E9"
-error_label ZeroDivide = codes "E10"
-error_label Area = codes "E11"
-error_label StorageLimit = codes "E12"
-error_label TooManyActivations = codes "E13"
+-- the table: of each error its label and its text
+abbrev pub error_entry : RunError → List ℕ × List ℕ
+error_entry SubscriptRange = (codes "E1", codes "SUBSCRIPT RANGE")
+error_entry StringRange = (codes "E2", codes "STRING RANGE")
+error_entry NullLocator = (codes "E3", codes "NULL LOCATOR")
+error_entry DeadLocator = (codes "E4", codes "DEAD LOCATOR")
+error_entry DescriptionMismatch = (codes "E5", codes "DESCRIPTION MISMATCH")
+error_entry NoGeneration = (codes "E6", codes "NO GENERATION")
+error_entry OutsideArea = (codes "E7", codes "OUTSIDE AREA")
+error_entry NoReturnedValue = (codes "E8", codes "NO RETURNED VALUE")
+error_entry FixedOverflow = (codes "E9", codes "FIXEDOVERFLOW")
+error_entry ZeroDivide = (codes "E10", codes "ZERODIVIDE")
+error_entry Area = (codes "E11", codes "AREA")
+error_entry StorageLimit = (codes "E12", codes "STORAGE LIMIT")
+error_entry TooManyActivations = (codes "E13", codes "TOO MANY ACTIVATIONS")
 
--- the text of an error
+-- its label
+abbrev pub error_label : RunError → List ℕ
+error_label e = (error_entry e).0
+
+-- its text
 abbrev pub error_text : RunError → List ℕ
-error_text SubscriptRange = codes "SUBSCRIPT RANGE"
-error_text StringRange = codes "STRING RANGE"
-error_text NullLocator = codes "NULL LOCATOR"
-error_text DeadLocator = codes "DEAD LOCATOR"
-error_text DescriptionMismatch = codes "DESCRIPTION MISMATCH"
-error_text NoGeneration = codes "NO GENERATION"
-error_text OutsideArea = codes "OUTSIDE AREA"
-error_text NoReturnedValue = codes "NO RETURNED VALUE"
-error_text FixedOverflow = codes "FIXEDOVERFLOW"
-error_text ZeroDivide = codes "ZERODIVIDE"
-error_text Area = codes "AREA"
-error_text StorageLimit = codes "STORAGE LIMIT"
-error_text TooManyActivations = codes "TOO MANY ACTIVATIONS"
+error_text e = (error_entry e).1
 
 -- an error as it is shown: its label, a blank and its text
 abbrev pub error_shown : RunError → List ℕ

@@ -16,7 +16,7 @@ use Rattle.pli_value.specs.Value.{Value}
 use Rattle.pli_value.specs.declared.locator.Locator.TheVariants.{Pointer}
 use Rattle.pli_world.specs.Areas.{allocated_in, area_found, is_whole_area, assigned, emptied, end_of_blocks, place_in, with_area, with_block}
 use Rattle.pli_world.specs.Storage.{Contents, Generation, Place, contents_of, generation_in}
-use Rattle.pli_world.specs.World.{World, Answer, Yields, Raises, Wrong, further, led_into, unless_dead, used}
+use Rattle.pli_world.specs.World.{World, Answer, Yields, Raises, Wrong, further, led_into, used, unless_dead}
 use Rattle.pli_store.specs.answers.Answered.{Answered}
 use Rattle.pli_store.specs.answers.Begins.{Begins}
 use Rattle.pli_store.specs.answers.Blocks.{AreaRefused, AreaStands, WholeUsed}

@@ -10,10 +10,11 @@ use Rattle.pli_run.specs.declared.ending.RunError.TheVariants.{DescriptionMismat
 use Rattle.pli_value.specs.declared.locator.Locator.{Locator}
 use Rattle.pli_value.specs.declared.locator.Locator.TheVariants.{Pointer}
 use Rattle.pli_value.specs.Value.{Value}
-use Rattle.pli_world.specs.Locating.{based, located, unless_ended, unless_other}
+use Rattle.pli_world.specs.Locating.{based, located, unless_other}
 use Rattle.pli_world.specs.Storage as plain
 use Rattle.pli_world.specs.Storage.{Place, field_of}
-use Rattle.pli_world.specs.Targets.{Target, target_at, target_in, whole_at}
+use Rattle.pli_world.specs.Targets.{Target, target_at, target_in}
+use Rattle.pli_world.specs.Storage.{whole_at}
 use Rattle.pli_world.specs.World.{World, Yields, Raises, further, held, led_on}
 use Rattle.pli_world.specs.laws.OperationLaws.{led_near}
 use Rattle.pli_store.specs.answers.Found.{LeadsTo, StandsAt}
@@ -26,6 +27,7 @@ use Rattle.pli_store.specs.views.StorageView.{storage_view, with_storage}
 use Rattle.pli_store.proofs.PartAnswers.{number_found}
 use Rattle.pli_store.proofs.PlaceLemmas.{leads_to, within_store}
 use Rattle.pli_store.proofs.Searches.{stands_in_view}
+use Rattle.pli_world.specs.World.{unless_dead}
 
 -- a locator leads to one generation
 pub outside_at : (gs : List plain.Generation) (l : Locator) (d : Description) (number at : ℕ) (s : StandsAt gs number at) → l ≡ Pointer number 0
@@ -64,7 +66,7 @@ module _ (s : Storage) (k : KnownPart) (l : Locator) (at : ℕ) (o : IsOutside (
       let v = with_storage s w in
       let target : Target = record { place = whole_place; made = o.stands.generation.made } in
       ap (λ m. based d m v) o.is
-      ∙ ap (λ t. further (further (unless_ended t v) (unless_other d)) (λ t w. Yields t.place w)) lives
+      ∙ ap (λ t. further (further (unless_dead t v) (unless_other d)) (λ t w. Yields t.place w)) lives
       ∙ ap (λ b. further {A = Target} (if b then Yields target v else Raises DescriptionMismatch v) (λ t w. Yields t.place w)) (itself d)
 
   pub leads_on : (w : World) → led_on k.offset (description_view k.description.now) whole_place w ≡ Yields part_place w

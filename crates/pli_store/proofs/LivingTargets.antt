@@ -5,7 +5,8 @@ use Rattle.pli_area_blocks.proofs.Options.{unmapped_nothing, unmapped_one}
 use Rattle.pli_map.specs.Description.{Description}
 use Rattle.pli_world.specs.Storage as plain
 use Rattle.pli_world.specs.Storage.{Based, Block, block_at, whole}
-use Rattle.pli_world.specs.Targets.{block_target, target_at, target_in, whole_at}
+use Rattle.pli_world.specs.Targets.{block_target, target_at, target_in}
+use Rattle.pli_world.specs.Storage.{whole_at}
 use Rattle.pli_store.specs.answers.Found.{StandsAt}
 use Rattle.pli_store.specs.declared.generation.Generation.{Generation}
 use Rattle.pli_store.specs.views.GenerationView.{generation_view}

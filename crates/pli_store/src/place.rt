@@ -1,7 +1,7 @@
 //! Places: where references lead.
 ghost use Rattle.std.specs.Prelude.{◌≡◌, ◌*◌, ◌≤ℤ◌, ◌-ℤ◌, unsigned_abs};
 ghost use Rattle.pli_map.specs.views.DescriptionView.{description_view};
-ghost use Rattle.pli_world.specs.Targets.{whole_at};
+ghost use Rattle.pli_world.specs.Storage.{whole_at};
 ghost use Rattle.pli_world.specs.World.{led_on};
 
 use pli_map::{Description, Dimension};

@@ -1,8 +1,8 @@
 -- Storage by locators (X3.53): what a locator leads to, BASED variables outside areas and in them, ADDR, and
 -- pointers as offsets and back.
-use Rattle.std.specs.Prelude.{nat_eq, Bool, true, false, ◌&&◌, Option, Some, None, List, [], ◌∷◌}
+use Rattle.std.specs.Prelude.{nat_eq, Bool, true, false, ◌&&◌, List, [], ◌∷◌}
 use Rattle.std.specs.Prelude.{if◌then◌else◌}
-use Rattle.pli_run.specs.declared.ending.RunError.TheVariants.{NullLocator, DeadLocator, DescriptionMismatch}
+use Rattle.pli_run.specs.declared.ending.RunError.TheVariants.{NullLocator, DescriptionMismatch}
 use Rattle.pli_map.specs.Description.{Description}
 use Rattle.pli_map.specs.Same.{same}
 use Rattle.pli_map.specs.Scalars.{is_area}
@@ -14,13 +14,9 @@ use Rattle.pli_world.specs.Areas.{without_block, allocated_in, offset_in, pointe
 use Rattle.pli_world.specs.Storage.{Generation, Made, Based, Place, Contents, without, with_blocks}
 use Rattle.pli_world.specs.Targets.{Target, target_at}
 use Rattle.pli_world.specs.World.{World, Answer, Yields, Raises, Wrong, further, made_of, used}
+use Rattle.pli_world.specs.World.{unless_dead}
 
 -- ---- what a pointer leads to
-
--- what lives; where nothing does, the locator is dead
-abbrev pub unless_ended : Option Target → World → Answer Target
-unless_ended None w = Raises DeadLocator w
-unless_ended (Some t) w = Yields t w
 
 -- what has this whole description; what has another is another variable's
 abbrev pub unless_other : Description → Target → World → Answer Target
@@ -31,7 +27,7 @@ unless_other d t w = if same t.place.description d then Yields t w else Raises D
 unfoldable pub located : Description → Locator → World → Answer Target
 located d Null w = Raises NullLocator w
 located d (Pointer generation position) w =
-    further (unless_ended (target_at generation position w.storage) w) (unless_other d)
+    further (unless_dead (target_at generation position w.storage) w) (unless_other d)
 located d (Offset position) w = Wrong
 
 -- ---- BASED variables

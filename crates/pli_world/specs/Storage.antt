@@ -44,16 +44,20 @@ pub record Place : Type 0 where
   pub offset : ℕ
   pub description : Description
 
--- the whole of a new generation
-abbrev pub whole : (generation : ℕ) → Description → Place
-whole generation description =
+-- the whole of what lives at a position of a generation
+abbrev pub whole_at : (generation position : ℕ) → Description → Place
+whole_at generation position description =
     record {
       generation = generation;
-      position = 0;
+      position = position;
       whole = description;
       offset = 0;
       description = description;
     }
+
+-- the whole of a new generation
+abbrev pub whole : (generation : ℕ) → Description → Place
+whole generation description = whole_at generation 0 description
 
 -- the generation of a number, if it lives
 abbrev pub generation_in : List Generation → (number : ℕ) → Option Generation

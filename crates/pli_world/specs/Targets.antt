@@ -1,19 +1,8 @@
 -- What lives at a position of a generation (X3.53): at 0 the generation itself, and else a block of it.
 use Rattle.std.specs.Prelude.{ℕ, nat_eq, Option, Some, option_map, option_and_then, List}
 use Rattle.std.specs.Prelude.{if◌then◌else◌}
-use Rattle.pli_map.specs.Description.{Description}
 use Rattle.pli_world.specs.Storage.{Block, Generation, Made, Based, Place, whole, block_at, generation_in}
-
--- the whole of what lives at a position of a generation
-abbrev pub whole_at : (generation position : ℕ) → Description → Place
-whole_at generation position description =
-    record {
-      generation = generation;
-      position = position;
-      whole = description;
-      offset = 0;
-      description = description;
-    }
+use Rattle.pli_world.specs.Storage.{whole_at}
 
 -- what lives at a position: the place of the whole of it, and how it was made
 pub record Target : Type 0 where

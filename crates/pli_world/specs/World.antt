@@ -115,19 +115,14 @@ made_of d how vs w =
     else Wrong)
     else Raises StorageLimit w
 
--- the generation that is found; where none is, the place is dead
-abbrev pub unless_dead : Option Generation → World → Answer Generation
+-- what is found; where nothing is, what leads there is dead
+abbrev pub unless_dead : {A : Type 0} → Option A → World → Answer A
 unless_dead None w = Raises DeadLocator w
-unless_dead (Some g) w = Yields g w
+unless_dead (Some x) w = Yields x w
 
 -- the generation of a place, which is dead where that has ended
 abbrev pub living : Place → World → Answer Generation
 living p w = unless_dead (generation_in w.storage p.generation) w
-
--- the block that is found; where none is, the place is dead
-abbrev pub unless_gone : Option Block → World → Answer Block
-unless_gone None w = Raises DeadLocator w
-unless_gone (Some b) w = Yields b w
 
 -- a block that has this whole description; one that has another is another variable's
 abbrev pub unless_replaced : Description → Block → World → Answer Block
@@ -135,7 +130,7 @@ unless_replaced d b w = if same b.description d then Yields b w else Raises Desc
 
 -- the block at a position of a generation, where one of this whole description is asked for
 abbrev pub block_in : Generation → (position : ℕ) → Description → World → Answer Block
-block_in g position d w = further (unless_gone (block_at g.blocks position) w) (unless_replaced d)
+block_in g position d w = further (unless_dead (block_at g.blocks position) w) (unless_replaced d)
 
 -- what a place leads into, where its generation lives: at position 0 this, else one of its blocks
 abbrev pub led_into : Place → Generation → World → Answer Contents

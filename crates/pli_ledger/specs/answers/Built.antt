@@ -2,7 +2,7 @@
 use Rattle.std.specs.Prelude.{◌≡◌, ℕ, List, Option, Some, None}
 use Rattle.pli_base.specs.Name.{Name}
 use Rattle.pli_code.specs.ModuleParts.{Module}
-use Rattle.pli_deck_write.specs.WrittenModules.{Spells}
+use Rattle.pli_deck_write.specs.ModuleSpelling.{SpellsModule}
 use Rattle.pli_ledger.specs.declared.outcome.Outcome.{Outcome}
 use Rattle.pli_ledger.specs.declared.outcome.Outcome.TheVariants as outcomes
 use Rattle.pli_ledger.specs.declared.stored.StoredModule.{StoredModule}
@@ -13,7 +13,7 @@ use Rattle.pli_members.specs.Members.{Member}
 pub record IsOfMembers (entries : List (Name × Member)) (bytes : List ℕ) : Type 0 where
   pub made : Module
   pub is : scratch entries ≡ Made made
-  pub spelled : Spells bytes made
+  pub spelled : SpellsModule bytes made
 
 -- a text of diagnostics, or the bytes of a module
 abbrev pub IsBuilt : List (Name × Member) → Outcome → Type 0

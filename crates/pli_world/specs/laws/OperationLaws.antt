@@ -34,7 +34,7 @@ use Rattle.pli_program.specs.declared.kind.VariableKind.TheVariants as kinds
 use Rattle.pli_world.specs.World.{Standing, Lies, Stacked, Stack, World, Answer, Yields, Raises, Wrong}
 use Rattle.pli_world.specs.World.{further, known, height}
 use Rattle.pli_map.specs.Variables.{Variable}
-use Rattle.pli_world.specs.World.{made_of, unless_dead, unless_gone, unless_replaced, living, led_into, used}
+use Rattle.pli_world.specs.World.{made_of, unless_replaced, living, led_into, used, unless_dead}
 use Rattle.pli_world.specs.World.{parts_held, parts_stored, single, held}
 use Rattle.pli_world.specs.World.{stored}
 use Rattle.pli_world.specs.World.{copied, led_on, made_all, in_newest, with_slot, begun_in}
@@ -47,7 +47,7 @@ use Rattle.pli_world.specs.Areas.{place_in, end_of_blocks, with_block, is_whole_
 use Rattle.pli_world.specs.Areas.{put_at, allocated_in, emptied, assigned, is_within, offset_in, pointer_in}
 use Rattle.pli_world.specs.Conditions.{is_newest, established, reverted}
 use Rattle.pli_world.specs.Targets.{Target, target_at}
-use Rattle.pli_world.specs.Locating.{unless_ended, unless_other, located, based, pointer_to, based_allocated}
+use Rattle.pli_world.specs.Locating.{unless_other, located, based, pointer_to, based_allocated}
 use Rattle.pli_world.specs.Locating.{ended, is_allocated, based_freed, is_whole_of, addressed, locator_of}
 use Rattle.pli_world.specs.Locating.{place_by, freed_by, pointer_made, block_made, address_of, offset_made}
 use Rattle.pli_world.specs.Locating.{pointer_within}
@@ -157,7 +157,7 @@ leading_into_keeps p g w = by (nat_eq p.position 0) (block_at g.blocks p.positio
 
     by : (outside : Bool) (o : Option Block)
         → AnswerFollows (height w) w (if outside then Yields (contents_of g) w
-        else further (further (unless_gone o w) (unless_replaced p.whole)) contents)
+        else further (further (unless_dead o w) (unless_replaced p.whole)) contents)
     by true o = follows_same w
     by false None = follows_same w
     by false (Some b) = replaced (same b.description p.whole) b
@@ -476,7 +476,7 @@ counting_keeps number =
 
 -- BASED variables, and ADDR
 
-unless_ended_keeps : (o : Option Target) (w : World) → AnswerFollows (height w) w (unless_ended o w)
+unless_ended_keeps : (o : Option Target) (w : World) → AnswerFollows (height w) w (unless_dead o w)
 unless_ended_keeps None w = follows_same w
 unless_ended_keeps (Some t) w = follows_same w
 
@@ -492,7 +492,7 @@ located_keeps : (d : Description) (l : Locator) (w : World) → AnswerFollows (h
 unfolding located
 located_keeps d Null w = follows_same w
 located_keeps d (Pointer generation position) w =
-    one_after_another (λ w. unless_ended (target_at generation position w.storage) w) (unless_other d)
+    one_after_another (λ w. unless_dead (target_at generation position w.storage) w) (unless_other d)
     (λ w. unless_ended_keeps (target_at generation position w.storage) w) (unless_other_keeps d) w
 located_keeps d (Offset position) w = tt
 
