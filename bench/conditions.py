@@ -48,7 +48,7 @@ class Conditions:
         return self.with_routines(grow, 1 + self.below(2), "L1")
 
     def beginning(self):
-        """Some ON statements, and what raises conditions behind them."""
+        """Some ON statements, and what raises conditions after them."""
         return [*self.units(), *self.stirred(4)]
 
     def units(self):

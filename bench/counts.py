@@ -1,7 +1,7 @@
 #!/usr/bin/env python3
 """counts.py: brings the numbers of lines in docs/DEFINITIONS.md up to date.
 
-Behind the name of a file of specs/ stands how many lines it has; and the first part says how many lines the clauses of
+After the name of a file of specs/ stands how many lines it has; and the first part says how many lines the clauses of
 `Bench::command` and `Bench::serve` reach name by name (names.py), in how many files, and how many lines these have.
 Imports, comments and blank lines are not counted there. It prints what it has changed.
 """

@@ -1,5 +1,5 @@
 #!/usr/bin/env python3
-"""edited.py PROGRAM [ARGUMENT..]: builds behind edits beside builds of a fresh workbench, in 300 random sessions.
+"""edited.py PROGRAM [ARGUMENT..]: builds after edits beside builds of a fresh workbench, in 300 random sessions.
 
 In each session the members of a small program, which include texts, are edited, added, deleted and typed anew, and are built again and again.
 Each answer to BUILD, DUMP and RUN must be, to the byte, what a fresh workbench answers in which the same members are typed; and what LEDGER
@@ -157,7 +157,7 @@ class Ledger:
         self.traces, self.compiled = {}, {}
 
     def build(self, members):
-        """The answer of LEDGER behind a build."""
+        """The answer of LEDGER after a build."""
         units = [name for name in SOURCES if name in members.lines]
         self.traces = {unit: self.traces.get(unit) for unit in units}
         self.compiled = {unit: self.compiled.get(unit) for unit in units}

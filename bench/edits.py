@@ -15,7 +15,7 @@ LEFT_OUT = TOP / "bench" / "edits"
 
 
 def put(crate):
-    """Puts the crate's edits beside those that the gate tries; what was put, folders behind what stands in them."""
+    """Puts the crate's edits beside those that the gate tries; what was put, folders after what stands in them."""
     folder = TOP / "crates" / crate / "must-fail"
     made = [] if folder.is_dir() else [folder]
     folder.mkdir(exist_ok=True)

@@ -83,11 +83,11 @@ class Description:
         return (1, value(written)) if isinstance(written, str) else (value(written[0]), value(written[2]))
 
     def number(self, word, otherwise):
-        """The number behind an attribute; a `*` is none."""
+        """The number after an attribute; a `*` is none."""
         return otherwise if self.is_any(word) or word not in self.given else value(self.given[word][0])
 
     def is_any(self, word):
-        """Whether a `*` stands behind an attribute."""
+        """Whether a `*` stands after an attribute."""
         return word in self.given and self.given[word][0] == STAR
 
     def has_any_length(self):
@@ -191,7 +191,7 @@ class Description:
 
 
 def dimensions_of(parts):
-    """Dimensions, or none, and what stands behind them."""
+    """Dimensions, or none, and what stands after them."""
     if parts and parts[0][0] == "dimensions":
         return parts[0][1:], parts[1:]
     return (), parts

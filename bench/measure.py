@@ -90,7 +90,7 @@ def structure(count, uses):
 
 
 def straight(count):
-    """So many statements of arithmetic, strings, subscripts and structures, one behind the other."""
+    """So many statements of arithmetic, strings, subscripts and structures, one after the other."""
     yield "DCL (X,Y) FIXED BIN(31),(I,J) FIXED BIN(15),A(100) FIXED BIN(31),S CHAR(20) VAR,T CHAR(10) INIT('ABCDEFGHIJ');"
     yield "DCL 1 P(10),2 Q FIXED BIN(31),2 R(3) FIXED BIN(15);I=1;J=2;"
     group = ("X=MOD(X*7+Y,1000);", "A(I+3)=A(J)+X;", "S=SUBSTR(T,J,4)||'-';", "P(J).R(I)=P(I).R(J)+1;", "IF X>Y THEN Y=X-1;ELSE Y=Y-1;")
@@ -107,7 +107,7 @@ def filled(count):
 
 
 def rebuilt(name, line, times):
-    """So many BUILDs, each behind an edit: the first line of a member gets a null statement, or loses it again, so that its unit is compiled."""
+    """So many BUILDs, each after an edit: the first line of a member gets a null statement, or loses it again, so that its unit is compiled."""
     return [command for turn in range(times) for command in (f"REPLACE {name} 1 {line}{';' * (turn % 2)}", "BUILD")]
 
 

@@ -44,7 +44,7 @@ def stripped(line):
 
 
 def spec_path(crate, parts):
-    """The file that a path of modules names, and the names behind it."""
+    """The file that a path of modules names, and the names after it."""
     for length in range(len(parts), 0, -1):
         path = os.path.join(TOP, 'crates', crate, 'specs', *parts[:length]) + '.antt'
         if os.path.isfile(path):
@@ -158,10 +158,10 @@ def file_at(path):
 
 def meant_in(crate, parts, name, seen=()):
     """The definition that a name of a module is: its file and its name."""
-    path, behind = spec_path(crate, parts)
+    path, after = spec_path(crate, parts)
     if path is None or parts[0] == 'declared':
         return None
-    return meant(path, behind[0] if behind else name, seen)
+    return meant(path, after[0] if after else name, seen)
 
 
 def meant(path, name, seen=()):

@@ -1,6 +1,6 @@
 """nested.py: programs in which each of ten forms stands in each, and is left by a GOTO, by RETURN and by an error, for stepped.py.
 
-Each way out stands in the inner form, and is taken at its second turn where there are two, at the third where both forms have two. Behind the
+Each way out stands in the inner form, and is taken at its second turn where there are two, at the third where both forms have two. After the
 forms stands what a program does that goes on. Procedures stand at the end of the innermost block round the form that calls them.
 """
 from typing import NamedTuple
@@ -31,11 +31,11 @@ FORMS = {
 }
 ERRORS = ["A(K + 2) = K;", "C = SUBSTR('A', K + 2);", "S = K + 7;", "S = MOD(K, 0);"]
 DECLARED = "DCL (K, I1, I2, N1, N2) FIXED BIN(15), A(2) FIXED BIN(15), C CHAR(1), S FIXED BIN(3);"
-BEHIND = "PUT LIST('END', K); OUT: PUT LIST('OUT', S, N1, I1);"
+AFTER = "PUT LIST('END', K); OUT: PUT LIST('OUT', S, N1, I1);"
 
 
 def put_into(form, depth, statements, routines):
-    """A form of that depth with statements in it, and the procedures that stand behind it."""
+    """A form of that depth with statements in it, and the procedures that stand after it."""
     inner = f"DO; {statements} END;" if form.takes_one and statements.count(";") > 1 and depth == 2 else statements
     filled = [text.replace("#", str(depth)).replace("@", inner) for text in (form.text, form.routine)]
     for place, text in enumerate(filled):
@@ -50,7 +50,7 @@ def program(outer, inner, way):
     statements = f"K = K + 1; PUT LIST(K); IF K = {min(turns, 3)} THEN {way} S = K;"
     text, routines = put_into(inner, 2, statements, "")
     text, routines = put_into(outer, 1, text, routines)
-    return " ".join(part for part in (DECLARED, text, BEHIND, routines) if part)
+    return " ".join(part for part in (DECLARED, text, AFTER, routines) if part)
 
 
 def programs(number, outer):

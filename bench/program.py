@@ -5,7 +5,7 @@ PROGRAM is the program itself, not a script; left out, it is crates/pliwb/out/pl
 the output is one thing that was tried, with `ok` or with what was found. The status is 0 where all is well.
 
 What it tries: words, right and wrong; what each status writes on both streams; that each line is answered before more is
-read, and that nothing is awaited behind QUIT; a writer that is closed, a full device, streams that are closed; calls of
+read, and that nothing is awaited after QUIT; a writer that is closed, a full device, streams that are closed; calls of
 the system that are interrupted, by a small library, which cc compiles and which is loaded before the C library's, and by
 signals that stop the program and let it go on.
 """
@@ -104,7 +104,7 @@ def try_words(program):
 
 
 def try_turns(program):
-    """Each line is answered before the next is given, and nothing is awaited behind QUIT."""
+    """Each line is answered before the next is given, and nothing is awaited after QUIT."""
     with subprocess.Popen([program], stdin=subprocess.PIPE, stdout=subprocess.PIPE) as run:
         found = b""
         for line in [b"ADD M SOURCE\n", b"MEMB", b"ERS\r\n", b"RUN\n", b"QUIT\nRUN\n"]:

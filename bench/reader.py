@@ -274,7 +274,7 @@ class Expressions(Tokens):
 
 
 class Declarations(Expressions):
-    """What stands behind DECLARE, and attributes."""
+    """What stands after DECLARE, and attributes."""
 
     def declaration(self):
         """DECLARE item {"," item} ";" """
@@ -337,7 +337,7 @@ class Declarations(Expressions):
         return (word, self.enclosed(self.inside(word)))
 
     def inside(self, word):
-        """What may stand in the parentheses behind an attribute."""
+        """What may stand in the parentheses after an attribute."""
         if word in ("FIXED", "BINARY"):
             return self.precision
         return {"OFFSET": self.name, "BASED": self.qualified}.get(word, self.length)
@@ -390,7 +390,7 @@ class Statements(Declarations):
         self.in_unit = False
 
     def unit(self):
-        """name ":" proc, and nothing behind it"""
+        """name ":" proc, and nothing after it"""
         for ahead, stands in enumerate([self.is_name(), self.text(1) == ":", self.keyword(2) == "PROCEDURE"]):
             if not stands and (ahead < len(self.tokens) or ahead == 0):
                 raise Fault("P1", ahead)
@@ -447,7 +447,7 @@ class Statements(Declarations):
             items.append(self.one(kind, label))
 
     def unlabelled(self, allowed):
-        """stmt, behind THEN, ELSE or ON"""
+        """stmt, after THEN, ELSE or ON"""
         self.begin_statement()
         if self.is_label():
             self.fault("P14")
@@ -457,7 +457,7 @@ class Statements(Declarations):
         return self.one(kind, None)
 
     def one(self, kind, label):
-        """A statement of this kind, behind its label."""
+        """A statement of this kind, after its label."""
         readers = {
             "ASSIGNMENT": self.assignment,
             "NULL": self.null,
@@ -549,12 +549,12 @@ class Statements(Declarations):
     def span(self):
         """[TO expr [BY expr] | BY expr [TO expr] | REPEAT expr]"""
         if self.accept("TO"):
-            return [("to", self.outermost()), *self.behind("BY")]
+            return [("to", self.outermost()), *self.after("BY")]
         if self.accept("BY"):
-            return [("by", self.outermost()), *self.behind("TO")]
-        return self.behind("REPEAT")
+            return [("by", self.outermost()), *self.after("TO")]
+        return self.after("REPEAT")
 
-    def behind(self, word):
+    def after(self, word):
         """[word expr]"""
         return [(word.lower(), self.outermost())] if self.accept(word) else []
 

@@ -1,5 +1,5 @@
 #!/usr/bin/env python3
-"""rebuild.py [PROGRAM]: times BUILDs behind small edits beside the first BUILD of the same workspace, and prints the ratios with their limits.
+"""rebuild.py [PROGRAM]: times BUILDs after small edits beside the first BUILD of the same workspace, and prints the ratios with their limits.
 
 A workspace of 100 units of 300 lines each: a line of one unit gets other tokens; a line gets another comment and the same tokens; nothing is
 edited. One of 999 units of 30 lines each: a line of one unit gets other tokens. One of 100 units that include one member of 1,000 lines each: a
@@ -124,7 +124,7 @@ def edit_of(name, line, text):
 
 
 def workspaces():
-    """Workspaces, each with how many units it has and with the edits behind which it is built again: what is edited, the commands, how many units
+    """Workspaces, each with how many units it has and with the edits after which it is built again: what is edited, the commands, how many units
     are then expanded and compiled, and the greatest ratio."""
     one = (
         ("a line of one", edit_of("U50", 20, "X = MOD(X * @ + Y, 1000);"), 1, 1, 0.02),
@@ -137,7 +137,7 @@ def workspaces():
 
 
 def measure(program, count, typed, edits):
-    """The least time of a first BUILD, and for each of the edits that of a BUILD behind it."""
+    """The least time of a first BUILD, and for each of the edits that of a BUILD after it."""
     first, again = [], [[] for _ in edits]
     for session in range(SESSIONS):
         workbench = Workbench(program)

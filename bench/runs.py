@@ -209,12 +209,12 @@ class Grower:
         """A list of statements, of which some have labels, to which some of them go."""
         self.labels += 1
         label = f"L{self.labels}"
-        before, behind = [], []
+        before, after = [], []
         for _ in range(1 + self.below(many)):
             before += self.statement(label)
         for _ in range(self.below(many)):
-            behind += self.statement(label)
-        return [*before, label, ":", *self.statement(None), *behind]
+            after += self.statement(label)
+        return [*before, label, ":", *self.statement(None), *after]
 
     def statement(self, label):
         forms = [self.assign] * 4 + [self.put] * 3 + [self.if_statement] * 2 + [self.call] * 2 + [self.aggregate, self.null]

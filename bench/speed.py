@@ -62,8 +62,8 @@ def timed_by_python(path):
 
 def words_in(answers):
     """The words that a session's run printed."""
-    behind = answers.partition("BUILT\n")[2]
-    return behind.partition("ENDED\n")[0].split() if "ENDED\n" in behind else answers.split()
+    after = answers.partition("BUILT\n")[2]
+    return after.partition("ENDED\n")[0].split() if "ENDED\n" in after else answers.split()
 
 
 def main():

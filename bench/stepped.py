@@ -25,7 +25,7 @@ KEPT = HERE.parent / "crates" / "pli_sessions" / "data" / "stepped"
 MOST_STEPS, MANY = 30, 2000
 WIDTH = 110
 
-# What the statements of types.txt stand behind, and before.
+# What the statements of types.txt stand after, and before.
 DECLARED = [
     "U: PROC OPTIONS(MAIN);",
     "DCL (I, J) FIXED BIN(15), N FIXED BIN(31), C CHAR(4), V CHAR(6) VAR, B BIT(4), D BIT(8);",
@@ -161,11 +161,11 @@ def faulty_statements():
     for written in (HERE / "types.txt").read_text().splitlines():
         if written and not written.startswith("#"):
             code, statement = written.split(" ", 1)
-            before, mark, behind = statement.partition("@")
+            before, mark, after = statement.partition("@")
             if before.strip():
                 lines.append(before.rstrip())
             if mark:
-                lines.append(behind)
+                lines.append(after)
                 wanted.append((len(lines), code))
     return lines + ROUTINES, wanted
 

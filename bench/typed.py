@@ -79,7 +79,7 @@ class Reader(faults.Placed):
         return tree
 
     def do(self, label):
-        # the `=` behind the control variable
+        # the `=` after the control variable
         equals = []
         expect = self.expect
 
@@ -295,7 +295,7 @@ class Fault(Exception):
 
 
 class Part:
-    """A name with what stands in parentheses behind it, or None."""
+    """A name with what stands in parentheses after it, or None."""
 
     def __init__(self, tree):
         self.name, self.arguments = (tree, None) if isinstance(tree, str) else (tree[0], tree[1])

@@ -302,9 +302,9 @@ class Changer(Grower):
         program[at] = member, [*words[:place], *self.chosen(*others), *words[end + 1 :]]
 
     def insert(self, program):
-        """A block more, before all declarations or behind them, which declares a name that other units have too."""
+        """A block more, before all declarations or after them, which declares a name that other units have too."""
         declared = self.chosen(*INNER).strip().split()
-        place = self.chosen(self.put_before, self.put_behind)
+        place = self.chosen(self.put_before, self.put_after)
         place(program, *self.unit_of(program), ["BEGIN", ";", "DCL", *declared, ";", "END", ";"])
 
     @staticmethod
@@ -313,7 +313,7 @@ class Changer(Grower):
         program[at] = member, [*words[:start], *more, *words[start:]]
 
     @staticmethod
-    def put_behind(program, at, member, words, more):
+    def put_after(program, at, member, words, more):
         end = len(words) - words[::-1].index("END") - 1
         program[at] = member, [*words[:end], *more, *words[end:]]
 
@@ -339,7 +339,7 @@ class Changer(Grower):
             for _ in range(1 + self.below(2)):
                 at, member, words = self.unit_of(program)
                 if declared[1] not in words:
-                    self.put_behind(program, at, member, words, declared)
+                    self.put_after(program, at, member, words, declared)
 
 
 class StackGrower(Grower):

@@ -22,14 +22,14 @@ class Item(namedtuple("Item", "at name block parent level array attributes kind"
         return any(token.text in words for token in self.attributes)
 
     def size(self, words, default):
-        """The number in parentheses behind one of these attributes, or the default."""
+        """The number in parentheses after one of these attributes, or the default."""
         texts = [token.text for token in self.attributes]
         sizes = [texts[at + 2] for at, text in enumerate(texts[:-2]) if text in words and texts[at + 1] == "("]
         return int(sizes[0]) if sizes and sizes[0].isdigit() else default
 
 
 def closing(tokens, at):
-    """The place behind a token, or behind the parenthesis that it opens; the statement's end where none closes it."""
+    """The place after a token, or after the parenthesis that it opens; the statement's end where none closes it."""
     depth = 0
     for place in range(at, len(tokens)):
         depth += {"(": 1, ")": -1}.get(tokens[place].text, 0)
@@ -56,11 +56,11 @@ def declared(tokens):
     found = []
     for first, last in (part for each in starts if tokens[each[0]].text != "=" for part in parts(tokens, *each)):
         at = first + (first < last and tokens[first].kind == "number")
-        behind = closing(tokens, at) if at < last else at + 1
-        dimensions = behind < last and tokens[behind].text == "("
-        attributes = tokens[closing(tokens, behind) if dimensions else behind : last]
+        after = closing(tokens, at) if at < last else at + 1
+        dimensions = after < last and tokens[after].text == "("
+        attributes = tokens[closing(tokens, after) if dimensions else after : last]
         level = int(tokens[first].text) if at > first else 1
-        names = [place for place in range(at, min(behind, last)) if tokens[place].kind == "name"]
+        names = [place for place in range(at, min(after, last)) if tokens[place].kind == "name"]
         found += [Item(place, tokens[place].text, -1, -1, level, dimensions, attributes) for place in names]
     return found
 
@@ -86,7 +86,7 @@ def expanded(members, name):
 
 
 def after_expression(tokens, at):
-    """The place behind the longest expression that begins at a place; none where there is none."""
+    """The place after the longest expression that begins at a place; none where there is none."""
     opened, operand, reference = [], True, False
     for at in range(at, len(tokens)):
         kind, text = tokens[at].kind, tokens[at].text
@@ -134,8 +134,8 @@ def statements(tokens):
             end = min(at + 2, end)
         found.append(Statement(start, at, end, word, around, is_else))
         around = around[:-1] if word == "END" else (*around, len(found) - 1) if word in OPENING else around
-        behind = [token.text for token in tokens[end : end + 2]]
-        is_else = end == last and behind[:1] == ["ELSE"] and behind[1:] != [":"] and not is_assignment(tokens, end)
+        after = [token.text for token in tokens[end : end + 2]]
+        is_else = end == last and after[:1] == ["ELSE"] and after[1:] != [":"] and not is_assignment(tokens, end)
         at = end + is_else
     return found
 

@@ -21,7 +21,7 @@ def printed(name):
 
 
 def shown(block):
-    """An example as a terminal shows it: a heading, and its lines behind four blanks."""
+    """An example as a terminal shows it: a heading, and its lines after four blanks."""
     return "\n".join([f"{block[1].capitalize()}:", *("    " + line for line in block[2].splitlines())])
 
 

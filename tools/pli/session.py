@@ -114,7 +114,7 @@ def traced(outline, declaration, counting):
     statements, words = outline.statements, []
 
     def add(number, within=()):
-        """Adds a statement with all that stands in it, behind THEN, ELSE and ON within these words and END; gives the
+        """Adds a statement with all that stands in it, after THEN, ELSE and ON within these words and END; gives the
         number of the next.
         """
         each, following = statements[number], number + 1
@@ -233,7 +233,7 @@ class Shell:
         return 0
 
     def begin_again(self):
-        """Behind Ctrl-C: a new workbench with the same members, where one was asked."""
+        """After Ctrl-C: a new workbench with the same members, where one was asked."""
         if not self.bench.busy:
             show(b"\n")
             return
@@ -246,7 +246,7 @@ class Shell:
         signal.signal(signal.SIGINT, handler)
 
     def typed(self, gone, members):
-        """Types members, behind the end of others."""
+        """Types members, after the end of others."""
         commands = [command for member in members.values() for command in member.typed()]
         answers = self.bench.ask([f"DELETE {name}".encode() for name in gone] + commands)
         for wrong in filter(b"OK".__ne__, answers):

@@ -58,7 +58,7 @@ class Workbench:
             self.child.stdin.close()
 
     def say(self, commands):
-        """Gives commands, and the mark behind them."""
+        """Gives commands, and the mark after them."""
         self.given.put(b"".join(command + b"\n" for command in [*commands, f"LIST {self.mark}".encode()]))
 
     def plan(self, questions):

@@ -14,7 +14,7 @@ def listed(text):
 
 
 def below(uses, name):
-    """A crate and all that it stands on, each behind what it stands on itself."""
+    """A crate and all that it stands on, each after what it stands on itself."""
     found = {}
 
     def visit(each):

@@ -219,7 +219,7 @@ def unit(statement):
 
 class LeftOut(unittest.TestCase):
     def at(self, statement):
-        """The tokens of a unit and the number of the token behind `@`."""
+        """The tokens of a unit and the number of the token after `@`."""
         tokens = scan(unit(statement), "")
         column = statement.index("@") + 1
         return tokens, next(at for at, token in enumerate(tokens) if (token.line, token.column) == (2, column))

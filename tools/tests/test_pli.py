@@ -74,7 +74,7 @@ class Room(unittest.TestCase):
         self.assertEqual(self.pli(*words), (status, output, told))
 
     def check_told(self, words, *parts, status=1):
-        """What is told has these parts, one behind the other."""
+        """What is told has these parts, one after the other."""
         found = self.pli(*words)
         self.assertEqual(found[0], status, found)
         rest = found[2]
@@ -148,7 +148,7 @@ class Runs(Room):
 
 
 class Commands(Room):
-    """Commands behind `--`."""
+    """Commands after `--`."""
 
     def test_answers_and_statuses(self):
         self.write(m_pli=body("PUT LIST(1);"))
@@ -410,7 +410,7 @@ class Signals(Room):
                                 env={**os.environ, "PLIWB": WORKBENCH})
 
     def stopped(self, running, number):
-        """What a running call gives behind a signal; its workbench ends too."""
+        """What a running call gives after a signal; its workbench ends too."""
         children = Path(f"/proc/{running.pid}/task/{running.pid}/children").read_text().split()
         running.send_signal(number)
         output, told = running.communicate(timeout=WAIT)

@@ -116,15 +116,15 @@ finds size capacity from (b ∷ bs) even s within =
           least = λ other low high apart. low;
         }
 
-    behind : start_of b < from + (8 + rounded size) → (other : ℕ) → from + 8 ≤ other → IsApart size other (b ∷ bs) → end_of b + 8 ≤ other
-    behind short other low apart =
+    beyond : start_of b < from + (8 + rounded size) → (other : ℕ) → from + 8 ≤ other → IsApart size other (b ∷ bs) → end_of b + 8 ≤ other
+    beyond short other low apart =
         elim apart.0 [
           | inl before ↦ absurd (omega (arith, before, low, short))
           | inr after ↦ omega (arith, after, low, s.0)
         ]
 
     further : (o : Option ℕ) → start_of b < from + (8 + rounded size) → Finds size capacity (end_of b) bs o → Finds size capacity from (b ∷ bs) o
-    further None short n = record { none = λ other low high apart. n.none other (behind short other low apart) high apart.1 }
+    further None short n = record { none = λ other low high apart. n.none other (beyond short other low apart) high apart.1 }
     further (Some place) short f =
         let low = s.0 in
         let above = f.low in
@@ -133,7 +133,7 @@ finds size capacity from (b ∷ bs) even s within =
           aligned = f.aligned;
           below = f.below;
           apart = (inr (omega (arith, above)), f.apart);
-          least = λ other low high apart. f.least other (behind short other low apart) high apart.1;
+          least = λ other low high apart. f.least other (beyond short other low apart) high apart.1;
         }
 
 pub first_is_least : (a : Blocks) (size : ℕ) → IsArea a → MatchOption (first_fit a size) (IsFull a size) (IsLeast a size)

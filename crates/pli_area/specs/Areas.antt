@@ -11,7 +11,7 @@ pub use Rattle.pli_area.specs.Placing.{rounded, start_of}
 
 -- ---- what a block covers
 
--- blocks stand one behind another from this place on, at multiples of 8, each with as many bytes as its
+-- blocks stand one after another from this place on, at multiples of 8, each with as many bytes as its
 -- size says
 abbrev pub Stand : (from : ℕ) → List Block → Type 0
 Stand from [] = Unit {0}
@@ -33,7 +33,7 @@ IsApart size position [] = Unit {0}
 IsApart size position (b ∷ bs) =
     ((position + rounded size ≤ start_of b) ⊎ (end_of b ≤ position - 8)) × IsApart size position bs
 
--- an area allows a block of this size at this position: a multiple of 8, behind a header, with all that it
+-- an area allows a block of this size at this position: a multiple of 8, after a header, with all that it
 -- covers below the capacity and apart from the other blocks
 pub record Allows (a : Blocks) (size position : ℕ) : Type 0 where
   pub aligned : position % 8 ≡ 0

@@ -27,7 +27,7 @@ rounded size = 8 * ((size + 7) / 8)
 abbrev pub start_of : Block → ℕ
 start_of b = b.position - 8
 
--- to its size, rounded up, behind its position
+-- to its size, rounded up, after its position
 abbrev pub end_of : Block → ℕ
 end_of b = b.position + rounded b.size
 

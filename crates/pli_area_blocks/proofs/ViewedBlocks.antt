@@ -23,7 +23,7 @@ module _ (b : area.Block) (new : List ℕ) (header : 8 ≤ b.position) where
   other : (c : area.Block) → ((b.position + rounded b.size ≤ c.position - 8) ⊎ (c.position + rounded c.size ≤ b.position - 8))
       → c.position ≢ b.position
   other c (inl before) same = omega (arith, before, same, header)
-  other c (inr behind) same = omega (arith, behind, same, header)
+  other c (inr after) same = omega (arith, after, same, header)
 
   pub placed_found : (bs : List area.Block) → IsApart b.size b.position bs → area.block_at (area.with_block bs b) b.position ≡ Some b
   placed_found [] apart = rw (eq-eqb b.position b.position refl) refl

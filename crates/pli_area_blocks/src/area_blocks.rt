@@ -92,7 +92,7 @@ impl<'m> AreaBlocks<'m> {
         take_block(&mut self.area, position);
     }
 
-    /// The bytes of a part of the block at a position, so many bytes behind the block's beginning.
+    /// The bytes of a part of the block at a position, so many bytes after the block's beginning.
     pub fn read(
         &self,
         alloc: Global,
@@ -132,7 +132,7 @@ impl<'m> AreaBlocks<'m> {
         self.area.empty();
     }
 
-    /// Takes over the blocks of another area, at the same positions; `false` where they end behind the last byte, and
+    /// Takes over the blocks of another area, at the same positions; `false` where they end past the last byte, and
     /// then nothing has changed, as after an error.
     pub fn assign(&mut self, alloc: Global, source: &AreaBlocks<'m>) -> Result<bool, AllocError>
         ensures answer { IfOk result (λ fits. AssignsBlocks fits (capacity_of self.old) (blocks_view source.now)

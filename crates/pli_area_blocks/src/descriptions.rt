@@ -21,7 +21,7 @@ fn index_of(descriptions: &[&Description], description: &Description) -> Option<
     None
 }
 
-/// The number of a description among these, which have it behind the others if none of them is equal to it.
+/// The number of a description among these, which have it after the others if none of them is equal to it.
 pub(crate) fn number_in<'m>(
     descriptions: &mut Vec<&'m Description>,
     description: &'m Description,

@@ -1,4 +1,4 @@
--- The trees of what stands behind DECLARE, as definitions speak of them (X3.74): without where they lie in
+-- The trees of what stands after DECLARE, as definitions speak of them (X3.74): without where they lie in
 -- memory.
 use Rattle.std.specs.Prelude.{ℕ, List, Option, ℤ, pos, ◌-ℤ◌, if◌then◌else◌}
 use Rattle.pli_base.specs.Name.{Name}

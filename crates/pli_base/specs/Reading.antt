@@ -1,9 +1,9 @@
--- Reading tokens (own): what a reader gives, and how one goes on behind another. Tokens are counted from 0,
+-- Reading tokens (own): what a reader gives, and how one goes on after another. Tokens are counted from 0,
 -- and p is the place of the first.
 use Rattle.std.specs.Prelude.{ℕ, ◌+◌, ◌-◌, Bool, Option, Some, None, Result, Ok, Err, List, [], ◌∷◌}
 use Rattle.pli_base.specs.Results.{◌>>=◌}
 use Rattle.std.specs.Prelude.{if◌then◌else◌}
-use Rattle.pli_base.specs.Words.{Tokens, is_procedure, is_close, behind}
+use Rattle.pli_base.specs.Words.{Tokens, is_procedure, is_close, rest_after}
 use Rattle.pli_base.specs.declared.code.Code.{Code}
 use Rattle.pli_base.specs.declared.code.Code.TheVariants.{EndMissing, ParenthesisExpected}
 use Rattle.pli_base.specs.declared.token.Fault.{Fault}
@@ -24,13 +24,13 @@ misfit code p (t ∷ ts) = record { code = code; at = p }
 abbrev pub expected : {A : Type 0} → Code → ℕ → Tokens → Result A Fault
 expected code p ts = Err (misfit code p ts)
 
--- what was read, the place behind it and the tokens from there
+-- what was read, the place after it and the tokens from there
 pub record Front (A : Type 0) : Type 0 where
   pub value : A
   pub next : ℕ
   pub rest : Tokens
 
--- a value that was read, with what is behind it
+-- a value that was read, with what is after it
 abbrev pub read_as : {A : Type 0} → A → ℕ → Tokens → Result (Front A) Fault
 read_as value p ts = Ok (record { value = value; next = p; rest = ts })
 
@@ -38,16 +38,16 @@ read_as value p ts = Ok (record { value = value; next = p; rest = ts })
 abbrev pub mapped : {A B : Type 0} → (A → B) → Result (Front A) Fault → Result (Front B) Fault
 mapped f read = read >>= λ x. read_as (f x.value) x.next x.rest
 
--- the tokens behind one that must stand, where they are known, or the fault at the first
+-- the tokens after one that must stand, where they are known, or the fault at the first
 abbrev pub taken_or : Code → ℕ → Tokens → Option Tokens → Result Tokens Fault
 taken_or code p ts (Some us) = Ok us
 taken_or code p ts None = expected code p ts
 
--- the tokens behind the first, which must fit, or the fault at it
+-- the tokens after the first, which must fit, or the fault at it
 unfoldable pub taken : (TokenText → Bool) → Code → ℕ → Tokens → Result Tokens Fault
-taken fits code p ts = taken_or code p ts (behind fits ts)
+taken fits code p ts = taken_or code p ts (rest_after fits ts)
 
--- what is read, and the `)` behind it
+-- what is read, and the `)` after it
 abbrev pub enclosed : {A : Type 0} → Result (Front A) Fault → Result (Front A) Fault
 enclosed read =
     read >>= λ x. taken is_close ParenthesisExpected x.next x.rest >>= λ rest. read_as x.value (x.next

@@ -1,4 +1,4 @@
--- One thing behind another, where each gives a value or a fault.
+-- One thing after another, where each gives a value or a fault.
 use Rattle.std.specs.Prelude.{Result, Ok, Err}
 
 infixl 10 ◌>>=◌

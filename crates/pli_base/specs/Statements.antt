@@ -36,7 +36,7 @@ pub record Allocation : Type 0 where
   pub area : Option Reference
   pub target : Option Reference
 
--- at is the first token behind the label, equals the token of `=`, end the number of an END
+-- at is the first token after the label, equals the token of `=`, end the number of an END
 mutual
   pub data Statement : Type 0 where
     Numbered : (number : ℕ) (label : Option Identifier) (at : ℕ) (body : Body) → Statement
@@ -100,7 +100,7 @@ abbrev mutual
   alternative_count NoElse = 0
   alternative_count (Else statement) = count statement
 
--- the last IF of a statement has no ELSE: an ELSE behind it would be that IF's
+-- the last IF of a statement has no ELSE: an ELSE after it would be that IF's
 abbrev mutual
   pub AwaitsElse : Statement → Type 0
   AwaitsElse (Numbered number label at body) = BodyAwaitsElse body

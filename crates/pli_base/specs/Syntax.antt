@@ -16,11 +16,11 @@ mutual
     Prefix : (operator : PrefixOperator) (at : ℕ) (operand : Expression) → Expression
     Infix : (operator : InfixOperator) (at : ℕ) (left right : Expression) → Expression
 
-  -- a name, what stands in parentheses behind it, and the parts that are joined to it
+  -- a name, what stands in parentheses after it, and the parts that are joined to it
   pub data Reference : Type 0 where
     Named : (name : Identifier) (arguments : Arguments) (more : JoinedParts) → Reference
 
-  -- the parts behind `.` or `->`, each with what joins it to the one before
+  -- the parts after `.` or `->`, each with what joins it to the one before
   pub data JoinedParts : Type 0 where
     Alone : JoinedParts
     Joined : (joining : Joining) (name : Identifier) (arguments : Arguments) (more : JoinedParts)

@@ -1,5 +1,5 @@
 -- The tokens of a tree, in the order of the text (own): those of names, constants, operators, the `(` of an
--- expression and the `=` of an assignment or an iteration, and the first token of each statement behind its
+-- expression and the `=` of an assignment or an iteration, and the first token of each statement after its
 -- label. Tokens are counted from 0.
 use Rattle.std.specs.Prelude.{ℕ, ◌+◌, ◌≤◌, nat_lt, List, [], ◌∷◌, ◌++◌, Option, Some, None, if◌then◌else◌}
 use Rattle.pli_base.specs.Syntax.{Expression, Referred, Constant, Parenthesized, Prefix, Infix, Reference}
@@ -12,7 +12,7 @@ use Rattle.pli_base.specs.Statements.{Free, Call, Goto, Return, Put, Statements,
 use Rattle.pli_base.specs.Statements.{NoElse, Else, ExternalProcedure}
 use Rattle.pli_base.specs.declared.syntax.Identifier.{Identifier}
 
--- the tokens rise: the first is low or behind it, each other is behind the one before it, and all are before
+-- the tokens rise: the first is low or after it, each other is after the one before it, and all are before
 -- high
 abbrev pub Rises : (low : ℕ) → List ℕ → (high : ℕ) → Type 0
 Rises low [] high = low ≤ high
@@ -37,7 +37,7 @@ abbrev mutual
   joined_tokens (Joined joining name arguments more) =
       name.at ∷ (argument_tokens arguments ++ joined_tokens more)
 
-  -- the tokens of what stands in parentheses behind a name
+  -- the tokens of what stands in parentheses after a name
   pub argument_tokens : Arguments → List ℕ
   argument_tokens Absent = []
   argument_tokens (Given list) = listed_tokens list
@@ -47,7 +47,7 @@ abbrev mutual
   listed_tokens Empty = []
   listed_tokens (Listed first more) = expression_tokens first ++ listed_tokens more
 
--- what each has, one behind the other
+-- what each has, one after the other
 abbrev pub tokens_of_each : {A : Type 0} → (A → List ℕ) → List A → List ℕ
 tokens_of_each tokens [] = []
 tokens_of_each tokens (x ∷ xs) = tokens x ++ tokens_of_each tokens xs
@@ -96,7 +96,7 @@ abbrev mutual
   pub statement_tokens : Statement → List ℕ
   statement_tokens (Numbered number label at body) = tokens_of_some name_tokens label ++ begun_tokens at body
 
-  -- the tokens of a statement behind its label, whose first token is given
+  -- the tokens of a statement after its label, whose first token is given
   pub begun_tokens : (at : ℕ) → Body → List ℕ
   begun_tokens at (Assign target equals value) = reference_tokens target ++ (equals ∷ expression_tokens value)
   begun_tokens at (Declare items) = at ∷ tokens_of_each item_tokens items

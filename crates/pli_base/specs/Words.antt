@@ -61,12 +61,12 @@ abbrev pub is_period : TokenText → Bool
 is_period (Sign Period) = true
 is_period _ = false
 
--- the tokens behind the first, if it fits
-unfoldable pub behind : (TokenText → Bool) → Tokens → Option Tokens
-behind fits [] = None
-behind fits (t ∷ ts) = if fits t then Some ts else None
+-- the tokens after the first, if it fits
+unfoldable pub rest_after : (TokenText → Bool) → Tokens → Option Tokens
+rest_after fits [] = None
+rest_after fits (t ∷ ts) = if fits t then Some ts else None
 
--- the name that the tokens begin with, and those behind it
+-- the name that the tokens begin with, and those after it
 unfoldable pub name_first : Tokens → Option (Name × Tokens)
 name_first (Word n ∷ ts) = Some (n, ts)
 name_first _ = None

@@ -1,4 +1,4 @@
-//! The trees of what stands behind DECLARE, and in the parentheses of a procedure's RETURNS.
+//! The trees of what stands after DECLARE, and in the parentheses of a procedure's RETURNS.
 //! None of the types leads back to itself. An ENTRY or RETURNS in the description of a parameter or of a result is a
 //! fault of the declaration whatever its parentheses hold, so that nothing is kept of them, and a text may nest them as
 //! deep as it likes.

@@ -1,10 +1,10 @@
-//! Failures: what is wrong, or want of memory.
+//! Failures: what is wrong, or that memory was refused.
 ghost use Rattle.std.specs.Prelude.{◌≡◌};
 ghost use Rattle.pli_base.specs.declared.failure.Failure.TheVariants.{OutOfMemory};
 
 use std::alloc::{AllocError, AllocFailed};
 
-/// Why there is no result: what is wrong, a fault or all faults, or want of memory.
+/// Why there is no result: what is wrong, a fault or all faults, or that memory was refused.
 #[derive(Clone, Copy, Debug, PartialEq, Eq, Drop)]
 pub enum Failure<F> {
     /// What is wrong.

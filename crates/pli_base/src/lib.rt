@@ -21,7 +21,7 @@ pub use failure::Failure;
 pub use line::Line;
 pub use name::{NAME_LIMIT, Name};
 pub use reading::{
-    Front, ParseError, behind_close, behind_colon, behind_comma, behind_open, behind_period,
+    Front, ParseError, after_close, after_colon, after_comma, after_open, after_period,
     close_taken, fault, misfit, name_first, open_taken, semicolon_taken,
 };
 /// The whole tree of a unit, which is its external procedure.

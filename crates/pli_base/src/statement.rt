@@ -78,7 +78,7 @@ pub struct Procedure {
 pub struct Statement {
     pub number: u32,
     pub label: Option<Identifier>,
-    /// Its first token behind the label.
+    /// Its first token after the label.
     pub at: u32,
     pub body: Body,
 }

@@ -52,7 +52,7 @@ pub enum Joining {
     Located,
 }
 
-/// A name, and the list in parentheses behind it: `F()` has an empty list, `F` has none (X3.74).
+/// A name, and the list in parentheses after it: `F()` has an empty list, `F` has none (X3.74).
 #[cycle(expression)]
 #[derive(Drop)]
 pub struct Part {

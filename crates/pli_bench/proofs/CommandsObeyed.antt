@@ -132,7 +132,7 @@ module _ (s : State) (n : ℕ) (m : Module) (stands : s.stands ≡ true) (built 
       let p = h means_at.outcome means_at.runs in
       (p.written ++ 10 ∷ no_memory, runs_with _ (inr (record { written = p.written; left = p.left; whole = p.whole; says = refl })), writes_then a b c _ _ r p.appended w)
 
-  -- one that was not begun for want of it
+  -- one that was not begun since memory was refused
   pub run_unbegun : {A E : Type 0} (a c : Option (List ℕ)) (r : Result A E) → Writes a c (10 ∷ no_memory) r → (x : List ℕ) × Runs s.stands n (exchange s x s) × Writes a c x r
   run_unbegun a c r w = (10 ∷ no_memory, runs_with _ (inr (record { written = []; left = means_at.outcome.output; whole = refl; says = refl })), w)
 
@@ -153,7 +153,7 @@ answered_one s t line command a b (Err x) r e q g d =
 not_one : (column : ℕ) → column ≢ 1 → nat_eq column 1 ≡ false
 not_one column h = grind (arith, nat_tests)
 
--- behind a full or a begun line there is a line end
+-- after a full or a begun line there is a line end
 later_end : (column : ℕ) (e : Ending) → column ≢ 1 → 10 ∷ [] ++ ending_line e ≡ end_answer column e
 later_end column e h = ap (λ b. (if b then [] else 10 ∷ []) ++ ending_line e) (sym (not_one column h))
 

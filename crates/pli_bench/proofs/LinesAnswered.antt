@@ -148,7 +148,7 @@ module _ {S : Type 0} (Step : List ℕ → Exchange S → Type 0) (quits : List 
         ∙ ap (take kept_limit) (sym (pending_from-other begun bytes c other));
   }
 
-  -- more bytes behind those of which the lines are answered
+  -- more bytes after those of which the lines are answered
   pub Going-then : (s t u : S) (begun xs kept ys kept_after : List ℕ) (a b d : Option (List ℕ)) → Going Step quits s t begun xs kept a b
       → Answered Step quits (complete_from (pending_from begun xs) ys) (span t u) (span b d) (Ok End) → kept_after ≡ take kept_limit (pending_from (pending_from begun xs) ys)
       → Going Step quits s u begun (xs ++ ys) kept_after a d
@@ -175,7 +175,7 @@ module _ {S : Type 0} (Step : List ℕ → Exchange S → Type 0) (quits : List 
       | inr both ↦ goes other both.1 ∙ sym (goes line both.0)
     ]
 
-    -- a line feed behind a line that does not quit
+    -- a line feed after a line that does not quit
     pub Going-line : (s t u : S) (begun bytes kept ended answer : List ℕ) (c : ℕ) (a b d : Option (List ℕ)) → is_line_feed c ≡ true → Going Step quits s t begun bytes kept a b → ended ≡ without_return kept
         → quits ended ≡ false → Step ended (exchange t answer u) → Appends b d answer → Going Step quits s u begun (bytes ++ c ∷ []) [] a d
     Going-line s t u begun bytes kept ended answer c a b d feed so_far ended_is still step written =
@@ -190,7 +190,7 @@ module _ {S : Type 0} (Step : List ℕ → Exchange S → Type 0) (quits : List 
           kept_is = ap (take kept_limit) (sym (pending_from-line_feed begun bytes c feed));
         }
 
-    -- a line feed behind the line that quits
+    -- a line feed after the line that quits
     pub quit_line : (s t u : S) (begun bytes kept ended answer : List ℕ) (c : ℕ) (more : List ℕ) (a b d : Option (List ℕ)) → is_line_feed c ≡ true → Going Step quits s t begun bytes kept a b → ended ≡ without_return kept
         → quits ended ≡ true → Step ended (exchange t answer u) → Appends b d answer → Answered Step quits (complete_from begun (bytes ++ c ∷ more)) (span s u) (span a d) (Ok Quit)
     quit_line s t u begun bytes kept ended answer c more a b d feed so_far ended_is quit step written =
@@ -200,7 +200,7 @@ module _ {S : Type 0} (Step : List ℕ → Exchange S → Type 0) (quits : List 
         subst (λ l. Answered Step quits l (span s u) (span a d) (Ok Quit)) (sym (complete_from-line_feed begun bytes c more feed))
         (Answered-then s t u (complete_from begun bytes) (line ∷ complete_from [] more) so_far.answers a b d (Ok Quit) so_far.answered so_far.written one)
 
-    -- the bytes up to that line feed, and those behind it
+    -- the bytes up to that line feed, and those after it
     pub quits_within : (s t : S) (begun bytes kept ended : List ℕ) (c : ℕ) (more : List ℕ) (a b : Option (List ℕ)) → is_line_feed c ≡ true → Going Step quits s t begun bytes kept a b → ended ≡ without_return kept
         → quits ended ≡ true → QuitsWithin quits (length (bytes ++ c ∷ more)) begun (bytes ++ c ∷ more)
     quits_within s t begun bytes kept ended c more a b feed so_far ended_is quit =
@@ -208,7 +208,7 @@ module _ {S : Type 0} (Step : List ℕ → Exchange S → Type 0) (quits : List 
         let alike = alike_ended kept (pending_from begun bytes) ended so_far.kept_is ended_is in
         record {
           front = bytes ++ c ∷ [];
-          behind = more;
+          after = more;
           bytes_are = sym (append_assoc bytes (c ∷ []) more);
           few = omega (arith, length-append bytes (c ∷ more));
           lines = complete_from begun bytes;
@@ -219,7 +219,7 @@ module _ {S : Type 0} (Step : List ℕ → Exchange S → Type 0) (quits : List 
           quit = quits_alike ended line alike ∙ quit;
         }
 
-    -- a line feed behind a line whose answer cannot be written
+    -- a line feed after a line whose answer cannot be written
     pub broken_line : (s t u : S) (begun bytes kept ended answer : List ℕ) (c : ℕ) (more : List ℕ) (a b d : Option (List ℕ)) → is_line_feed c ≡ true → Going Step quits s t begun bytes kept a b → ended ≡ without_return kept
         → Step ended (exchange t answer u) → AppendsPrefix b d answer → Broken Step quits (complete_from begun (bytes ++ c ∷ more)) (span s u) (span a d)
     broken_line s t u begun bytes kept ended answer c more a b d feed so_far ended_is step written =
@@ -273,12 +273,12 @@ module _ {S : Type 0} (Step : List ℕ → Exchange S → Type 0) (quits : List 
       → ((xs ys : List (List ℕ)) → Answered Step quits xs (span s u) (span a d) r → Answered Step quits (xs ++ ys) (span s u) (span a d) r)
       → Going Step quits s t [] taken kept a b → Consumes left between taken → Consumes between left_after piece → Answered Step quits (complete_from (pending_line taken) piece) (span t u) (span b d) r
       → (input : List ℕ) × IsInput left input × Answered Step quits (input_lines input) (span s u) (span a d) r
-  served_part s t u taken kept piece a b d left between left_after r stays so_far before behind run =
+  served_part s t u taken kept piece a b d left between left_after r stays so_far before after run =
       let more = input_lines-append (taken ++ piece) (unwrap_or left_after []) in
       let lines = complete_lines taken ++ complete_from (pending_line taken) piece in
       let both = Answered-then Step quits s t u (complete_lines taken) (complete_from (pending_line taken) piece) so_far.answers a b d r so_far.answered so_far.written run in (
         (taken ++ piece) ++ unwrap_or left_after [],
-        input_told left left_after (taken ++ piece) (Consumes-then left between left_after taken piece before behind),
+        input_told left left_after (taken ++ piece) (Consumes-then left between left_after taken piece before after),
         subst (λ l. Answered Step quits l (span s u) (span a d) r) (sym (more.1 ∙ ap (λ l. l ++ more.0) (complete_from-append [] taken piece))) (stays lines more.0 both),
       )
 
@@ -286,19 +286,19 @@ module _ {S : Type 0} (Step : List ℕ → Exchange S → Type 0) (quits : List 
   pub served_end : (s t u : S) (taken kept : List ℕ) (a b d left between left_after : Option (List ℕ)) (r : Result AfterCommand WriteFailed)
       → Going Step quits s t [] taken kept a b → Consumes left between taken → Consumes between left_after [] → IsAtEnd left_after → Answered Step quits (last_line (pending_line taken)) (span t u) (span b d) r
       → (input : List ℕ) × IsInput left input × Answered Step quits (input_lines input) (span s u) (span a d) r
-  served_end s t u taken kept a b d left between left_after r so_far before behind ended run = (
+  served_end s t u taken kept a b d left between left_after r so_far before after ended run = (
     taken,
-    input_ended left left_after taken (subst (Consumes left left_after) (append-nil taken) (Consumes-then left between left_after taken [] before behind)) ended,
+    input_ended left left_after taken (subst (Consumes left left_after) (append-nil taken) (Consumes-then left between left_after taken [] before after)) ended,
     Answered-then Step quits s t u (complete_lines taken) (last_line (pending_line taken)) so_far.answers a b d r so_far.answered so_far.written run,
   )
 
--- the line that quits, in a piece behind what was taken before
+-- the line that quits, in a piece after what was taken before
 pub QuitsWithin-then : (quits : List ℕ → Bool) (limit size : ℕ) (taken piece : List ℕ) → limit ≤ size → All (λ l. quits l ≡ false) (complete_lines taken)
     → QuitsWithin quits limit (pending_line taken) piece → QuitsWithin quits size [] (taken ++ piece)
 QuitsWithin-then quits limit size taken piece within go_on q = record {
   front = taken ++ q.front;
-  behind = q.behind;
-  bytes_are = ap (λ l. taken ++ l) q.bytes_are ∙ sym (append_assoc taken q.front q.behind);
+  after = q.after;
+  bytes_are = ap (λ l. taken ++ l) q.bytes_are ∙ sym (append_assoc taken q.front q.after);
   few = omega (arith, q.few);
   lines = complete_lines taken ++ q.lines;
   line = q.line;

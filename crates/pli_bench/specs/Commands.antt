@@ -16,7 +16,7 @@ pub data Command : Type 0 where
   Add : (name : Name) (kind : MemberKind) → Command
   -- a member goes
   Delete : (name : Name) → Command
-  -- a new line behind the line of this number, 0 for the front
+  -- a new line after the line of this number, 0 for the front
   Insert : (name : Name) (after : ℕ) (text : List ℕ) → Command
   -- another text for the line of this number, 1 for the first
   Replace : (name : Name) (number : ℕ) (text : List ℕ) → Command
@@ -49,9 +49,9 @@ is_blank c = nat_eq c 32
 abbrev pub first_word : List ℕ → List ℕ
 first_word text = before_first is_blank text
 
--- what stands behind the first blank, if there is one
-abbrev pub behind_blank : List ℕ → Option (List ℕ)
-behind_blank text = option_map (λ k. drop (k + 1) text) (position is_blank text)
+-- what stands after the first blank, if there is one
+abbrev pub after_blank : List ℕ → Option (List ℕ)
+after_blank text = option_map (λ k. drop (k + 1) text) (position is_blank text)
 
 -- words are one in either case
 abbrev pub is_word : List ℕ → List ℕ → Bool
@@ -63,7 +63,7 @@ number_of limit digits =
     if nat_lt 0 (length digits) && nat_le (length digits) limit && list_all is_digit digits
     then Some (value_in 10 digits) else None
 
--- the command, where nothing stands behind its word
+-- the command, where nothing stands after its word
 abbrev pub alone : Command → Option (List ℕ) → Option Command
 alone command None = Some command
 alone command (Some rest) = None
@@ -82,7 +82,7 @@ add_with name kind = None
 -- `name SOURCE` or `name INCLUDE`
 abbrev pub add_of : List ℕ → Option Command
 add_of text =
-    option_and_then (λ word. add_with (name_of (first_word text)) (kind_of_word word)) (behind_blank text)
+    option_and_then (λ word. add_with (name_of (first_word text)) (kind_of_word word)) (after_blank text)
 
 -- `name`
 abbrev pub delete_of : List ℕ → Option Command
@@ -107,13 +107,13 @@ numbered_with name number text = None
 abbrev pub numbered_of : List ℕ → Option NumberedText
 numbered_of text =
     option_and_then (λ rest. numbered_with (name_of (first_word text)) (number_of 9 (first_word rest))
-    (unwrap_or (behind_blank rest) [])) (behind_blank text)
+    (unwrap_or (after_blank rest) [])) (after_blank text)
 
--- what stands behind INSERT
+-- what stands after INSERT
 abbrev pub insert_of : List ℕ → Option Command
 insert_of text = option_map (λ t. Insert t.name t.number t.text) (numbered_of text)
 
--- what stands behind REPLACE
+-- what stands after REPLACE
 abbrev pub replace_of : List ℕ → Option Command
 replace_of text = option_map (λ t. Replace t.name t.number t.text) (numbered_of text)
 
@@ -124,13 +124,13 @@ remove_with name first last = None
 
 -- `name a b`
 abbrev pub remove_of : List ℕ → Option Command
-remove_of text = option_and_then behind_name (behind_blank text)
+remove_of text = option_and_then after_name (after_blank text)
   where
-    behind_name : List ℕ → Option Command
-    behind_name rest =
+    after_name : List ℕ → Option Command
+    after_name rest =
         option_and_then
         (λ last. remove_with (name_of (first_word text)) (number_of 9 (first_word rest)) (number_of 9 last))
-        (behind_blank rest)
+        (after_blank rest)
 
 -- `name`
 abbrev pub list_of : List ℕ → Option Command
@@ -141,7 +141,7 @@ abbrev pub run_of : Option (List ℕ) → Option Command
 run_of None = Some (Run None)
 run_of (Some digits) = option_map (λ n. Run (Some n)) (number_of 18 digits)
 
--- the command of this word, with what stands behind the word's blank
+-- the command of this word, with what stands after the word's blank
 abbrev pub command_with : (word : List ℕ) → (rest : Option (List ℕ)) → Option Command
 command_with word rest =
     if is_word (codes "ADD") word then option_and_then add_of rest
@@ -161,7 +161,7 @@ command_with word rest =
 -- the command that a line spells
 abbrev pub command_of : List ℕ → Option Command
 command_of line =
-    if nat_lt line_limit (length line) then None else command_with (first_word line) (behind_blank line)
+    if nat_lt line_limit (length line) then None else command_with (first_word line) (after_blank line)
 
 spelt_insert : command_of (codes "insert m 0 M: x") ≡ Some (Insert (codes "M") 0 (codes "M: x"))
 spelt_insert = refl
@@ -169,8 +169,8 @@ spelt_insert = refl
 spelt_insert_of_nothing : command_of (codes "INSERT M 0") ≡ Some (Insert (codes "M") 0 [])
 spelt_insert_of_nothing = refl
 
-spelt_insert_of_nothing_behind_a_blank : command_of (codes "INSERT M 0 ") ≡ Some (Insert (codes "M") 0 [])
-spelt_insert_of_nothing_behind_a_blank = refl
+spelt_insert_of_nothing_after_a_blank : command_of (codes "INSERT M 0 ") ≡ Some (Insert (codes "M") 0 [])
+spelt_insert_of_nothing_after_a_blank = refl
 
 spelt_insert_of_blanks : command_of (codes "INSERT M 1  X ") ≡ Some (Insert (codes "M") 1 (codes " X "))
 spelt_insert_of_blanks = refl
@@ -196,8 +196,8 @@ spelt_remove = refl
 unspelt_remove_of_one_number : command_of (codes "REMOVE M 2") ≡ None
 unspelt_remove_of_one_number = refl
 
-unspelt_remove_behind_a_blank : command_of (codes "REMOVE M 2 3 ") ≡ None
-unspelt_remove_behind_a_blank = refl
+unspelt_remove_after_a_blank : command_of (codes "REMOVE M 2 3 ") ≡ None
+unspelt_remove_after_a_blank = refl
 
 spelt_list : command_of (codes "LIST m") ≡ Some (ListLines (codes "M"))
 spelt_list = refl
@@ -232,8 +232,8 @@ spelt_run = refl
 unspelt_run : command_of (codes "run  3") ≡ None
 unspelt_run = refl
 
-unspelt_build_behind_a_blank : command_of (codes " BUILD") ≡ None
-unspelt_build_behind_a_blank = refl
+unspelt_build_after_a_blank : command_of (codes " BUILD") ≡ None
+unspelt_build_after_a_blank = refl
 
 unspelt_build_before_a_blank : command_of (codes "BUILD ") ≡ None
 unspelt_build_before_a_blank = refl

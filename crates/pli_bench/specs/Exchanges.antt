@@ -1,7 +1,7 @@
 -- What something was, and what it became (own).
 use Rattle.std.specs.Prelude.{ℕ, List}
 
--- a line is answered: the state before it, the answer, and the state behind it
+-- a line is answered: the state before it, the answer, and the state after it
 pub record Exchange (S : Type 0) : Type 0 where
   pub before : S
   pub answer : List ℕ

@@ -32,7 +32,7 @@ pending_from begun (c ∷ bytes) =
 abbrev pub complete_lines : List ℕ → List (List ℕ)
 complete_lines bytes = complete_from [] bytes
 
--- what stands behind the last line feed
+-- what stands after the last line feed
 abbrev pub pending_line : List ℕ → List ℕ
 pending_line bytes = pending_from [] bytes
 

@@ -27,7 +27,7 @@ abbrev pub Bytes : Type 0
 Bytes = Option (List ℕ)
 
 -- the writer failed in the answer to one of the lines: those before it were answered, its own answer up to
--- some place, and the state is the one behind it
+-- some place, and the state is the one after it
 pub record Broken {S : Type 0} (Step : List ℕ → Exchange S → Type 0) (quits : List ℕ → Bool)
     (lines : List (List ℕ)) (state : Span S) (writer : Span Bytes) : Type 0 where
   pub earlier : List (List ℕ)
@@ -108,13 +108,13 @@ Served Step quits service (Err faults.TooManyReads) =
 abbrev pub piece_limit : ℕ
 piece_limit = 4096
 
--- among these bytes, behind lines that go on, a line ends that quits, and fewer bytes than so many stand
--- behind it; the first of the lines has begun before
+-- among these bytes, after lines that go on, a line ends that quits, and fewer bytes than so many stand
+-- after it; the first of the lines has begun before
 pub record QuitsWithin (quits : List ℕ → Bool) (limit : ℕ) (begun bytes : List ℕ) : Type 0 where
   pub front : List ℕ
-  pub behind : List ℕ
-  pub bytes_are : bytes ≡ front ++ behind
-  pub few : length behind < limit
+  pub after : List ℕ
+  pub bytes_are : bytes ≡ front ++ after
+  pub few : length after < limit
   pub lines : List (List ℕ)
   pub line : List ℕ
   pub ended : complete_from begun front ≡ lines ++ line ∷ []
@@ -122,7 +122,7 @@ pub record QuitsWithin (quits : List ℕ → Bool) (limit : ℕ) (begun bytes : 
   pub go_on : All (λ l. quits l ≡ false) lines
   pub quit : quits line ≡ true
 
--- where reading stopped: at the end nothing is left, and less than a piece was taken behind the line that
+-- where reading stopped: at the end nothing is left, and less than a piece was taken after the line that
 -- quits, unless that was the last line and no line feed ended it
 abbrev pub Stops : (quits : List ℕ → Bool) → (piece : ℕ) → (taken : List ℕ) → (left : Option (List ℕ))
     → Result AfterCommand ServeFault → Type 0
@@ -139,7 +139,7 @@ pub record Takes {S : Type 0} (quits : List ℕ → Bool) (piece : ℕ) (service
   pub few : length taken ≤ service.reads * piece
   pub stops : Stops quits piece taken service.reader.after result
 
--- behind what was answered the writer's mark is as it was, behind a fault it is set
+-- after what was answered the writer's mark is as it was, after a fault it is set
 abbrev pub Marked : {A E : Type 0} → Bool → Bool → Result A E → Type 0
 Marked old new result = MatchResult result (λ _. new ≡ old) (λ _. new ≡ true)
 

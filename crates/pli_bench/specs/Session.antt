@@ -141,11 +141,11 @@ Runs true n e =
     (o : Outcome) × Means e.before.store.entries n o × ((e.answer ≡ run_answer o) ⊎ Breaks o.output e.answer)
     × (e.after ≡ e.before)
 
--- a line of a member, behind its number
+-- a line of a member, after its number
 abbrev pub numbered_line : ℕ → List ℕ → List ℕ
 numbered_line number text = line (decimal number ++ 32 ∷ text)
 
--- lines behind their numbers, the first of which is given
+-- lines after their numbers, the first of which is given
 abbrev pub numbered_lines : ℕ → List (List ℕ) → List ℕ
 numbered_lines number [] = []
 numbered_lines number (text ∷ lines) = numbered_line number text ++ numbered_lines (number + 1) lines
@@ -173,7 +173,7 @@ Obeys (Some (Add name kind)) e =
     EditsInMemory (refusal_of_add e.before.store name) (added e.before.store name kind) e
 -- DELETE takes a member away
 Obeys (Some (Delete name)) e = Edits (refusal_of_delete e.before.store name) (deleted e.before.store name) e
--- INSERT puts a line behind another
+-- INSERT puts a line after another
 Obeys (Some (Insert name after text)) e =
     EditsInMemory (refusal_of_insert e.before.store name after text)
     (with_line e.before.store name after text) e

@@ -51,7 +51,7 @@ impl Batch {
         Ok(())
     }
 
-    /// Keeps bytes behind those that wait, for which there is room.
+    /// Keeps bytes after those that wait, for which there is room.
     fn keep(&mut self, bytes: &[u8])
         requires { length self.old + length bytes.now ≤ batch_limit }
         ensures { self.new ≡ self.old ++ bytes.now }
@@ -61,7 +61,7 @@ impl Batch {
         self.count = end;
     }
 
-    /// Adds bytes behind those that wait, which are put where there is no room for both. Where the writer fails, what
+    /// Adds bytes after those that wait, which are put where there is no room for both. Where the writer fails, what
     /// waits is of no more use.
     pub fn add<W: Sink>(&mut self, writer: &mut W, bytes: &[u8]) -> Result<(), Failed>
         ensures passed { Passes (W.contents writer.old) (W.contents writer.new)

@@ -333,7 +333,7 @@ fn going_on(answered: Result<(), Failed>) -> Result<AfterCommand, WriteFailed>
     }
 }
 
-/// Puts what stands behind what a run printed for which memory was refused.
+/// Puts what stands after what a run printed for which memory was refused.
 fn put_broken<W: Sink>(writer: &mut W) -> Result<(), Failed>
     ensures written { Writes (W.contents writer.old) (W.contents writer.new) (10 ∷ no_memory) result }
     ensures mark { Marked (W.failed writer.old) (W.failed writer.new) result }
@@ -341,7 +341,7 @@ fn put_broken<W: Sink>(writer: &mut W) -> Result<(), Failed>
     put_parts(writer, &[b"\nNO MEMORY\n"])
 }
 
-/// Puts what stands behind the output of a run: a line end, unless the next column is the first, and how it ended.
+/// Puts what stands after the output of a run: a line end, unless the next column is the first, and how it ended.
 fn put_end<W: Sink>(writer: &mut W, ran: Ran) -> Result<(), Failed>
     ensures written { Writes (W.contents writer.old) (W.contents writer.new) (end_answer ran.column ran.ending) result }
     ensures mark { Marked (W.failed writer.old) (W.failed writer.new) result }

@@ -3,7 +3,7 @@ ghost use Rattle.std.specs.Prelude.{◌≡◌, ◌≤◌, ◌<◌, ◌^◌, IfSo
 ghost use Rattle.std.specs.Option.{option_copied};
 ghost use Rattle.std.specs.List.{list_all, position};
 ghost use Rattle.pli_base.specs.Name.{is_digit};
-ghost use Rattle.pli_bench.specs.Commands.{is_blank, first_word, behind_blank, is_word, number_of, kind_of_word};
+ghost use Rattle.pli_bench.specs.Commands.{is_blank, first_word, after_blank, is_word, number_of, kind_of_word};
 ghost use Rattle.pli_bench.specs.Commands.{numbered_text, numbered_of, add_of, insert_of, replace_of, remove_of};
 ghost use Rattle.pli_bench.specs.Commands.{run_of, command_of};
 ghost use Rattle.pli_bench.specs.views.CommandView.{command_view};
@@ -35,7 +35,7 @@ pub enum Command<'a> {
     },
     /// A member goes.
     Delete(MemberName),
-    /// A new line behind the line of this number, 0 for the front.
+    /// A new line after the line of this number, 0 for the front.
     Insert {
         member: MemberName,
         after: u32,
@@ -70,7 +70,7 @@ pub enum Command<'a> {
 }
 
 /// The command that `line` spells, which has no line end. None where it spells no command: it is over 200 bytes; its
-/// first word is no command's, in either case; a blank more stands between words or behind the last; a name or a number
+/// first word is no command's, in either case; a blank more stands between words or after the last; a name or a number
 /// is of a wrong form; or a word is missing or too many (own).
 pub fn read_command(line: &[u8]) -> Option<Command<'_>>
     ensures { option_map command_view result ≡ command_of line.now }
@@ -119,10 +119,10 @@ fn blank_place(text: &[u8]) -> Option<usize>
     text.iter().position(|byte| *byte == b' ')
 }
 
-/// A text's first word, and what stands behind the first blank.
+/// A text's first word, and what stands after the first blank.
 fn split_word(text: &[u8]) -> (&[u8], Option<&[u8]>)
     ensures word { result.0.now ≡ first_word text.now }
-    ensures rest { option_copied result.1 ≡ behind_blank text.now }
+    ensures rest { option_copied result.1 ≡ after_blank text.now }
 {
     match blank_place(text) {
         None => (text, None),
@@ -168,7 +168,7 @@ fn read_kind(word: &[u8]) -> Option<MemberKind>
     }
 }
 
-/// What stands behind `ADD`.
+/// What stands after `ADD`.
 fn read_add(text: &[u8]) -> Option<Command<'_>>
     ensures { option_map command_view result ≡ add_of text.now }
 {
@@ -181,7 +181,7 @@ fn read_add(text: &[u8]) -> Option<Command<'_>>
     })
 }
 
-/// A line's number in a member, and a text for it, which is empty where nothing stands behind the number.
+/// A line's number in a member, and a text for it, which is empty where nothing stands after the number.
 fn read_numbered(text: &[u8]) -> Option<(MemberName, u32, &[u8])>
     ensures { option_map (λ n. numbered_text n.0.name n.1 n.2.now) result ≡ numbered_of text.now }
 {
@@ -196,7 +196,7 @@ fn read_numbered(text: &[u8]) -> Option<(MemberName, u32, &[u8])>
     ))
 }
 
-/// What stands behind `INSERT`.
+/// What stands after `INSERT`.
 fn read_insert(text: &[u8]) -> Option<Command<'_>>
     ensures { option_map command_view result ≡ insert_of text.now }
 {
@@ -210,7 +210,7 @@ fn read_insert(text: &[u8]) -> Option<Command<'_>>
     })
 }
 
-/// What stands behind `REPLACE`.
+/// What stands after `REPLACE`.
 fn read_replace(text: &[u8]) -> Option<Command<'_>>
     ensures { option_map command_view result ≡ replace_of text.now }
 {
@@ -224,7 +224,7 @@ fn read_replace(text: &[u8]) -> Option<Command<'_>>
     })
 }
 
-/// What stands behind `REMOVE`.
+/// What stands after `REMOVE`.
 fn read_remove(text: &[u8]) -> Option<Command<'_>>
     ensures { option_map command_view result ≡ remove_of text.now }
 {
@@ -240,7 +240,7 @@ fn read_remove(text: &[u8]) -> Option<Command<'_>>
     })
 }
 
-/// What stands behind `RUN`.
+/// What stands after `RUN`.
 fn read_run(rest: Option<&[u8]>) -> Option<Command<'_>>
     ensures { option_map command_view result ≡ run_of (option_copied rest.entry) }
 {

@@ -18,14 +18,14 @@ fn digit_of(digit: u8) -> u8
     if digit < 10 { 48 + digit } else { 87 + digit }
 }
 
-/// The line feed behind the last byte of a line.
+/// The line feed after the last byte of a line.
 fn end_at(column: u8) -> &'static [u8]
     ensures { result.now ≡ end_at column }
 {
     if column == 31 { b"\n" } else { b"" }
 }
 
-/// The line feed behind the last byte of all, unless it has ended a line.
+/// The line feed after the last byte of all, unless it has ended a line.
 fn last_end(column: u8) -> &'static [u8]
     ensures { result.now ≡ hex_from column [] }
 {
@@ -41,7 +41,7 @@ fn next_column(column: u8) -> u8
     if column == 31 { 0 } else { column + 1 }
 }
 
-/// Adds a byte, and the line feed behind it where it is the last of a line.
+/// Adds a byte, and the line feed after it where it is the last of a line.
 fn add_byte<W: Sink>(batch: &mut Batch, writer: &mut W, byte: u8, column: u8) -> Result<(), Failed>
     ensures passed { Passes (W.contents writer.old) (W.contents writer.new)
         (batch.old ++ (digits_of byte ++ end_at column)) batch.new result }

@@ -12,7 +12,7 @@ use pli_base::{Failed, Line, Sink};
 use pli_ledger::Ledger;
 use pli_members::{MemberKind, NamedMember};
 
-/// Puts lines behind their numbers, from 1 on.
+/// Puts lines after their numbers, from 1 on.
 pub fn put_lines<W: Sink>(writer: &mut W, lines: &[Line]) -> Result<(), Failed>
     ensures written { Writes (W.contents writer.old) (W.contents writer.new) (numbered_lines 1 lines.now) result }
     ensures mark { Marked (W.failed writer.old) (W.failed writer.new) result }

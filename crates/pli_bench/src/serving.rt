@@ -89,7 +89,7 @@ pub trait Interpreter {
 /// and a carriage return before it is dropped; a last line without a line feed counts where it is not empty (own).
 /// Bytes are asked for at most `reads` times: where that does not come to the end, it is `TooManyReads`, which an input
 /// of fewer bytes than `reads` never is. Where the reader failed or was asked too often, the lines that ended in what
-/// was taken were answered; where the writer failed, the state is the one behind the command whose answer it failed in.
+/// was taken were answered; where the writer failed, the state is the one after the command whose answer it failed in.
 pub fn serve<T: Interpreter, R: Source, W: Sink>(
     bench: &mut T,
     reader: &mut R,
@@ -127,7 +127,7 @@ fn without_return(text: &[u8]) -> &[u8]
 }
 
 /// Answers the lines that end in `piece`, where the first of them begins with what is kept in `line`; then `line` keeps
-/// what has begun behind them.
+/// what has begun after them.
 fn answer_piece<T: Interpreter, W: Sink>(
     bench: &mut T,
     line: &mut Pending,

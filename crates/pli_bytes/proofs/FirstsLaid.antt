@@ -8,7 +8,7 @@ use Rattle.pli_map.specs.declared.description.Description.{Description}
 use Rattle.pli_map.specs.Description as tree
 use Rattle.pli_map.specs.Parts.{moved}
 use Rattle.pli_map.specs.Scalars.{scalars_in, scalars_of}
-use Rattle.pli_map.specs.Sizes.{alignment_of, count_of, size_of, end_behind, stride_of}
+use Rattle.pli_map.specs.Sizes.{alignment_of, count_of, size_of, end_after, stride_of}
 use Rattle.pli_map.specs.Values.{first_values, first_values_of}
 use Rattle.pli_map.specs.views.DescriptionView.{description_view, members_view}
 use Rattle.pli_map.proofs.FirstHeld.{firsts_held}
@@ -21,7 +21,7 @@ use Rattle.pli_bytes.proofs.Kept.{values_at, values_moved}
 use Rattle.pli_bytes.proofs.Laid.{laid_element, laid_member, laid_none, LaidElements}
 use Rattle.pli_bytes.proofs.PartLists.{firsts_more, one_repeated, repeated}
 use Rattle.pli_bytes.proofs.PartsOfBytes.{same_values}
-use Rattle.pli_bytes.proofs.PutBytes.{before_put, behind_put, from_put, length_put}
+use Rattle.pli_bytes.proofs.PutBytes.{before_put, after_put, from_put, length_put}
 use Rattle.pli_bytes.proofs.Scalars.{counted, scalars_counted}
 
 -- ---- bytes that are all the same
@@ -39,7 +39,7 @@ laid_bytes at d vs bytes old new size inside hold is =
     record {
       values = values_moved at (scalars_at d) new ∙ ap (values_of d) here ∙ same_values d (bytes ++ rest) bytes front ∙ hold;
       front = ap (take at) is ∙ before_put at bytes old begins;
-      back = ap (λ n. drop (at + n) new) (sym size) ∙ ap (drop (at + length bytes)) is ∙ behind_put at bytes old begins ∙ ap (λ n. drop (at + n) old) size;
+      back = ap (λ n. drop (at + n) new) (sym size) ∙ ap (drop (at + length bytes)) is ∙ after_put at bytes old begins ∙ ap (λ n. drop (at + n) old) size;
       size = ap length is ∙ length_put at bytes old whole;
     }
 
@@ -117,7 +117,7 @@ first_in_place at bounds element old new none some first =
 -- ---- members
 
 module _ (at : ℕ) (xs : List Description) (i : ℕ) (x : Description) (within : i < length xs) (is : x ≡ get_or xs i x) where
-  pub first_member : (start : ℕ) (old between new : List ℕ) → start ≡ next_multiple_of (end_behind 0 (members_view (take i xs))) (alignment_of (description_view x))
+  pub first_member : (start : ℕ) (old between new : List ℕ) → start ≡ next_multiple_of (end_after 0 (members_view (take i xs))) (alignment_of (description_view x))
       → LaidAt at (tree.Structure (members_view (take i xs))) (first_values_of (members_view (take i xs))) old between
       → LaidAt (at + start) (description_view x) (first_values (description_view x)) between new
       → LaidAt at (tree.Structure (members_view (take (i + 1) xs))) (first_values_of (members_view (take (i + 1) xs))) old new

@@ -1,4 +1,4 @@
--- Values that scalars may hold, one list behind another.
+-- Values that scalars may hold, one list after another.
 use Rattle.std.proofs.Common.{◌≡◌, suc, true, false, List, [], ◌∷◌, ◌++◌, length, refl, sym, ap, ◌∙◌, append-nil, append_assoc}
 use Rattle.std.proofs.lemmas.Bool.{and_parts, false≢true}
 use Rattle.pli_map.specs.Description.{Description}
@@ -14,8 +14,8 @@ held_length (d ∷ ds) [] h = absurd (false≢true h)
 held_length (d ∷ ds) (v ∷ vs) h = ap suc (held_length ds vs (and_parts (holds d v) (are_held ds vs) h).1)
 
 -- the others are not held
-pub not_behind : (ds es : List Description) (vs rest : List Value) → Taken ds vs rest → NoneTaken es rest → NoneTaken (ds ++ es) vs
-not_behind ds es vs rest first none fs =
+pub not_after : (ds es : List Description) (vs rest : List Value) → Taken ds vs rest → NoneTaken es rest → NoneTaken (ds ++ es) vs
+not_after ds es vs rest first none fs =
     ap (λ l. are_held l vs) (append_assoc ds es fs) ∙ ap (are_held (ds ++ (es ++ fs))) first.is ∙ held_on ds (es ++ fs) first.used rest first.held ∙ none fs
 
 -- the first are not held

@@ -21,13 +21,13 @@ kept_before low (s ∷ ss) high xs ys h same =
     ap (λ v. v ∷ values_at ss xs) one ∙ ap (λ vs. value_in ys s ∷ vs) (kept_before (s.offset + size) ss high xs ys h.1 same)
 
 -- those that begin no earlier than a byte, where no byte from it on changes
-pub kept_behind : (low first : ℕ) (ss : List PlacedPart) (high : ℕ) (xs ys : List ℕ) → low ≤ first → Rise first ss high → drop low xs ≡ drop low ys
+pub kept_after : (low first : ℕ) (ss : List PlacedPart) (high : ℕ) (xs ys : List ℕ) → low ≤ first → Rise first ss high → drop low xs ≡ drop low ys
     → values_at ss xs ≡ values_at ss ys
-kept_behind low first [] high xs ys before h same = refl
-kept_behind low first (s ∷ ss) high xs ys before h same =
+kept_after low first [] high xs ys before h same = refl
+kept_after low first (s ∷ ss) high xs ys before h same =
     let size = size_of s.description in
     let one = ap (value_of s.description) (same_back s.offset size low xs ys (omega (arith, before, h.0)) same) in
-    ap (λ v. v ∷ values_at ss xs) one ∙ ap (λ vs. value_in ys s ∷ vs) (kept_behind low (s.offset + size) ss high xs ys (omega (arith, before, h.0)) h.1 same)
+    ap (λ v. v ∷ values_at ss xs) one ∙ ap (λ vs. value_in ys s ∷ vs) (kept_after low (s.offset + size) ss high xs ys (omega (arith, before, h.0)) h.1 same)
 
 -- places that are moved, and bytes that begin so much later
 pub values_moved : (m : ℕ) (ss : List PlacedPart) (bytes : List ℕ) → values_at (map (moved m) ss) bytes ≡ values_at ss (drop m bytes)

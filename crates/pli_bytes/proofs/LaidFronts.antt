@@ -8,7 +8,7 @@ use Rattle.pli_map.specs.declared.description.Bounds.{Bounds}
 use Rattle.pli_map.specs.declared.description.Description.{Description}
 use Rattle.pli_map.specs.Parts.{moved}
 use Rattle.pli_map.specs.Scalars.{is_scalar, scalars_in, scalars_of, scalars_of_members}
-use Rattle.pli_map.specs.Sizes.{alignment_of, size_of, end_behind, stride_of, count_of}
+use Rattle.pli_map.specs.Sizes.{alignment_of, size_of, end_after, stride_of, count_of}
 use Rattle.pli_map.specs.Values.{holds, are_held}
 use Rattle.pli_map.specs.views.DescriptionView.{description_view, members_view}
 use Rattle.pli_map.proofs.FirstHeld.{held_on}
@@ -16,7 +16,7 @@ use Rattle.pli_value.specs.Value.{Value}
 use Rattle.pli_bytes.specs.answers.Laying.{Taken, NoneTaken, LaidAt, LaidFront}
 use Rattle.pli_bytes.specs.Changes.{IsPut}
 use Rattle.pli_bytes.specs.Contents.{scalars_at, value_in, values_of}
-use Rattle.pli_bytes.proofs.HeldValues.{all_taken, held_length, not_behind, not_before, some_left}
+use Rattle.pli_bytes.proofs.HeldValues.{all_taken, held_length, not_after, not_before, some_left}
 use Rattle.pli_bytes.proofs.Laid.{laid_scalar, laid_none, laid_whole, LaidElements, laid_element, laid_member}
 use Rattle.pli_bytes.proofs.PartLists.{repeated, one_repeated, repeated_split, scalars_more, scalars_split}
 use Rattle.pli_bytes.proofs.Scalars.{counted, described, descriptions, scalar_itself}
@@ -45,7 +45,7 @@ no_members at vs bytes = record {
 
 module _ (at : ℕ) (xs : List Description) (i : ℕ) (x : Description) (vs left : List Value) (old between : List ℕ) (within : i < length xs) (is : x ≡ get_or xs i x)
     (before : LaidFront at (tree.Structure (members_view (take i xs))) vs left old between) where
-  pub front_member : (start : ℕ) (rest : List Value) (new : List ℕ) → start ≡ next_multiple_of (end_behind 0 (members_view (take i xs))) (alignment_of (description_view x))
+  pub front_member : (start : ℕ) (rest : List Value) (new : List ℕ) → start ≡ next_multiple_of (end_after 0 (members_view (take i xs))) (alignment_of (description_view x))
       → LaidFront (at + start) (description_view x) left rest between new → LaidFront at (tree.Structure (members_view (take (i + 1) xs))) vs rest old new
   front_member start rest new start_is one =
       let used = before.taken.used in
@@ -67,7 +67,7 @@ module _ (at : ℕ) (xs : List Description) (i : ℕ) (x : Description) (vs left
       let ds = scalars_of_members (members_view (take i xs)) in
       let es = scalars_of (description_view x) in
       let fs = scalars_of_members (members_view (drop (i + 1) xs)) in
-      subst (λ gs. NoneTaken gs vs) (sym (scalars_split xs i x within is)) (not_behind ds (es ++ fs) vs left before.taken (not_before es fs left none))
+      subst (λ gs. NoneTaken gs vs) (sym (scalars_split xs i x within is)) (not_after ds (es ++ fs) vs left before.taken (not_before es fs left none))
 
 -- ---- elements
 
@@ -102,7 +102,7 @@ pub none_in_element : (at : ℕ) (element : tree.Description) (made count : ℕ)
 none_in_element at element made count vs left old between below before none =
     let ds = scalars_of element in
     let rest = repeated (count - suc made) ds in
-    subst (λ gs. NoneTaken gs vs) (sym (repeated_split made count ds below)) (not_behind (repeated made ds) (ds ++ rest) vs left before.taken (not_before ds rest left none))
+    subst (λ gs. NoneTaken gs vs) (sym (repeated_split made count ds below)) (not_after (repeated made ds) (ds ++ rest) vs left before.taken (not_before ds rest left none))
 
 -- all elements are the array
 pub all_elements : (at : ℕ) (bounds : List Bounds) (element : tree.Description) (count : ℕ) (vs rest : List Value) (old new : List ℕ) → count ≡ count_of bounds

@@ -5,7 +5,7 @@ use Rattle.std.proofs.Math.Nat.{le-mul_of_pos_right, mul-div_right}
 use Rattle.pli_map.specs.Description as tree
 use Rattle.pli_map.specs.declared.description.Description.{Description}
 use Rattle.pli_map.specs.Scalars.{scalars_in}
-use Rattle.pli_map.specs.Sizes.{alignment_of, size_of, end_behind, stride_of}
+use Rattle.pli_map.specs.Sizes.{alignment_of, size_of, end_after, stride_of}
 use Rattle.pli_map.specs.views.DescriptionView.{description_view, members_view}
 use Rattle.pli_map.proofs.FarSizes.{cut_stride}
 use Rattle.pli_map.proofs.Members.{end_of_first}
@@ -14,16 +14,16 @@ use Rattle.pli_map.proofs.ScalarPlaces.{nodes, nodes_among}
 use Rattle.pli_bytes.proofs.Laid.{end_more}
 
 module _ (xs : List Description) (i : ℕ) (x : Description) (within : i < length xs) (is : x ≡ get_or xs i x) (end alignment : ℕ)
-    (end_is : end ≡ end_behind 0 (members_view (take i xs))) (alignment_is : alignment ≡ alignment_of (description_view x)) where
-  -- where a member stands, behind those before it
-  pub member_start : next_multiple_of end alignment ≡ next_multiple_of (end_behind 0 (members_view (take i xs))) (alignment_of (description_view x))
-  member_start = ap (λ n. next_multiple_of n alignment) end_is ∙ ap (next_multiple_of (end_behind 0 (members_view (take i xs)))) alignment_is
+    (end_is : end ≡ end_after 0 (members_view (take i xs))) (alignment_is : alignment ≡ alignment_of (description_view x)) where
+  -- where a member stands, after those before it
+  pub member_start : next_multiple_of end alignment ≡ next_multiple_of (end_after 0 (members_view (take i xs))) (alignment_of (description_view x))
+  member_start = ap (λ n. next_multiple_of n alignment) end_is ∙ ap (next_multiple_of (end_after 0 (members_view (take i xs)))) alignment_is
 
   -- and ends
-  pub member_end : next_multiple_of end alignment + size_of (description_view x) ≡ end_behind 0 (members_view (take (i + 1) xs))
+  pub member_end : next_multiple_of end alignment + size_of (description_view x) ≡ end_after 0 (members_view (take (i + 1) xs))
   member_end = ap (λ n. n + size_of (description_view x)) member_start ∙ sym (end_more 0 xs i x within is)
 
-  pub member_inside : next_multiple_of end alignment + size_of (description_view x) ≤ end_behind 0 (members_view xs)
+  pub member_inside : next_multiple_of end alignment + size_of (description_view x) ≤ end_after 0 (members_view xs)
   member_inside = omega (arith, member_end, end_of_first 0 xs (i + 1))
 
 pub nodes_of_member : (xs : List Description) (i : ℕ) (x : Description) → i < length xs → x ≡ get_or xs i x → nodes (description_view x) ≤ nodes_among (members_view xs)
@@ -54,7 +54,7 @@ whole_stride element count size alignment stride some limit size_is alignment_is
     let one : wide ≤ wide * count = le-mul_of_pos_right wide some in
     omega (arith, stride_is, cut_stride element size alignment size_is alignment_is, one, turned, limit)
 
--- an element's place: before the last, as far behind the first as the elements before it take, and within the array
+-- an element's place: before the last, as far from the first as the elements before it take, and within the array
 pub record ElementPlace (element : tree.Description) (count made stride : ℕ) : Type 0 where
   pub below : made < count
   pub stride_is : stride ≡ stride_of element

@@ -26,7 +26,7 @@ repeated_both (suc m) n xs =
 pub one_repeated : {X : Type 0} (n : ℕ) (xs : List X) → repeated (n + 1) xs ≡ repeated n xs ++ xs
 one_repeated n xs = repeated_both n 1 xs ∙ ap (λ ys. repeated n xs ++ ys) (append-nil xs)
 
--- before one, it, and those behind it
+-- before one, it, and those after it
 pub repeated_split : {X : Type 0} (made count : ℕ) (xs : List X) → made < count → repeated count xs ≡ repeated made xs ++ (xs ++ repeated (count - suc made) xs)
 repeated_split made count xs below =
     let e : count ≡ made + suc (count - suc made) = omega (arith, below) in
@@ -41,13 +41,13 @@ repeated_length (suc n) xs =
 
 -- ---- members
 
--- what members have, one behind the other
+-- what members have, one after the other
 module _ (X : Type 0) (of : tree.Description → List X) (all : tree.Members → List X) (none : all tree.NoMembers ≡ [])
     (then : (d : tree.Description) (ds : tree.Members) → all (tree.MemberThen d ds) ≡ of d ++ all ds) where
   abbrev all_of : List Description → List X
   all_of xs = all (members_view xs)
 
-  -- before a member, of it, and behind it
+  -- before a member, of it, and after it
   members_split : (xs : List Description) (i : ℕ) (x : Description) → i < length xs → x ≡ get_or xs i x
       → all_of xs ≡ all_of (take i xs) ++ (of (description_view x) ++ all_of (drop (suc i) xs))
   members_split [] i x within is = absurd (omega (arith, within))

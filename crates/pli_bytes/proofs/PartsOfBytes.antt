@@ -9,8 +9,8 @@ use Rattle.pli_map.proofs.ScalarPlaces.{within}
 use Rattle.pli_value.specs.Value.{Value}
 use Rattle.pli_bytes.specs.Changes.{IsPut}
 use Rattle.pli_bytes.specs.Contents.{scalars_at, value_of, bytes_from, value_in, values_of, with_bytes_at}
-use Rattle.pli_bytes.proofs.Kept.{values_at, kept_before, kept_behind, values_moved}
-use Rattle.pli_bytes.proofs.PutBytes.{before_put, from_put, behind_put, length_put}
+use Rattle.pli_bytes.proofs.Kept.{values_at, kept_before, kept_after, values_moved}
+use Rattle.pli_bytes.proofs.PutBytes.{before_put, from_put, after_put, length_put}
 use Rattle.pli_bytes.proofs.Rising.{rises}
 use Rattle.pli_bytes.proofs.Scalars.{counted, one_scalar, scalar_alone}
 use Rattle.pli_bytes.proofs.Split.{split_found}
@@ -32,10 +32,10 @@ replaced xs ys zs new k a b =
     sym (ap (λ l. l ++ new ++ drop (k + length new) whole) front ∙ ap (λ l. xs ++ new ++ l) back ∙ append_assoc xs new zs)
 
 -- the values of scalars that stand together among others
-values_split : (before middle behind : List PlacedPart) (bytes : List ℕ)
-    → values_at (before ++ (middle ++ behind)) bytes ≡ values_at before bytes ++ (values_at middle bytes ++ values_at behind bytes)
-values_split before middle behind bytes =
-    map-append (value_in bytes) before (middle ++ behind) ∙ ap (λ vs. values_at before bytes ++ vs) (map-append (value_in bytes) middle behind)
+values_split : (before middle after : List PlacedPart) (bytes : List ℕ)
+    → values_at (before ++ (middle ++ after)) bytes ≡ values_at before bytes ++ (values_at middle bytes ++ values_at after bytes)
+values_split before middle after bytes =
+    map-append (value_in bytes) before (middle ++ after) ∙ ap (λ vs. values_at before bytes ++ vs) (map-append (value_in bytes) middle after)
 
 -- ---- parts
 
@@ -52,8 +52,8 @@ part_values whole o part k bytes found =
     let middle = map (moved o) (scalars_at part) in
     let mine : values_at middle bytes ≡ values_of part (drop o bytes) = values_moved o (scalars_at part) bytes in
     ap (λ ss. take (scalars_in part) (drop k (values_at ss bytes))) s.is
-    ∙ ap (λ vs. take (scalars_in part) (drop k vs)) (values_split s.before middle s.behind bytes)
-    ∙ between (values_at s.before bytes) (values_at middle bytes) (values_at s.behind bytes) k (scalars_in part)
+    ∙ ap (λ vs. take (scalars_in part) (drop k vs)) (values_split s.before middle s.after bytes)
+    ∙ between (values_at s.before bytes) (values_at middle bytes) (values_at s.after bytes) k (scalars_in part)
     (length-map s.before (value_in bytes) ∙ s.count) (ap length mine ∙ values_counted part (drop o bytes))
     ∙ mine
 
@@ -72,23 +72,23 @@ part_put whole o part k new bytes found new_size size =
     let middle = map (moved o) (scalars_at part) in
     let now = with_bytes_at o new bytes in
     let front : values_at s.before now ≡ values_at s.before bytes = kept_before 0 s.before o now bytes s.ends (before_put o new bytes begins) in
-    let behind_part : o + length new ≤ o + size_of part = omega (arith, new_size) in
-    let back : values_at s.behind now ≡ values_at s.behind bytes =
-    kept_behind (o + length new) (o + size_of part) s.behind (size_of whole) now bytes behind_part s.begins (behind_put o new bytes begins) in
+    let after_part : o + length new ≤ o + size_of part = omega (arith, new_size) in
+    let back : values_at s.after now ≡ values_at s.after bytes =
+    kept_after (o + length new) (o + size_of part) s.after (size_of whole) now bytes after_part s.begins (after_put o new bytes begins) in
     let rest = drop (o + length new) bytes in
     let cut : take (size_of part) (new ++ rest) ≡ take (size_of part) new =
     take_at new rest (size_of part) new_size ∙ sym (take_all (size_of part) new (omega (arith, new_size))) in
     let mine : values_at middle now ≡ values_of part new =
     values_moved o (scalars_at part) now ∙ ap (values_of part) (from_put o new bytes begins) ∙ same_values part (new ++ rest) new cut in
-    let was = values_at s.before bytes ++ (values_at middle bytes ++ values_at s.behind bytes) in
-    let was_is : values_of whole bytes ≡ was = ap (λ ss. values_at ss bytes) s.is ∙ values_split s.before middle s.behind bytes in
+    let was = values_at s.before bytes ++ (values_at middle bytes ++ values_at s.after bytes) in
+    let was_is : values_of whole bytes ≡ was = ap (λ ss. values_at ss bytes) s.is ∙ values_split s.before middle s.after bytes in
     let lengths : length (values_of part new) ≡ length (values_at middle bytes) =
     values_counted part new ∙ sym (values_counted part (drop o bytes)) ∙ ap length (sym (values_moved o (scalars_at part) bytes)) in
-    ap (λ ss. values_at ss now) s.is ∙ values_split s.before middle s.behind now
-    ∙ ap (λ vs. vs ++ (values_at middle now ++ values_at s.behind now)) front
-    ∙ ap (λ vs. values_at s.before bytes ++ (vs ++ values_at s.behind now)) mine
+    ap (λ ss. values_at ss now) s.is ∙ values_split s.before middle s.after now
+    ∙ ap (λ vs. vs ++ (values_at middle now ++ values_at s.after now)) front
+    ∙ ap (λ vs. values_at s.before bytes ++ (vs ++ values_at s.after now)) mine
     ∙ ap (λ vs. values_at s.before bytes ++ (values_of part new ++ vs)) back
-    ∙ replaced (values_at s.before bytes) (values_at middle bytes) (values_at s.behind bytes) (values_of part new) k
+    ∙ replaced (values_at s.before bytes) (values_at middle bytes) (values_at s.after bytes) (values_of part new) k
     (length-map s.before (value_in bytes) ∙ s.count) lengths
     ∙ ap (λ vs. take k vs ++ values_of part new ++ drop (k + length (values_of part new)) vs) (sym was_is)
 

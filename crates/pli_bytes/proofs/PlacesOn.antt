@@ -9,7 +9,7 @@ use Rattle.pli_map.specs.Sizes.{alignment_of, count_of, size_of, stride_of}
 use Rattle.pli_map.specs.views.DescriptionView.{description_view, members_view}
 use Rattle.pli_map.proofs.Members.{next_member}
 use Rattle.pli_map.proofs.Places.{element_inside, fits_stride}
-use Rattle.pli_bytes.specs.Contents.{scalar_on, scalars_at, scalars_behind}
+use Rattle.pli_bytes.specs.Contents.{scalar_on, scalars_at, scalars_after}
 use Rattle.pli_bytes.proofs.LaidPlaces.{whole_stride}
 use Rattle.pli_bytes.proofs.ScalarsOn.{on_in_array, on_before, on_first, on_others}
 
@@ -46,24 +46,24 @@ module _ (xs : List Description) (i : ℕ) (x : Description) (offset end alignme
   start_of = start_is ∙ ap (next_multiple_of end) alignment_is
 
   -- it is before this member
-  pub before_member : offset < start → scalar_on offset (scalars_behind end (members_view (drop i xs))) ≡ None
+  pub before_member : offset < start → scalar_on offset (scalars_after end (members_view (drop i xs))) ≡ None
   before_member less =
-      ap (λ ms. scalar_on offset (scalars_behind end ms)) (next_member xs i x within is)
+      ap (λ ms. scalar_on offset (scalars_after end ms)) (next_member xs i x within is)
       ∙ on_before offset end (description_view x) (members_view (drop (i + 1) xs)) (omega (arith, less, start_of))
 
   -- in it
   pub in_this_member : start ≤ offset → offset < start + size_of (description_view x)
-      → scalar_on offset (scalars_behind end (members_view (drop i xs))) ≡ option_map (moved start) (scalar_on (offset - start) (scalars_at (description_view x)))
+      → scalar_on offset (scalars_after end (members_view (drop i xs))) ≡ option_map (moved start) (scalar_on (offset - start) (scalars_at (description_view x)))
   in_this_member from less =
-      ap (λ ms. scalar_on offset (scalars_behind end ms)) (next_member xs i x within is)
+      ap (λ ms. scalar_on offset (scalars_after end ms)) (next_member xs i x within is)
       ∙ on_first offset end (description_view x) (members_view (drop (i + 1) xs)) (omega (arith, from, start_of)) (omega (arith, less, start_of))
       ∙ ap (λ n. option_map (moved n) (scalar_on (offset - n) (scalars_at (description_view x)))) (sym start_of)
 
-  -- or behind it
+  -- or after it
   pub in_later_member : (next : ℕ) → next ≡ start + size_of (description_view x) → next ≤ offset
-      → scalar_on offset (scalars_behind end (members_view (drop i xs))) ≡ scalar_on offset (scalars_behind next (members_view (drop (i + 1) xs)))
+      → scalar_on offset (scalars_after end (members_view (drop i xs))) ≡ scalar_on offset (scalars_after next (members_view (drop (i + 1) xs)))
   in_later_member next next_is past =
       let place : next_multiple_of end (alignment_of (description_view x)) + size_of (description_view x) ≡ next = omega (arith, next_is, start_of) in
-      ap (λ ms. scalar_on offset (scalars_behind end ms)) (next_member xs i x within is)
+      ap (λ ms. scalar_on offset (scalars_after end ms)) (next_member xs i x within is)
       ∙ on_others offset end (description_view x) (members_view (drop (i + 1) xs)) (omega (arith, place, past))
-      ∙ ap (λ n. scalar_on offset (scalars_behind n (members_view (drop (i + 1) xs)))) place
+      ∙ ap (λ n. scalar_on offset (scalars_after n (members_view (drop (i + 1) xs)))) place

@@ -13,8 +13,8 @@ module _ (first : ℕ) (new bytes : List ℕ) where
   pub between_put : first ≤ length bytes → bytes_from first (length new) (with_bytes_at first new bytes) ≡ new
   between_put inside = ap (take (length new)) (from_put inside) ∙ take_at new (drop (first + length new) bytes) (length new) refl
 
-  pub behind_put : first ≤ length bytes → drop (first + length new) (with_bytes_at first new bytes) ≡ drop (first + length new) bytes
-  behind_put inside =
+  pub after_put : first ≤ length bytes → drop (first + length new) (with_bytes_at first new bytes) ≡ drop (first + length new) bytes
+  after_put inside =
       sym (drop-drop (length new) first (with_bytes_at first new bytes)) ∙ ap (drop (length new)) (from_put inside)
       ∙ drop_at new (drop (first + length new) bytes) (length new) refl
 

@@ -1,4 +1,4 @@
--- Bytes put at the front of those behind an offset: a scalar that lies there is put, also where the last of its bytes stay.
+-- Bytes put at the front of those after an offset: a scalar that lies there is put, also where the last of its bytes stay.
 use Rattle.std.proofs.Common.{◌≡◌, ℕ, ◌+◌, ◌-◌, ◌≤◌, Bool, true, false, List, [], ◌++◌, length, take, drop, ap, sym, ◌∙◌, arith, append-nil, append_assoc, length-append, length-drop}
 use Rattle.std.proofs.lemmas.List.{drop_all, drop-append-le, drop-drop, length-take-le, take-append-drop, take_all}
 use borrow.Rule.Slice.PartMut.{put_mid}
@@ -9,17 +9,17 @@ use Rattle.pli_bytes.specs.Changes.{IsPut, PutOrSame, AppendedOrSame}
 use Rattle.pli_bytes.specs.Contents.{value_of, with_bytes_at}
 
 -- all bytes from an offset on, and what they are once others have come back in their place
-abbrev pub behind : (offset : ℕ) (bytes : List ℕ) → List ℕ
-behind offset bytes = take (length bytes - offset) (drop offset bytes)
+abbrev pub rest_from : (offset : ℕ) (bytes : List ℕ) → List ℕ
+rest_from offset bytes = take (length bytes - offset) (drop offset bytes)
 
-abbrev pub with_behind : (offset : ℕ) (bytes back : List ℕ) → List ℕ
-with_behind offset bytes back = put_mid offset (length bytes - offset) bytes back
+abbrev pub with_rest_from : (offset : ℕ) (bytes back : List ℕ) → List ℕ
+with_rest_from offset bytes back = put_mid offset (length bytes - offset) bytes back
 
-pub behind_is : (offset : ℕ) (bytes : List ℕ) → behind offset bytes ≡ drop offset bytes
-behind_is offset bytes = take_all (length bytes - offset) (drop offset bytes) (omega (arith, length-drop offset bytes))
+pub rest_from_is : (offset : ℕ) (bytes : List ℕ) → rest_from offset bytes ≡ drop offset bytes
+rest_from_is offset bytes = take_all (length bytes - offset) (drop offset bytes) (omega (arith, length-drop offset bytes))
 
-pub with_behind_is : (offset : ℕ) (bytes back : List ℕ) → with_behind offset bytes back ≡ take offset bytes ++ back
-with_behind_is offset bytes back =
+pub with_rest_from_is : (offset : ℕ) (bytes back : List ℕ) → with_rest_from offset bytes back ≡ take offset bytes ++ back
+with_rest_from_is offset bytes back =
     let nothing : drop (length bytes - offset) (drop offset bytes) ≡ [] = drop_all (length bytes - offset) (drop offset bytes) (omega (arith, length-drop offset bytes)) in
     ap (λ l. take offset bytes ++ (back ++ l)) nothing ∙ ap (λ l. take offset bytes ++ l) (append-nil back)
 
@@ -55,34 +55,34 @@ put_front d v front old new fits inside is hold =
 -- ---- at an offset
 
 -- what is put at no offset of all bytes from one on is put at that offset
-put_further : (offset : ℕ) (new bytes back : List ℕ) → back ≡ with_bytes_at 0 new (behind offset bytes)
-    → with_behind offset bytes back ≡ with_bytes_at offset new bytes
+put_further : (offset : ℕ) (new bytes back : List ℕ) → back ≡ with_bytes_at 0 new (rest_from offset bytes)
+    → with_rest_from offset bytes back ≡ with_bytes_at offset new bytes
 put_further offset new bytes back is =
     let end : 0 + length new ≡ length new = omega arith in
-    let rest : drop (0 + length new) (behind offset bytes) ≡ drop (offset + length new) bytes =
-    ap (λ n. drop n (behind offset bytes)) end ∙ ap (drop (length new)) (behind_is offset bytes) ∙ drop-drop (length new) offset bytes in
-    with_behind_is offset bytes back ∙ ap (λ l. take offset bytes ++ l) is ∙ ap (λ l. take offset bytes ++ (new ++ l)) rest
+    let rest : drop (0 + length new) (rest_from offset bytes) ≡ drop (offset + length new) bytes =
+    ap (λ n. drop n (rest_from offset bytes)) end ∙ ap (drop (length new)) (rest_from_is offset bytes) ∙ drop-drop (length new) offset bytes in
+    with_rest_from_is offset bytes back ∙ ap (λ l. take offset bytes ++ l) is ∙ ap (λ l. take offset bytes ++ (new ++ l)) rest
 
-pub put_behind : (d : Description) (v : Value) (offset : ℕ) (bytes back : List ℕ) → IsPut d v 0 (behind offset bytes) back → IsPut d v offset bytes (with_behind offset bytes back)
-put_behind d v offset bytes back put =
+pub put_after : (d : Description) (v : Value) (offset : ℕ) (bytes back : List ℕ) → IsPut d v 0 (rest_from offset bytes) back → IsPut d v offset bytes (with_rest_from offset bytes back)
+put_after d v offset bytes back put =
     record { bytes = put.bytes; size = put.size; hold = put.hold; put = put_further offset put.bytes bytes back put.put }
 
 -- what comes back as it was changes nothing
-pub same_behind : (offset : ℕ) (bytes back : List ℕ) → back ≡ behind offset bytes → with_behind offset bytes back ≡ bytes
-same_behind offset bytes back same =
-    with_behind_is offset bytes back ∙ ap (λ l. take offset bytes ++ l) (same ∙ behind_is offset bytes) ∙ take-append-drop offset bytes
+pub same_after : (offset : ℕ) (bytes back : List ℕ) → back ≡ rest_from offset bytes → with_rest_from offset bytes back ≡ bytes
+same_after offset bytes back same =
+    with_rest_from_is offset bytes back ∙ ap (λ l. take offset bytes ++ l) (same ∙ rest_from_is offset bytes) ∙ take-append-drop offset bytes
 
-pub put_or_same_behind : (b : Bool) (d : Description) (v : Value) (offset : ℕ) (bytes back : List ℕ) → PutOrSame b d v 0 (behind offset bytes) back
-    → PutOrSame b d v offset bytes (with_behind offset bytes back)
-put_or_same_behind true d v offset bytes back put = put_behind d v offset bytes back put
-put_or_same_behind false d v offset bytes back same = same_behind offset bytes back same
+pub put_or_same_after : (b : Bool) (d : Description) (v : Value) (offset : ℕ) (bytes back : List ℕ) → PutOrSame b d v 0 (rest_from offset bytes) back
+    → PutOrSame b d v offset bytes (with_rest_from offset bytes back)
+put_or_same_after true d v offset bytes back put = put_after d v offset bytes back put
+put_or_same_after false d v offset bytes back same = same_after offset bytes back same
 
-pub appended_behind : (b : Bool) (greatest offset : ℕ) (more : List ℕ) (room : ℕ) (bytes back : List ℕ)
-    → AppendedOrSame b greatest 0 more room (behind offset bytes) back → AppendedOrSame b greatest offset more room bytes (with_behind offset bytes back)
-appended_behind true greatest offset more room bytes back a = record {
+pub appended_after : (b : Bool) (greatest offset : ℕ) (more : List ℕ) (room : ℕ) (bytes back : List ℕ)
+    → AppendedOrSame b greatest 0 more room (rest_from offset bytes) back → AppendedOrSame b greatest offset more room bytes (with_rest_from offset bytes back)
+appended_after true greatest offset more room bytes back a = record {
   text = a.text;
-  was = ap (λ rest. value_of (Varying greatest) (take (2 + greatest) rest)) (sym (behind_is offset bytes)) ∙ a.was;
-  put = put_behind (Varying greatest) (Characters (a.text ++ more)) offset bytes back a.put;
+  was = ap (λ rest. value_of (Varying greatest) (take (2 + greatest) rest)) (sym (rest_from_is offset bytes)) ∙ a.was;
+  put = put_after (Varying greatest) (Characters (a.text ++ more)) offset bytes back a.put;
   fits = a.fits;
 }
-appended_behind false greatest offset more room bytes back same = same_behind offset bytes back same
+appended_after false greatest offset more room bytes back same = same_after offset bytes back same

@@ -5,7 +5,7 @@ use Rattle.pli_map.specs.Sizes.{size_of}
 use Rattle.pli_value.specs.Value.{Value}
 use Rattle.pli_bytes.specs.Changes.{IsPut}
 use Rattle.pli_bytes.specs.Contents.{value_of, value_in, bytes_from, with_bytes_at}
-use Rattle.pli_bytes.proofs.PutBytes.{before_put, between_put, behind_put, length_put}
+use Rattle.pli_bytes.proofs.PutBytes.{before_put, between_put, after_put, length_put}
 
 module _ (d : Description) (v : Value) (o : ℕ) (old new : List ℕ) (inside : o + size_of d ≤ length old) (put : IsPut d v o old new) where
   starts : o ≤ length old
@@ -19,9 +19,9 @@ module _ (d : Description) (v : Value) (o : ℕ) (old new : List ℕ) (inside : 
   pub put_before : take o new ≡ take o old
   put_before = ap (take o) put.put ∙ before_put o put.bytes old starts
 
-  pub put_behind : drop (o + size_of d) new ≡ drop (o + size_of d) old
-  put_behind =
-      ap (λ n. drop (o + n) new) (sym put.size) ∙ ap (drop (o + length put.bytes)) put.put ∙ behind_put o put.bytes old starts
+  pub put_after : drop (o + size_of d) new ≡ drop (o + size_of d) old
+  put_after =
+      ap (λ n. drop (o + n) new) (sym put.size) ∙ ap (drop (o + length put.bytes)) put.put ∙ after_put o put.bytes old starts
       ∙ ap (λ n. drop (o + n) old) put.size
 
   pub put_length : length new ≡ length old

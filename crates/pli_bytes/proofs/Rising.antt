@@ -1,13 +1,13 @@
--- Scalars that lie one behind the other.
+-- Scalars that lie one after the other.
 use Rattle.std.proofs.Common.{◌≡◌, ℕ, zero, suc, ◌+◌, ◌*◌, ◌≤◌, List, [], ◌∷◌, ◌++◌, map, arith}
 use Rattle.std.specs.Int.{next_multiple_of}
 use Rattle.pli_map.specs.Description.{Description, FixedBinary, Character, Varying, Bit, Pointer, Offset, Area, Array, Structure, Members, NoMembers, MemberThen}
 use Rattle.pli_map.specs.Parts.{PlacedPart, moved}
-use Rattle.pli_map.specs.Sizes.{count_of, alignment_of, size_of, end_behind, stride_of}
+use Rattle.pli_map.specs.Sizes.{count_of, alignment_of, size_of, end_after, stride_of}
 use Rattle.pli_map.proofs.Places.{fits_stride}
-use Rattle.pli_bytes.specs.Contents.{spread, scalars_at, scalars_behind}
+use Rattle.pli_bytes.specs.Contents.{spread, scalars_at, scalars_after}
 
--- the first begins no earlier than at one byte, each behind the end of the one before, and the last ends no later than at another byte
+-- the first begins no earlier than at one byte, each after the end of the one before, and the last ends no later than at another byte
 abbrev pub Rise : (low : ℕ) → List PlacedPart → (high : ℕ) → Type 0
 Rise low [] high = low ≤ high
 Rise low (s ∷ ss) high = (low ≤ s.offset) × Rise (s.offset + size_of s.description) ss high
@@ -59,12 +59,12 @@ mutual
       let count = count_of bounds in
       rise_wider 0 0 (spread 0 stride count (scalars_at element)) (0 + count * stride) (count * stride) (omega arith) (omega arith)
       (rise_spread 0 stride count (scalars_at element) (size_of element) (fits_stride element) (rises element))
-  rises (Structure members) = rises_behind 0 members
+  rises (Structure members) = rises_after 0 members
 
-  pub rises_behind : (at : ℕ) (ds : Members) → Rise at (scalars_behind at ds) (end_behind at ds)
-  rises_behind at NoMembers = omega arith
-  rises_behind at (MemberThen d ds) =
+  pub rises_after : (at : ℕ) (ds : Members) → Rise at (scalars_after at ds) (end_after at ds)
+  rises_after at NoMembers = omega arith
+  rises_after at (MemberThen d ds) =
       let start = next_multiple_of at (alignment_of d) in
-      rise_both at (map (moved start) (scalars_at d)) (start + size_of d) (scalars_behind (start + size_of d) ds) (end_behind (start + size_of d) ds)
+      rise_both at (map (moved start) (scalars_at d)) (start + size_of d) (scalars_after (start + size_of d) ds) (end_after (start + size_of d) ds)
       (rise_wider at (start + 0) (map (moved start) (scalars_at d)) (start + size_of d) (start + size_of d) (omega arith) (omega arith) (rise_moved start 0 (scalars_at d) (size_of d) (rises d)))
-      (rises_behind (start + size_of d) ds)
+      (rises_after (start + size_of d) ds)

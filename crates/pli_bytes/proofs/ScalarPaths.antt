@@ -5,32 +5,32 @@ use Rattle.std.specs.Option.{option_and_then}
 use Rattle.std.proofs.lemmas.List.{length-map}
 use Rattle.std.proofs.lemmas.Option.{same_Some, none-some, slice_get-map}
 use Rattle.pli_map.specs.Description.{Description, FixedBinary, Character, Varying, Bit, Pointer, Offset, Area, Array, Structure, Members, NoMembers, MemberThen}
-use Rattle.pli_map.specs.Parts.{PathStep, Member, Element, PlacedPart, index_of, member_behind, part_at, moved, place_of}
+use Rattle.pli_map.specs.Parts.{PathStep, Member, Element, PlacedPart, index_of, member_after, part_at, moved, place_of}
 use Rattle.pli_map.specs.ScalarPaths.{scalars_before, scalars_before_member, scalars_before_step}
 use Rattle.pli_map.specs.Scalars.{is_scalar, scalars_in}
 use Rattle.pli_map.specs.Sizes.{count_of, alignment_of, size_of, stride_of}
 use Rattle.pli_map.proofs.Places.{index_below}
-use Rattle.pli_bytes.specs.Contents.{spread, scalars_at, scalars_behind}
+use Rattle.pli_bytes.specs.Contents.{spread, scalars_at, scalars_after}
 use Rattle.pli_bytes.specs.laws.ContentsLaws.{OnPaths}
 use Rattle.pli_bytes.proofs.Scalars.{counted}
 
 abbrev place : ℕ → Description → PlacedPart
 place offset d = record { offset = offset; description = d }
 
--- ---- lists, one behind another
+-- ---- lists, one after another
 
 there_before : (xs ys : List PlacedPart) (j : ℕ) (v : PlacedPart) → slice_get xs j ≡ Some v → slice_get (xs ++ ys) j ≡ Some v
 there_before [] ys j v h = absurd (none-some v h)
 there_before (x ∷ xs) ys zero v h = h
 there_before (x ∷ xs) ys (suc j) v h = there_before xs ys j v h
 
-there_behind : (xs ys : List PlacedPart) (n j : ℕ) → length xs ≡ n → slice_get (xs ++ ys) (n + j) ≡ slice_get ys j
-there_behind [] ys zero j h = let e : 0 + j ≡ j = omega arith in ap (slice_get ys) e
-there_behind [] ys (suc n) j h = absurd (omega (arith, h))
-there_behind (x ∷ xs) ys zero j h = absurd (omega (arith, h))
-there_behind (x ∷ xs) ys (suc n) j h =
+there_after : (xs ys : List PlacedPart) (n j : ℕ) → length xs ≡ n → slice_get (xs ++ ys) (n + j) ≡ slice_get ys j
+there_after [] ys zero j h = let e : 0 + j ≡ j = omega arith in ap (slice_get ys) e
+there_after [] ys (suc n) j h = absurd (omega (arith, h))
+there_after (x ∷ xs) ys zero j h = absurd (omega (arith, h))
+there_after (x ∷ xs) ys (suc n) j h =
     let e : suc n + j ≡ suc (n + j) = omega arith in
-    ap (slice_get (x ∷ (xs ++ ys))) e ∙ there_behind xs ys n j (omega (arith, h))
+    ap (slice_get (x ∷ (xs ++ ys))) e ∙ there_after xs ys n j (omega (arith, h))
 
 there_moved : (m : ℕ) (ss : List PlacedPart) (j : ℕ) (q : PlacedPart) → slice_get ss j ≡ Some q → slice_get (map (moved m) ss) j ≡ Some (moved m q)
 there_moved m ss j q h = slice_get-map (moved m) ss j ∙ ap (option_map (moved m)) h
@@ -56,7 +56,7 @@ in_spread element at stride (suc count) (suc n) j q within h =
     let e : at + stride + n * stride ≡ at + suc n * stride = omega arith in
     let k : suc n * s + j ≡ s + (n * s + j) = omega arith in
     ap (slice_get (spread at stride (suc count) ss)) k
-    ∙ there_behind (map (moved at) ss) (spread (at + stride) stride count ss) s (n * s + j) (moved_count at element)
+    ∙ there_after (map (moved at) ss) (spread (at + stride) stride count ss) s (n * s + j) (moved_count at element)
     ∙ in_spread element (at + stride) stride count n j q (omega (arith, within)) h
     ∙ ap (λ m. Some (moved m q)) e
 
@@ -64,8 +64,8 @@ number_of : (f : ℕ → ℕ) (o : Option ℕ) (k : ℕ) → option_map f o ≡ 
 number_of f None k e = absurd (none-some k e)
 number_of f (Some j) k e = (j, refl, same_Some _ _ e)
 
-in_members : (ds : Members) (at i : ℕ) (p q : PlacedPart) (k j : ℕ) → member_behind at ds i ≡ Some p → scalars_before_member ds i ≡ Some k
-    → slice_get (scalars_at p.description) j ≡ Some q → slice_get (scalars_behind at ds) (k + j) ≡ Some (moved p.offset q)
+in_members : (ds : Members) (at i : ℕ) (p q : PlacedPart) (k j : ℕ) → member_after at ds i ≡ Some p → scalars_before_member ds i ≡ Some k
+    → slice_get (scalars_at p.description) j ≡ Some q → slice_get (scalars_after at ds) (k + j) ≡ Some (moved p.offset q)
 in_members NoMembers at i p q k j is before h = absurd (none-some k before)
 in_members (MemberThen d ds) at zero p q k j is before h =
     let start = next_multiple_of at (alignment_of d) in
@@ -73,15 +73,15 @@ in_members (MemberThen d ds) at zero p q k j is before h =
     let first : 0 ≡ k = same_Some _ _ before in
     let same : k + j ≡ j = omega (arith, first) in
     let mine : slice_get (scalars_at d) j ≡ Some q = ap (λ (r : PlacedPart). slice_get (scalars_at r.description) j) part ∙ h in
-    ap (slice_get (scalars_behind at (MemberThen d ds))) same
-    ∙ there_before (map (moved start) (scalars_at d)) (scalars_behind (start + size_of d) ds) j (moved start q) (there_moved start (scalars_at d) j q mine)
+    ap (slice_get (scalars_after at (MemberThen d ds))) same
+    ∙ there_before (map (moved start) (scalars_at d)) (scalars_after (start + size_of d) ds) j (moved start q) (there_moved start (scalars_at d) j q mine)
     ∙ ap (λ (r : PlacedPart). Some (moved r.offset q)) part
 in_members (MemberThen d ds) at (suc i) p q k j is before h =
     let start = next_multiple_of at (alignment_of d) in
     let m = number_of (λ n. scalars_in d + n) (scalars_before_member ds i) k before in
     let same : k + j ≡ scalars_in d + (m.0 + j) = omega (arith, m.2) in
-    ap (slice_get (scalars_behind at (MemberThen d ds))) same
-    ∙ there_behind (map (moved start) (scalars_at d)) (scalars_behind (start + size_of d) ds) (scalars_in d) (m.0 + j) (moved_count start d)
+    ap (slice_get (scalars_after at (MemberThen d ds))) same
+    ∙ there_after (map (moved start) (scalars_at d)) (scalars_after (start + size_of d) ds) (scalars_in d) (m.0 + j) (moved_count start d)
     ∙ in_members ds (start + size_of d) i p q m.0 j is m.1 h
 
 in_elements : (element : Description) (count j : ℕ) (q : PlacedPart) (index : Option ℕ) (p : PlacedPart) (k : ℕ) → ((n : ℕ) → index ≡ Some n → n < count)
@@ -128,13 +128,13 @@ itself (Structure _) h = absurd (true≢false (sym h))
 
 -- ---- paths
 
-record Step (first : Option PlacedPart) (behind : PlacedPart → Option PlacedPart) (before : Option ℕ) (later : PlacedPart → Option ℕ) (part : PlacedPart) (k : ℕ) : Type 0 where
+record Step (first : Option PlacedPart) (after : PlacedPart → Option PlacedPart) (before : Option ℕ) (later : PlacedPart → Option ℕ) (part : PlacedPart) (k : ℕ) : Type 0 where
   pub p : PlacedPart
   pub q : PlacedPart
   pub m : ℕ
   pub j : ℕ
   pub is : first ≡ Some p
-  pub rest : behind p ≡ Some q
+  pub rest : after p ≡ Some q
   pub part_is : moved p.offset q ≡ part
   pub before_is : before ≡ Some m
   pub later_is : later p ≡ Some j
@@ -144,13 +144,13 @@ part_of : (f : PlacedPart → PlacedPart) (o : Option PlacedPart) (r : PlacedPar
 part_of f None r e = absurd (none-some r e)
 part_of f (Some q) r e = (q, refl, same_Some _ _ e)
 
-step_of : (first : Option PlacedPart) (behind : PlacedPart → Option PlacedPart) (before : Option ℕ) (later : PlacedPart → Option ℕ) (part : PlacedPart) (k : ℕ)
-    → option_and_then (λ p. option_map (moved p.offset) (behind p)) first ≡ Some part
-    → option_and_then (λ p. option_and_then (λ m. option_map (λ j. m + j) (later p)) before) first ≡ Some k → Step first behind before later part k
-step_of None behind before later part k e f = absurd (none-some part e)
-step_of (Some p) behind None later part k e f = absurd (none-some k f)
-step_of (Some p) behind (Some m) later part k e f =
-    let q = part_of (moved p.offset) (behind p) part e in
+step_of : (first : Option PlacedPart) (after : PlacedPart → Option PlacedPart) (before : Option ℕ) (later : PlacedPart → Option ℕ) (part : PlacedPart) (k : ℕ)
+    → option_and_then (λ p. option_map (moved p.offset) (after p)) first ≡ Some part
+    → option_and_then (λ p. option_and_then (λ m. option_map (λ j. m + j) (later p)) before) first ≡ Some k → Step first after before later part k
+step_of None after before later part k e f = absurd (none-some part e)
+step_of (Some p) after None later part k e f = absurd (none-some k f)
+step_of (Some p) after (Some m) later part k e f =
+    let q = part_of (moved p.offset) (after p) part e in
     let j = number_of (λ n. m + n) (later p) k f in
     record { p = p; q = q.0; m = m; j = j.0; is = refl; rest = q.1; part_is = q.2; before_is = refl; later_is = j.1; number = j.2 }
 

@@ -7,7 +7,7 @@ use Rattle.pli_map.specs.Description.{Description, FixedBinary, Character, Varyi
 use Rattle.pli_map.specs.Parts.{PlacedPart, moved}
 use Rattle.pli_map.specs.Scalars.{is_scalar, scalars_in, scalars_among, scalars_of, scalars_of_members}
 use Rattle.pli_map.specs.Sizes.{count_of, alignment_of, size_of, stride_of}
-use Rattle.pli_bytes.specs.Contents.{spread, scalars_at, scalars_behind}
+use Rattle.pli_bytes.specs.Contents.{spread, scalars_at, scalars_after}
 
 pub spread_length : (at stride count : ℕ) (ss : List PlacedPart) → length (spread at stride count ss) ≡ count * length ss
 spread_length at stride zero ss = omega arith
@@ -27,14 +27,14 @@ mutual
   counted (Area n) = refl
   counted (Array bounds element) =
       spread_length 0 (stride_of element) (count_of bounds) (scalars_at element) ∙ ap (λ n. count_of bounds * n) (counted element)
-  counted (Structure members) = counted_behind 0 members
+  counted (Structure members) = counted_after 0 members
 
-  pub counted_behind : (at : ℕ) (ds : Members) → length (scalars_behind at ds) ≡ scalars_among ds
-  counted_behind at NoMembers = refl
-  counted_behind at (MemberThen d ds) =
+  pub counted_after : (at : ℕ) (ds : Members) → length (scalars_after at ds) ≡ scalars_among ds
+  counted_after at NoMembers = refl
+  counted_after at (MemberThen d ds) =
       let start = next_multiple_of at (alignment_of d) in
-      let both = length-append (map (moved start) (scalars_at d)) (scalars_behind (start + size_of d) ds) in
-      omega (arith, both, length-map (scalars_at d) (moved start), counted d, counted_behind (start + size_of d) ds)
+      let both = length-append (map (moved start) (scalars_at d)) (scalars_after (start + size_of d) ds) in
+      omega (arith, both, length-map (scalars_at d) (moved start), counted d, counted_after (start + size_of d) ds)
 
 -- a scalar is its own alone
 pub scalar_alone : (d : Description) → is_scalar d ≡ true → scalars_at d ≡ record { offset = 0; description = d } ∷ []
@@ -86,16 +86,16 @@ mutual
   described (Array bounds element) =
       descriptions_spread 0 (stride_of element) (count_of bounds) (scalars_at element)
       ∙ ap (λ ds. flat_map (λ ds. ds) (replicate (count_of bounds) ds)) (described element)
-  described (Structure members) = described_behind 0 members
+  described (Structure members) = described_after 0 members
 
-  pub described_behind : (at : ℕ) (ds : Members) → descriptions (scalars_behind at ds) ≡ scalars_of_members ds
-  described_behind at NoMembers = refl
-  described_behind at (MemberThen d ds) =
+  pub described_after : (at : ℕ) (ds : Members) → descriptions (scalars_after at ds) ≡ scalars_of_members ds
+  described_after at NoMembers = refl
+  described_after at (MemberThen d ds) =
       let start = next_multiple_of at (alignment_of d) in
-      let rest = scalars_behind (start + size_of d) ds in
+      let rest = scalars_after (start + size_of d) ds in
       map-append (λ s. s.description) (map (moved start) (scalars_at d)) rest
       ∙ ap (λ ds. ds ++ descriptions rest) (descriptions_moved start (scalars_at d) ∙ described d)
-      ∙ ap (λ ds. scalars_of d ++ ds) (described_behind (start + size_of d) ds)
+      ∙ ap (λ ds. scalars_of d ++ ds) (described_after (start + size_of d) ds)
 
 -- ---- a scalar alone
 

@@ -8,13 +8,13 @@ use Rattle.std.proofs.Math.Nat.{mod-lt, mul-le-mul_right}
 use Rattle.pli_map.specs.Description.{Description, Array, Members, MemberThen}
 use Rattle.pli_map.specs.declared.description.Bounds.{Bounds}
 use Rattle.pli_map.specs.Parts.{PlacedPart, moved}
-use Rattle.pli_map.specs.Sizes.{count_of, alignment_of, size_of, end_behind, stride_of}
+use Rattle.pli_map.specs.Sizes.{count_of, alignment_of, size_of, end_after, stride_of}
 use Rattle.pli_map.proofs.Places.{fits_stride}
-use Rattle.pli_bytes.specs.Contents.{begins_on, scalar_on, spread, scalars_at, scalars_behind}
-use Rattle.pli_bytes.proofs.Rising.{Rise, rise_ends, rise_wider, rise_moved, rise_spread, rises, rises_behind}
+use Rattle.pli_bytes.specs.Contents.{begins_on, scalar_on, spread, scalars_at, scalars_after}
+use Rattle.pli_bytes.proofs.Rising.{Rise, rise_ends, rise_wider, rise_moved, rise_spread, rises, rises_after}
 use Rattle.pli_bytes.proofs.Split.{spread_split}
 
--- ---- among places that lie one behind another
+-- ---- among places that lie one after another
 
 -- the first of two that is there
 abbrev first_of : Option PlacedPart → Option PlacedPart → Option PlacedPart
@@ -46,7 +46,7 @@ on_below offset low (s ∷ ss) high h less =
     ap (λ b. if b && nat_lt 0 (size_of s.description) then Some s else scalar_on offset ss) (ne_eqb offset s.offset apart)
     ∙ on_below offset (s.offset + size_of s.description) ss high h.1 (omega (arith, less, h.0))
 
--- one that has its byte ends behind it
+-- one that has its byte ends after it
 pub on_past : (offset low : ℕ) (ss : List PlacedPart) (high : ℕ) → Rise low ss high → high ≤ offset → scalar_on offset ss ≡ None
 on_past offset low [] high h past = refl
 on_past offset low (s ∷ ss) high h past =
@@ -94,11 +94,11 @@ on_element stride count i ss size r fits h below inside =
     let one = map (moved (0 + m)) ss in
     let back = spread (0 + suc i * stride) stride rest ss in
     let before : scalar_on (m + r) front ≡ None = on_past (m + r) 0 front (0 + m) (rise_spread 0 stride i ss size fits h) (omega arith) in
-    let behind : scalar_on (m + r) back ≡ None =
+    let after : scalar_on (m + r) back ≡ None =
     on_below (m + r) (0 + suc i * stride) back (0 + suc i * stride + rest * stride) (rise_spread (0 + suc i * stride) stride rest ss size fits h) (omega (arith, inside, next)) in
     ap (λ n. scalar_on (m + r) (spread 0 stride n ss)) (sym all) ∙ ap (scalar_on (m + r)) (spread_split 0 stride i rest ss)
     ∙ on_both (m + r) front (one ++ back) ∙ ap (λ o. first_of o (scalar_on (m + r) (one ++ back))) before
-    ∙ on_both (m + r) one back ∙ ap (first_of (scalar_on (m + r) one)) behind ∙ of_first (scalar_on (m + r) one)
+    ∙ on_both (m + r) one back ∙ ap (first_of (scalar_on (m + r) one)) after ∙ of_first (scalar_on (m + r) one)
     ∙ ap (λ n. scalar_on (m + r) (map (moved n) ss)) place ∙ on_moved m r ss
 
 quotient_below : (k n count : ℕ) → k < count * n → k / n < count
@@ -145,33 +145,33 @@ module _ (offset at : ℕ) (d : Description) (ds : Members) where
   own = map (moved start) (scalars_at d)
 
   abbrev others : List PlacedPart
-  others = scalars_behind (start + size_of d) ds
+  others = scalars_after (start + size_of d) ds
 
   own_rise : Rise start own (start + size_of d)
   own_rise = rise_wider start (start + 0) own (start + size_of d) (start + size_of d) (omega arith) (omega arith) (rise_moved start 0 (scalars_at d) (size_of d) (rises d))
 
-  others_rise : Rise (start + size_of d) others (end_behind (start + size_of d) ds)
-  others_rise = rises_behind (start + size_of d) ds
+  others_rise : Rise (start + size_of d) others (end_after (start + size_of d) ds)
+  others_rise = rises_after (start + size_of d) ds
 
   -- in none of the members from this one on
-  pub on_before : offset < start → scalar_on offset (scalars_behind at (MemberThen d ds)) ≡ None
+  pub on_before : offset < start → scalar_on offset (scalars_after at (MemberThen d ds)) ≡ None
   on_before less =
       on_both offset own others
       ∙ ap (λ o. first_of o (scalar_on offset others)) (on_below offset start own (start + size_of d) own_rise less)
-      ∙ on_below offset (start + size_of d) others (end_behind (start + size_of d) ds) others_rise (omega (arith, less))
+      ∙ on_below offset (start + size_of d) others (end_after (start + size_of d) ds) others_rise (omega (arith, less))
 
   -- in this one
   pub on_first : start ≤ offset → offset < start + size_of d
-      → scalar_on offset (scalars_behind at (MemberThen d ds)) ≡ option_map (moved start) (scalar_on (offset - start) (scalars_at d))
+      → scalar_on offset (scalars_after at (MemberThen d ds)) ≡ option_map (moved start) (scalar_on (offset - start) (scalars_at d))
   on_first from less =
       let whole : start + (offset - start) ≡ offset = omega (arith, from) in
       on_both offset own others
-      ∙ ap (first_of (scalar_on offset own)) (on_below offset (start + size_of d) others (end_behind (start + size_of d) ds) others_rise less)
+      ∙ ap (first_of (scalar_on offset own)) (on_below offset (start + size_of d) others (end_after (start + size_of d) ds) others_rise less)
       ∙ of_first (scalar_on offset own)
       ∙ ap (λ n. scalar_on n own) (sym whole) ∙ on_moved start (offset - start) (scalars_at d)
 
-  -- in one of those behind it
-  pub on_others : start + size_of d ≤ offset → scalar_on offset (scalars_behind at (MemberThen d ds)) ≡ scalar_on offset others
+  -- in one of those after it
+  pub on_others : start + size_of d ≤ offset → scalar_on offset (scalars_after at (MemberThen d ds)) ≡ scalar_on offset others
   on_others past =
       on_both offset own others
       ∙ ap (λ o. first_of o (scalar_on offset others)) (on_past offset start own (start + size_of d) own_rise past)
@@ -180,7 +180,7 @@ module _ (offset at : ℕ) (d : Description) (ds : Members) where
 
 pub record LiesOn (low high offset : ℕ) (s : PlacedPart) : Type 0 where
   pub is : offset ≡ s.offset
-  pub behind : low ≤ s.offset
+  pub after : low ≤ s.offset
   pub before : s.offset + size_of s.description ≤ high
 
 pub on_lies : (offset low : ℕ) (ss : List PlacedPart) (high : ℕ) (s : PlacedPart) → Rise low ss high → scalar_on offset ss ≡ Some s → LiesOn low high offset s
@@ -196,10 +196,10 @@ on_lies offset low (t ∷ ss) high s h found =
         let end = rise_ends (t.offset + size_of t.description) ss high h.1 in
         let place : t.offset ≡ s.offset = ap (λ p. p.offset) is in
         let size : size_of t.description ≡ size_of s.description = ap (λ p. size_of p.description) is in
-        record { is = here ∙ place; behind = omega (arith, h.0, place); before = omega (arith, end, place, size) }
+        record { is = here ∙ place; after = omega (arith, h.0, place); before = omega (arith, end, place, size) }
     by false e found rest =
         let inner = rest found in
-        record { is = inner.is; behind = omega (arith, h.0, inner.behind); before = inner.before }
+        record { is = inner.is; after = omega (arith, h.0, inner.after); before = inner.before }
 
 pub on_within : (d : Description) (offset : ℕ) (s : PlacedPart) → scalar_on offset (scalars_at d) ≡ Some s → s.offset + size_of s.description ≤ size_of d
 on_within d offset s found = (on_lies offset 0 (scalars_at d) (size_of d) s (rises d) found).before
@@ -224,7 +224,7 @@ on_itself low (t ∷ front) back s high h some =
     by : (b : Bool) → nat_lt 0 (size_of t.description) ≡ b → scalar_on s.offset rest ≡ Some s → (if nat_eq s.offset t.offset && b then Some t else scalar_on s.offset rest) ≡ Some s
     by true e found =
         let wide = ltb-true 0 (size_of t.description) e in
-        let behind = rise_at (t.offset + size_of t.description) front back s high h.1 in
-        let apart : s.offset ≡ t.offset → ⊥ = λ same. omega (arith, same, wide, behind) in
+        let after = rise_at (t.offset + size_of t.description) front back s high h.1 in
+        let apart : s.offset ≡ t.offset → ⊥ = λ same. omega (arith, same, wide, after) in
         ap (λ b. if b && true then Some t else scalar_on s.offset rest) (ne_eqb s.offset t.offset apart) ∙ found
     by false e found = ap (λ b. if b then Some t else scalar_on s.offset rest) (and_false (nat_eq s.offset t.offset)) ∙ found

@@ -1,4 +1,4 @@
--- The scalars of a part stand together among those of the whole, behind those that end before it and before those that begin behind it.
+-- The scalars of a part stand together among those of the whole, after those that end before it and before those that begin after it.
 use Rattle.std.proofs.Common.{◌≡◌, ℕ, zero, suc, ◌+◌, ◌-◌, ◌*◌, ◌/◌, ◌%◌, ◌<◌, ◌≤◌, Bool, true, false, Some, None, List, [], ◌∷◌, ◌++◌, map, length, if◌then◌else◌, refl, ap, sym, ◌∙◌, subst, arith, inl, inr, append-nil, append_assoc, length-append}
 use Rattle.std.specs.Int.{next_multiple_of}
 use Rattle.std.proofs.lemmas.Bool.{ltb-true, ltb-false}
@@ -7,22 +7,22 @@ use Rattle.std.proofs.lemmas.Nat.{div-add-mod'}
 use Rattle.std.proofs.lemmas.Option.{none-some, same_Some}
 use Rattle.pli_map.specs.Description.{Description, FixedBinary, Character, Varying, Bit, Pointer, Offset, Area, Array, Structure, Members, NoMembers, MemberThen}
 use Rattle.pli_map.specs.Parts.{PlacedPart, moved}
-use Rattle.pli_map.specs.Scalars.{stands_here, first_scalar, scalar_behind}
-use Rattle.pli_map.specs.Sizes.{count_of, alignment_of, size_of, end_behind, stride_of}
+use Rattle.pli_map.specs.Scalars.{stands_here, first_scalar, scalar_after}
+use Rattle.pli_map.specs.Sizes.{count_of, alignment_of, size_of, end_after, stride_of}
 use Rattle.pli_map.proofs.Places.{fits_stride}
 use Rattle.pli_map.proofs.ScalarPlaces.{here, in_array, in_structure, in_members}
-use Rattle.pli_bytes.specs.Contents.{spread, scalars_at, scalars_behind}
-use Rattle.pli_bytes.proofs.Rising.{Rise, rise_wider, rise_both, rise_moved, rise_spread, rises, rises_behind}
+use Rattle.pli_bytes.specs.Contents.{spread, scalars_at, scalars_after}
+use Rattle.pli_bytes.proofs.Rising.{Rise, rise_wider, rise_both, rise_moved, rise_spread, rises, rises_after}
 use Rattle.pli_bytes.proofs.Scalars.{spread_length, counted}
 
--- among places from one byte to another stand, behind so many, those of a part at an offset
+-- among places from one byte to another stand, after so many, those of a part at an offset
 pub record SplitAt (low : ℕ) (ss : List PlacedPart) (high offset : ℕ) (part : Description) (k : ℕ) : Type 0 where
   pub before : List PlacedPart
-  pub behind : List PlacedPart
-  pub is : ss ≡ before ++ (map (moved offset) (scalars_at part) ++ behind)
+  pub after : List PlacedPart
+  pub is : ss ≡ before ++ (map (moved offset) (scalars_at part) ++ after)
   pub count : length before ≡ k
   pub ends : Rise low before offset
-  pub begins : Rise (offset + size_of part) behind high
+  pub begins : Rise (offset + size_of part) after high
 
 -- ---- moved places
 
@@ -49,15 +49,15 @@ split_moved m low ss high offset part k s =
     let mine = map (moved offset) (scalars_at part) in
     let ends = rise_moved m low s.before offset s.ends in
     let size = size_of part in
-    let begins = rise_moved m (offset + size) s.behind high s.begins in
+    let begins = rise_moved m (offset + size) s.after high s.begins in
     record {
       before = map (moved m) s.before;
-      behind = map (moved m) s.behind;
-      is = ap (map (moved m)) s.is ∙ map-append (moved m) s.before (mine ++ s.behind)
-          ∙ ap (λ ts. map (moved m) s.before ++ ts) (map-append (moved m) mine s.behind ∙ ap (λ ts. ts ++ map (moved m) s.behind) (moved_twice m offset (scalars_at part)));
+      after = map (moved m) s.after;
+      is = ap (map (moved m)) s.is ∙ map-append (moved m) s.before (mine ++ s.after)
+          ∙ ap (λ ts. map (moved m) s.before ++ ts) (map-append (moved m) mine s.after ∙ ap (λ ts. ts ++ map (moved m) s.after) (moved_twice m offset (scalars_at part)));
       count = length-map s.before (moved m) ∙ s.count;
       ends = ends;
-      begins = rise_wider (m + offset + size) (m + (offset + size)) (map (moved m) s.behind) (m + high) (m + high) (omega arith) (omega arith) begins;
+      begins = rise_wider (m + offset + size) (m + (offset + size)) (map (moved m) s.after) (m + high) (m + high) (omega arith) (omega arith) begins;
     }
 
 pub split_wider : (less low : ℕ) (ss : List PlacedPart) (high more offset : ℕ) (part : Description) (k : ℕ) → less ≤ low → high ≤ more → SplitAt low ss high offset part k
@@ -66,21 +66,21 @@ split_wider less low ss high more offset part k a b s =
     let end = offset + size_of part in
     record {
       before = s.before;
-      behind = s.behind;
+      after = s.after;
       is = s.is;
       count = s.count;
       ends = rise_wider less low s.before offset offset a (omega arith) s.ends;
-      begins = rise_wider end end s.behind high more (omega arith) b s.begins;
+      begins = rise_wider end end s.after high more (omega arith) b s.begins;
     }
 
--- behind others
+-- after others
 pub split_after : (low : ℕ) (front : List PlacedPart) (middle : ℕ) (ss : List PlacedPart) (high offset : ℕ) (part : Description) (k : ℕ) → Rise low front middle
     → SplitAt middle ss high offset part k → SplitAt low (front ++ ss) high offset part (length front + k)
 split_after low front middle ss high offset part k h s =
-    let rest = map (moved offset) (scalars_at part) ++ s.behind in
+    let rest = map (moved offset) (scalars_at part) ++ s.after in
     record {
       before = front ++ s.before;
-      behind = s.behind;
+      after = s.after;
       is = ap (λ ts. front ++ ts) s.is ∙ sym (append_assoc front s.before rest);
       count = length-append front s.before ∙ ap (λ n. length front + n) s.count;
       ends = rise_both low front middle s.before offset h s.ends;
@@ -94,11 +94,11 @@ split_before low ss middle back high offset part k h s =
     let mine = map (moved offset) (scalars_at part) in
     record {
       before = s.before;
-      behind = s.behind ++ back;
-      is = ap (λ ts. ts ++ back) s.is ∙ append_assoc s.before (mine ++ s.behind) back ∙ ap (λ ts. s.before ++ ts) (append_assoc mine s.behind back);
+      after = s.after ++ back;
+      is = ap (λ ts. ts ++ back) s.is ∙ append_assoc s.before (mine ++ s.after) back ∙ ap (λ ts. s.before ++ ts) (append_assoc mine s.after back);
       count = s.count;
       ends = s.ends;
-      begins = rise_both (offset + size_of part) s.behind middle back high s.begins h;
+      begins = rise_both (offset + size_of part) s.after middle back high s.begins h;
     }
 
 -- ---- elements
@@ -158,7 +158,7 @@ split_itself whole o part k stands first =
     let ss = scalars_at whole in
     let all : SplitAt 0 ss (size_of whole) 0 whole 0 = record {
       before = [];
-      behind = [];
+      after = [];
       is = sym (append-nil (map (moved 0) ss) ∙ not_moved ss);
       count = refl;
       ends = omega arith;
@@ -203,7 +203,7 @@ mutual
     | inr rest ↦ split_among 0 members o part k rest
   ]
 
-  pub split_among : (at : ℕ) (ds : Members) (o : ℕ) (part : Description) (k : ℕ) → scalar_behind at ds o part ≡ Some k → SplitAt at (scalars_behind at ds) (end_behind at ds) o part k
+  pub split_among : (at : ℕ) (ds : Members) (o : ℕ) (part : Description) (k : ℕ) → scalar_after at ds o part ≡ Some k → SplitAt at (scalars_after at ds) (end_after at ds) o part k
   split_among at NoMembers o part k e = absurd (none-some k e)
   split_among at (MemberThen d ds) o part k e = elim (in_members at d ds o part k e) [
     | inl c ↦ let start = next_multiple_of at (alignment_of d) in
@@ -213,14 +213,14 @@ mutual
         let place_is : start + (o - start) ≡ o = omega (arith, low) in
         let inner = split_moved start 0 (scalars_at d) (size_of d) (o - start) part k (split_found d (o - start) part k c.rest_is) in
         let wider = split_wider at (start + 0) ss end end (start + (o - start)) part k (omega arith) (omega arith) inner in
-        subst (λ n. SplitAt at (ss ++ scalars_behind end ds) (end_behind end ds) n part k) place_is
-        (split_before at ss end (scalars_behind end ds) (end_behind end ds) (start + (o - start)) part k (rises_behind end ds) wider)
+        subst (λ n. SplitAt at (ss ++ scalars_after end ds) (end_after end ds) n part k) place_is
+        (split_before at ss end (scalars_after end ds) (end_after end ds) (start + (o - start)) part k (rises_after end ds) wider)
     | inr c ↦ let start = next_multiple_of at (alignment_of d) in
         let end = start + size_of d in
         let ss = map (moved start) (scalars_at d) in
         let inner = split_among end ds o part c.number c.rest_is in
         let first = rise_wider at (start + 0) ss end end (omega arith) (omega arith) (rise_moved start 0 (scalars_at d) (size_of d) (rises d)) in
         let number : length ss + c.number ≡ k = ap (λ n. n + c.number) (length-map (scalars_at d) (moved start) ∙ counted d) ∙ c.whole in
-        subst (λ n. SplitAt at (ss ++ scalars_behind end ds) (end_behind end ds) o part n) number
-        (split_after at ss end (scalars_behind end ds) (end_behind end ds) o part c.number first inner)
+        subst (λ n. SplitAt at (ss ++ scalars_after end ds) (end_after end ds) o part n) number
+        (split_after at ss end (scalars_after end ds) (end_after end ds) o part c.number first inner)
   ]

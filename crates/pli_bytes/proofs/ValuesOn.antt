@@ -9,9 +9,9 @@ use Rattle.pli_map.specs.Values.{holds, are_held}
 use Rattle.pli_value.specs.Value.{Value}
 use Rattle.pli_bytes.specs.Changes.{IsPut}
 use Rattle.pli_bytes.specs.Contents.{begins_on, scalar_on, scalars_at, value_of, value_in, values_of, with_value_on}
-use Rattle.pli_bytes.proofs.Kept.{values_at, kept_behind}
+use Rattle.pli_bytes.proofs.Kept.{values_at, kept_after}
 use Rattle.pli_bytes.proofs.PutBytes.{same_front}
-use Rattle.pli_bytes.proofs.PutValues.{put_value, put_before, put_behind, put_length}
+use Rattle.pli_bytes.proofs.PutValues.{put_value, put_before, put_after, put_length}
 use Rattle.pli_bytes.proofs.Rising.{Rise, rises}
 use Rattle.pli_bytes.proofs.Scalars.{descriptions}
 use Rattle.pli_bytes.proofs.ScalarsOn.{on_lies, on_within}
@@ -87,12 +87,12 @@ put_among offset v low (t ∷ ss) high s old new h found held inside put =
         let place : t.offset + size_of t.description ≡ s.offset + size_of s.description = ap (λ p. p.offset + size_of p.description) is in
         let one : value_in new t ≡ v = ap (value_in new) is ∙ put_value s.description v s.offset old new inside put in
         let rest : values_at ss new ≡ values_at ss old =
-        kept_behind (s.offset + size_of s.description) (t.offset + size_of t.description) ss high new old (omega (arith, place)) h.1 (put_behind s.description v s.offset old new inside put) in
+        kept_after (s.offset + size_of s.description) (t.offset + size_of t.description) ss high new old (omega (arith, place)) h.1 (put_after s.description v s.offset old new inside put) in
         ap (λ w. w ∷ values_at ss new) one ∙ ap (λ vs. v ∷ vs) rest ∙ ap (λ b. (if b then v else value_in old t) ∷ values_at ss old) (sym same)
     by false found others =
         let lies = on_lies offset (t.offset + size_of t.description) ss high s h.1 found in
         let one : value_in new t ≡ value_in old t =
-        ap (value_of t.description) (same_front t.offset (size_of t.description) s.offset new old lies.behind (put_before s.description v s.offset old new inside put)) in
+        ap (value_of t.description) (same_front t.offset (size_of t.description) s.offset new old lies.after (put_before s.description v s.offset old new inside put)) in
         ap (λ w. w ∷ values_at ss new) one ∙ ap (λ vs. value_in old t ∷ vs) (others found)
 
 pub put_on_byte : (d : Description) (offset : ℕ) (s : PlacedPart) (v : Value) (old new : List ℕ) → scalar_on offset (scalars_at d) ≡ Some s → holds s.description v ≡ true

@@ -17,7 +17,7 @@ abbrev pub PutOrSame : Bool → Description → Value → (offset : ℕ) → (ol
 PutOrSame true d v offset old new = IsPut d v offset old new
 PutOrSame false d v offset old new = new ≡ old
 
--- characters are put behind those of a string of CHARACTER VARYING, and both are no more than so many
+-- characters are put after those of a string of CHARACTER VARYING, and both are no more than so many
 pub record IsAppended (greatest offset : ℕ) (more : List ℕ) (room : ℕ) (old new : List ℕ) : Type 0 where
   pub text : List ℕ
   pub was : value_in old (record { offset = offset; description = Varying greatest }) ≡ Characters text

@@ -18,16 +18,16 @@ abbrev mutual
   pub scalars_at : Description → List PlacedPart
   scalars_at (Area bytes) = []
   scalars_at (Array bounds element) = spread 0 (stride_of element) (count_of bounds) (scalars_at element)
-  scalars_at (Structure members) = scalars_behind 0 members
+  scalars_at (Structure members) = scalars_after 0 members
   scalars_at scalar = record { offset = 0; description = scalar } ∷ []
 
-  -- where those of members lie, each at its next aligned place behind the one before, and the first behind
+  -- where those of members lie, each at its next aligned place after the one before, and the first after
   -- this byte
-  pub scalars_behind : (at : ℕ) → Members → List PlacedPart
-  scalars_behind at NoMembers = []
-  scalars_behind at (MemberThen d ds) =
+  pub scalars_after : (at : ℕ) → Members → List PlacedPart
+  scalars_after at NoMembers = []
+  scalars_after at (MemberThen d ds) =
       map (moved (next_multiple_of at (alignment_of d))) (scalars_at d)
-      ++ scalars_behind (next_multiple_of at (alignment_of d) + size_of d) ds
+      ++ scalars_after (next_multiple_of at (alignment_of d) + size_of d) ds
 
 -- a scalar begins on this byte, and has it
 abbrev pub begins_on : (offset : ℕ) → PlacedPart → Bool

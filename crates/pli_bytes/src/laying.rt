@@ -1,4 +1,4 @@
-//! Values laid down in bytes, one behind the other.
+//! Values laid down in bytes, one after the other.
 ghost use Rattle.std.specs.Prelude.{◌≡◌, ◌≤◌, ◌+◌, min, length, map, true, MatchOption};
 ghost use Rattle.pli_bytes.specs.answers.Laying.{LaidFront, NoneTaken};
 ghost use Rattle.pli_bytes.specs.Contents.{values_of};

@@ -106,7 +106,7 @@ fn write_front(bytes: &mut [u8], front: &[u8])
     bytes[..front.len()].copy_from_slice(front);
 }
 
-/// Characters put behind those that a scalar of CHARACTER VARYING holds, which lies at an offset of the bytes; where
+/// Characters put after those that a scalar of CHARACTER VARYING holds, which lies at an offset of the bytes; where
 /// both are more than its greatest length or than so many, or the bytes end before it does, nothing changes. Only the
 /// length and the new characters are written.
 #[inline]

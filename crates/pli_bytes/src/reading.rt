@@ -138,7 +138,7 @@ pub fn text_at<'b>(bytes: &'b [u8], offset: usize, description: &Description) ->
     }
 }
 
-/// The characters that the bytes of a scalar of CHARACTER VARYING hold: behind a length, as many as it says.
+/// The characters that the bytes of a scalar of CHARACTER VARYING hold: after a length, as many as it says.
 #[inline]
 fn text_of(bytes: &[u8]) -> &[u8]
     requires { 2 ≤ length bytes.now }

@@ -319,9 +319,9 @@ followed_law {X} {Y} f g first second = record { takes = take_both; again = once
     once_more : (p : X × Y) (rest : List ℕ) → (f.fits p.0 && (g p.0).fits p.1) ≡ true → (followed f g).read ((f.bytes_of p.0 ++ (g p.0).bytes_of p.1) ++ rest) ≡ Ok (p, rest)
     once_more p rest h =
         let both = and_parts (f.fits p.0) ((g p.0).fits p.1) h in
-        let behind = (g p.0).bytes_of p.1 ++ rest in
+        let after = (g p.0).bytes_of p.1 ++ rest in
         ap (λ bs. f.read bs >>= then_second g) (append_assoc (f.bytes_of p.0) ((g p.0).bytes_of p.1) rest)
-        ∙ ap (λ r. r >>= then_second g) (first.again p.0 behind both.0)
+        ∙ ap (λ r. r >>= then_second g) (first.again p.0 after both.0)
         ∙ ap (λ r. r >>= with_first p.0) ((second p.0).again p.1 rest both.1)
 
 pub pair_law : {X Y : Type 0} (f : Field X) (g : Field Y) → IsField f → IsField g → IsField (f ⊗ g)

@@ -4,7 +4,7 @@ use Rattle.pli_base.specs.Results.{◌>>=◌}
 use Rattle.pli_code.specs.Fields.{AreBytes, Reader, Field, Form, byte_at, form, made, unknown, tagged}
 use Rattle.pli_code.proofs.FieldLaws.{IsField, Taken, bind_ok, ok_is, as_shaped, byte_law, byte_again}
 
--- what was read behind a tag
+-- what was read after a tag
 pub record Formed (tag : ℕ) (is : Form) (bytes rest : List ℕ) : Type 0 where
   pub tagged_so : is.tag ≡ tag
   pub parts : bytes ≡ is.bytes ++ rest

@@ -11,7 +11,7 @@ use Rattle.byteorder.specs.Endian.{big_bytes, big_number}
 use Rattle.pli_code.specs.declared.fault.DeckFault.{DeckFault}
 use Rattle.pli_code.specs.declared.fault.DeckFault.TheVariants.{Truncated, OutOfRange}
 
--- what is read from the front: a value and the bytes behind it, or the first fault
+-- what is read from the front: a value and the bytes after it, or the first fault
 abbrev pub Reader : Type 0 → Type 0
 Reader X = List ℕ → Result (X × List ℕ) DeckFault
 
@@ -31,7 +31,7 @@ abbrev pub AreBytes : List ℕ → Type 0
 AreBytes bytes = (i : ℕ) → get_or bytes i 0 < 256
 
 -- what is read from the front of bytes is spelled by what was there, and what is spelled is read again,
--- whatever stands behind it
+-- whatever stands after it
 pub record BothWays {X : Type 0} (f : Field X) : Type 0 where
   pub spelled : (bytes : List ℕ) (x : X) (rest : List ℕ) → AreBytes bytes → f.read bytes ≡ Ok (x, rest)
       → (f.fits x ≡ true) × (bytes ≡ f.bytes_of x ++ rest)
@@ -102,7 +102,7 @@ signed count width bound = record {
       held (is_near bound (cast_signed width n.0)) (cast_signed width n.0, n.1);
 }
 
--- one field behind another; which one the second is may depend on what the first holds
+-- one field after another; which one the second is may depend on what the first holds
 abbrev pub followed : {X Y : Type 0} → Field X → (X → Field Y) → Field (X × Y)
 followed f g = record {
   bytes_of = λ p. f.bytes_of p.0 ++ (g p.0).bytes_of p.1;
@@ -110,7 +110,7 @@ followed f g = record {
   read = λ bytes. f.read bytes >>= λ x. (g x.0).read x.1 >>= λ y. Ok ((x.0, y.0), y.1);
 }
 
--- one field behind another
+-- one field after another
 infixr 40 ◌⊗◌
 abbrev pub ◌⊗◌ : {X Y : Type 0} → Field X → Field Y → Field (X × Y)
 f ⊗ g = followed f (λ _. g)
@@ -123,7 +123,7 @@ shaped to from f = record {
   read = λ bytes. f.read bytes >>= λ x. Ok (to x.0, x.1);
 }
 
--- so many values, one behind another
+-- so many values, one after another
 unfoldable pub many : {X : Type 0} → Reader X → (count : ℕ) → Reader (List X)
 many read zero bytes = Ok ([], bytes)
 many read (suc n) bytes = read bytes >>= λ x. many read n x.1 >>= λ xs. Ok (x.0 ∷ xs.0, xs.1)
@@ -136,7 +136,7 @@ list_of counts f = record {
   read = λ bytes. counts.read bytes >>= λ n. many f.read n.0 n.1;
 }
 
--- one of several forms: a byte, its tag, says which, and what the form has stands behind the tag
+-- one of several forms: a byte, its tag, says which, and what the form has stands after the tag
 pub record Form : Type 0 where
   pub tag : ℕ
   pub bytes : List ℕ

@@ -1,4 +1,4 @@
--- Reading the operands of an instruction, one behind another, up to the first fault.
+-- Reading the operands of an instruction, one after another, up to the first fault.
 use Rattle.std.specs.Prelude.{◌≡◌, ℕ, List, Option, Some, None, Result, Ok, Err}
 use Rattle.pli_code.specs.Fields.{Reader}
 use Rattle.pli_code.specs.declared.fault.DeckFault.{DeckFault}
@@ -20,12 +20,12 @@ kept (Some d) f = Some d
 
 -- reading gives this value and leaves so much, or there was a fault before, or there is one now
 abbrev pub IsRead : {X : Type 0} → Reader X → (before : Result (List ℕ) DeckFault) → X
-    → (behind : Result (List ℕ) DeckFault) → Type 0
+    → (after : Result (List ℕ) DeckFault) → Type 0
 IsRead read (Ok bytes) x (Ok rest) = read bytes ≡ Ok (x, rest)
 IsRead read (Ok bytes) x (Err f) = read bytes ≡ Err f
-IsRead read (Err d) x behind = behind ≡ Err d
+IsRead read (Err d) x after = after ≡ Err d
 
 -- the same, as one fact
 pub record Reads {X : Type 0} (read : Reader X) (before : Result (List ℕ) DeckFault) (value : X)
-    (behind : Result (List ℕ) DeckFault) : Type 0 where
-  pub is_read : IsRead read before value behind
+    (after : Result (List ℕ) DeckFault) : Type 0 where
+  pub is_read : IsRead read before value after

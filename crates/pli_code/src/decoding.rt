@@ -13,7 +13,7 @@ use crate::instruction::Instruction;
 use crate::operands::Operands;
 use pli_operation::Operation;
 
-/// The instruction at the front of bytes, and the bytes behind it. The fault is that the bytes end within it, or that
+/// The instruction at the front of bytes, and the bytes after it. The fault is that the bytes end within it, or that
 /// no instruction has such an opcode or operand.
 #[tactic(auto, unfolding(crate::specs::Instructions::instruction, crate::specs::Instructions::reader_of))]
 pub fn decode(bytes: &[u8]) -> Result<(Instruction, &[u8]), DeckFault>
@@ -23,7 +23,7 @@ pub fn decode(bytes: &[u8]) -> Result<(Instruction, &[u8]), DeckFault>
     instruction_of(code, rest)
 }
 
-/// The instruction of this opcode, with what stands behind it.
+/// The instruction of this opcode, with what stands after it.
 fn instruction_of(code: u8, bytes: &[u8]) -> Result<(Instruction, &[u8]), DeckFault>
     ensures { Answers (λ x. (x.0, x.1.now)) result (reader_of code bytes.now) }
 {

@@ -15,7 +15,7 @@ pub enum DeckFault {
     BadVersion,
     /// 3: the bytes end within an item.
     Truncated,
-    /// 4: bytes stand behind the last item.
+    /// 4: bytes stand after the last item.
     Trailing,
     /// 5: an unknown tag or instruction, or a field that is out of its range by itself.
     OutOfRange,
@@ -29,7 +29,7 @@ pub enum DeckFault {
 }
 
 impl DeckFault {
-    /// Its number, from 1 to 8, by which it is cited behind K for a deck and behind L for a module.
+    /// Its number, from 1 to 8, by which it is cited after K for a deck and after L for a module.
     pub fn number(self) -> u8
         ensures { result ≡ fault_number self }
     {

@@ -73,7 +73,7 @@ pub fn put_with_short(out: &mut Vec<u8>, tag: u8, number: u16) -> Result<(), All
     put_short(out, number)
 }
 
-/// One byte from the front, and the bytes behind it. The fault is that there is none.
+/// One byte from the front, and the bytes after it. The fault is that there is none.
 #[tactic(auto, unfolding(crate::specs::Fields::byte_at))]
 pub fn byte_of(bytes: &[u8]) -> Result<(u8, &[u8]), DeckFault>
     ensures { Answers (λ x. (x.0, x.1.now)) result (byte_at bytes.now) }
@@ -84,7 +84,7 @@ pub fn byte_of(bytes: &[u8]) -> Result<(u8, &[u8]), DeckFault>
     }
 }
 
-/// A number of two bytes from the front, and the bytes behind it. The fault is that there are too few.
+/// A number of two bytes from the front, and the bytes after it. The fault is that there are too few.
 #[tactic(auto, unfolding(crate::specs::Fields::number_at))]
 pub fn short_of(bytes: &[u8]) -> Result<(u16, &[u8]), DeckFault>
     ensures { Answers (λ x. (x.0, x.1.now)) result (number_at 2 bytes.now) }
@@ -95,7 +95,7 @@ pub fn short_of(bytes: &[u8]) -> Result<(u16, &[u8]), DeckFault>
     Ok((BigEndian::read_u16(bytes), &bytes[2..]))
 }
 
-/// A number of four bytes from the front, and the bytes behind it. The fault is that there are too few.
+/// A number of four bytes from the front, and the bytes after it. The fault is that there are too few.
 #[tactic(auto, unfolding(crate::specs::Fields::number_at))]
 pub fn word_of(bytes: &[u8]) -> Result<(u32, &[u8]), DeckFault>
     ensures { Answers (λ x. (x.0, x.1.now)) result (number_at 4 bytes.now) }
@@ -117,7 +117,7 @@ fn long_of(bytes: &[u8]) -> Result<(u64, &[u8]), DeckFault>
     Ok((BigEndian::read_u64(bytes), &bytes[8..]))
 }
 
-/// One byte from `low` to `high`, and the bytes behind it. The fault is that there is none, or another.
+/// One byte from `low` to `high`, and the bytes after it. The fault is that there is none, or another.
 pub fn byte_within(bytes: &[u8], low: u8, high: u8) -> Result<(u8, &[u8]), DeckFault>
     ensures { Answers (λ x. (x.0, x.1.now)) result ((from_to low high u1).read bytes.now) }
 {
@@ -129,7 +129,7 @@ pub fn byte_within(bytes: &[u8], low: u8, high: u8) -> Result<(u8, &[u8]), DeckF
     }
 }
 
-/// A signed number of four bytes that is at most `bound` from 0, and the bytes behind it. The fault is that there are
+/// A signed number of four bytes that is at most `bound` from 0, and the bytes after it. The fault is that there are
 /// too few, or that the number is further from 0.
 pub fn signed_within(bytes: &[u8], bound: u32) -> Result<(i32, &[u8]), DeckFault>
     ensures read { Answers (λ x. (x.0, x.1.now)) result ((signed 4 w32 bound).read bytes.now) }

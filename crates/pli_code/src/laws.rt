@@ -4,7 +4,7 @@ ghost use Rattle.pli_code.specs.Instructions.{instruction};
 ghost use Rattle.pli_code.specs.examples.InstructionExamples.{NumberedSo, StarredSo};
 
 /// A law: an instruction that is read is spelled by the bytes that were there, and one that is spelled is read again,
-/// whatever stands behind it.
+/// whatever stands after it.
 #[tactic(auto, using(crate::proofs::InstructionLaws::instructions_both_ways))]
 pub fn instructions_both_ways()
     ensures { BothWays instruction }

@@ -1,4 +1,4 @@
-//! The operands of an instruction, one behind another.
+//! The operands of an instruction, one after another.
 ghost use Rattle.std.specs.Prelude.{◌≡◌};
 ghost use Rattle.std.specs.Int.{w32};
 ghost use Rattle.pli_code.specs.Fields.{Answers, Reader, u1, u2, u4, from_to, signed, unknown};
@@ -14,8 +14,8 @@ use pli_map::{StringForm, WhichBound};
 use pli_operation::Relation;
 use pli_run::RunError;
 
-/// The bytes from which operands are read. The first fault is kept, and what is read behind it says nothing: so whether
-/// all went well is asked once, behind the last operand.
+/// The bytes from which operands are read. The first fault is kept, and what is read after it says nothing: so whether
+/// all went well is asked once, after the last operand.
 #[derive(Drop)]
 pub struct Operands<'a> {
     pub rest: &'a [u8],

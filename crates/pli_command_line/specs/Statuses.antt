@@ -18,7 +18,7 @@ abbrev pub reads_limit : ℕ
 reads_limit = 1000000000
 
 -- the devices that a program serves: what the reader has left, what was written, and whether each has failed
--- behind that
+-- after that
 pub record Devices : Type 0 where
   pub reader : Span Bytes
   pub writer : Span Bytes
@@ -61,8 +61,8 @@ abbrev pub status_of : ArgumentsError → ℕ
 status_of (Usage text) = 2
 status_of OutOfMemory = 3
 
--- the text for the user was written, or some first bytes of it where the writer's mark is set behind it;
--- nothing is written of want of memory
+-- the text for the user was written, or some first bytes of it where the writer's mark is set after it;
+-- nothing is written of refused memory
 abbrev pub Tells : ArgumentsError → (before after : Option (List ℕ)) → (marked : Bool) → Type 0
 Tells (Usage text) before after marked =
     AppendsPrefix before after (string_bytes text)

@@ -22,7 +22,7 @@ pub struct Arguments {
     pub steps: u64,
 }
 
-/// Why words say nothing: the text for the user, or want of memory.
+/// Why words say nothing: the text for the user, or that memory was refused.
 #[derive(Debug, Drop, thiserror::Error)]
 pub enum ArgumentsError {
     #[error("{0}")]
@@ -51,7 +51,7 @@ fn usage(alloc: Global, error: Error) -> ArgumentsError
     }
 }
 
-/// Reads the words behind the program's name: `--steps N`, or none.
+/// Reads the words after the program's name: `--steps N`, or none.
 pub fn read_arguments(alloc: Global, words: &[String]) -> Result<Arguments, ArgumentsError>
     ensures { Reads (map string_bytes words.now) result }
 {

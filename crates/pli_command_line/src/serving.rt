@@ -58,8 +58,8 @@ pub fn refuse<F: Sink>(error: ArgumentsError, errors: &mut F) -> u8
     }
 }
 
-/// The words behind the program's name, which is the first.
-fn words_behind_name(words: &[String]) -> &[String]
+/// The words after the program's name, which is the first.
+fn words_after_name(words: &[String]) -> &[String]
     ensures { result.now ≡ drop 1 words.now }
 {
     words.get(1..).unwrap_or(&[])
@@ -88,7 +88,7 @@ pub fn go<R: Source, W: Sink, F: Sink>(
     ensures range { result ≤ 3 }
     ensures takes { R.takes reader.new ≤ R.takes reader.old + reads_limit }
 {
-    match read_arguments(alloc, words_behind_name(words)) {
+    match read_arguments(alloc, words_after_name(words)) {
         Ok(arguments) => serve(alloc, arguments.steps, reader, writer, READS),
         Err(error) => refuse(error, errors),
     }

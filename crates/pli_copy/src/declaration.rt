@@ -1,4 +1,4 @@
-//! Copies of what stands behind DECLARE.
+//! Copies of what stands after DECLARE.
 ghost use Rattle.std.specs.Prelude.{◌≡◌, IfOk};
 ghost use Rattle.pli_base.specs.views.DeclarationView.{simple_view, described_view, parameter_view, attribute_view};
 ghost use Rattle.pli_base.specs.views.DeclarationView.{item_view};

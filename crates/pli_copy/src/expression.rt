@@ -124,7 +124,7 @@ fn copied_joined(alloc: Global, joined: &JoinedPart) -> Result<JoinedPart, Alloc
     })
 }
 
-/// Copies a name and the list behind it.
+/// Copies a name and the list after it.
 #[cycle(copied)]
 fn copied_part(alloc: Global, part: &Part) -> Result<Part, AllocError>
     ensures name { IfOk result (λ copied. copied.name ≡ part.now.name) }

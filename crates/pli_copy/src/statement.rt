@@ -242,7 +242,7 @@ fn copied_procedure(alloc: Global, procedure: &Procedure) -> Result<Procedure, A
     })
 }
 
-/// Copies what stands behind ELSE, if it is there.
+/// Copies what stands after ELSE, if it is there.
 #[cycle(copied)]
 fn copied_alternative(
     alloc: Global,
@@ -290,7 +290,7 @@ fn copied_group(
 
 /// Copies an ON statement.
 #[cycle(copied)]
-fn copied_unit(alloc: Global, condition: Condition, unit: &Statement) -> Result<Body, AllocError>
+fn copied_on_unit(alloc: Global, condition: Condition, unit: &Statement) -> Result<Body, AllocError>
     ensures { IfOk result (λ copied. body_view copied ≡ tree.On condition (statement_view unit.now)) }
 {
     let unit = copied_statement(alloc, unit)?;
@@ -334,11 +334,11 @@ fn copied_body(alloc: Global, body: &Body) -> Result<Body, AllocError>
             consequence,
             alternative,
         } => Ok(Body::If {
-            // The condition comes last, so that only boxes are let go of where a copy fails.
+            // The condition comes last, so that only boxes are dropped where a copy fails.
             consequence: Box::new(alloc, copied_statement(alloc, consequence)?)?,
             alternative: copied_alternative(alloc, alternative)?,
             condition: condition.copy(alloc)?,
         }),
-        Body::On { condition, unit } => copied_unit(alloc, *condition, unit),
+        Body::On { condition, unit } => copied_on_unit(alloc, *condition, unit),
     }
 }

@@ -57,8 +57,8 @@ impl Compiler {
 
     /// What the tokens of a unit, at most 200,000, are compiled to: its deck, or all faults, one at least, of the first
     /// pass that has any: of reading, of declarations, of types, or of the length of code and of its deck. Nothing else
-    /// counts, neither what the unit's member is called nor where its tokens come from. Refused for want of memory
-    /// alone, and then not counted.
+    /// counts, neither what the unit's member is called nor where its tokens come from. Refused only when out of
+    /// memory, and then not counted.
     pub fn compile(&mut self, texts: &[TokenText]) -> Result<Compiled, AllocError>
         requires { length texts.now ≤ 200000 }
         ensures compiled { IfOk result (λ compiled. outcome_view compiled ≡ compiled_texts texts.now) }

@@ -122,7 +122,7 @@ fn compile_resolved(alloc: Global, resolved: &ResolvedUnit<'_>) -> Result<Spelle
     compiled
 }
 
-/// A unit's tree, compiled, or the faults of the first pass behind reading that has any.
+/// A unit's tree, compiled, or the faults of the first pass after reading that has any.
 fn compile_tree(alloc: Global, tree: &Unit) -> Result<SpelledDeck, CompileError>
     ensures { let unit = unit_view tree.now in
         Compiles result (coded_from (typed_unless (resolution_faults unit) unit)) }

@@ -22,7 +22,7 @@ abbrev pub in_member : Option Description → (start offset : ℕ) → Option De
 in_member None start offset = None
 in_member (Some d) start offset = cond (nat_lt offset start) None (scalar_at d (offset - start))
 
--- members end behind the byte that they begin behind
+-- members end after the byte that they begin after
 end_later : (at : ℕ) (ds : Members) (k : ℕ) → k < how_many ds → at ≤ get_or (ends_from at ds) k 0
 end_later at NoMembers k within = absurd (omega (arith, within))
 end_later at (MemberThen d ds) zero within = omega arith

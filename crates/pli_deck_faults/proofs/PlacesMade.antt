@@ -2,7 +2,7 @@
 use Rattle.std.proofs.Common.{◌≡◌, ℕ, zero, suc, ◌+◌, ◌*◌, ◌<◌, ◌≤◌, List, [], ◌∷◌, ◌++◌, refl, sym, ap, ◌∙◌, append_assoc, inl, inr, arith}
 use Rattle.std.specs.Int.{next_multiple_of}
 use Rattle.pli_map.specs.Description as tree
-use Rattle.pli_map.specs.Sizes.{alignment_of, size_of, stride_of, count_of, end_behind}
+use Rattle.pli_map.specs.Sizes.{alignment_of, size_of, stride_of, count_of, end_after}
 use Rattle.pli_map.proofs.Members.{later}
 use Rattle.pli_map.proofs.MultipleLemmas.{IsAlignment}
 use Rattle.pli_map.proofs.PlaceLaws.{four_alignments}
@@ -27,14 +27,14 @@ pub element_fits : (bs : List Bounds) (e : tree.Description) (bytes : ℕ) → b
 element_fits bs e bytes is some most =
     factor_fits (count_of bs) (stride_of e) (size_of e) bytes is some most (stride_covers (size_of e) (alignment_of e) (four_alignments e))
 
--- a member is no larger than what ends behind it
-pub member_fits : (at whole : ℕ) (left ds : tree.Members) (d : tree.Description) → left ≡ tree.MemberThen d ds → end_behind at left ≡ whole → whole ≤ 1000000
+-- a member is no larger than what ends after it
+pub member_fits : (at whole : ℕ) (left ds : tree.Members) (d : tree.Description) → left ≡ tree.MemberThen d ds → end_after at left ≡ whole → whole ≤ 1000000
     → next_multiple_of at (alignment_of d) + size_of d ≤ 1000000
 member_fits at whole left ds d left_is end most =
-    let e : end_behind (next_multiple_of at (alignment_of d) + size_of d) ds ≡ whole = sym (ap (end_behind at) left_is) ∙ end in
+    let e : end_after (next_multiple_of at (alignment_of d) + size_of d) ds ≡ whole = sym (ap (end_after at) left_is) ∙ end in
     omega (arith, later (next_multiple_of at (alignment_of d) + size_of d) ds, e, most)
 
--- one more, put behind those so far
+-- one more, put after those so far
 pub one_more : {X : Type 0} (so_far left rest whole : List X) (x y : X) → so_far ++ left ≡ whole → left ≡ x ∷ rest → y ≡ x → (so_far ++ y ∷ []) ++ rest ≡ whole
 one_more so_far left rest whole x y e left_is same = rw (same, append_assoc, ← left_is) e
 

@@ -24,7 +24,7 @@ unit_there [] k other within = absurd (omega (arith, within))
 unit_there (u ∷ units) zero other within = refl
 unit_there (u ∷ units) (suc k) other within = unit_there units k other (omega (arith, within))
 
--- what is left of a list begins with the item at hand
+-- what is left of a list begins with the current item
 pub next_said : {X Y : Type 0} (view : X → Y) (xs : List X) (i : ℕ) (x : X) → i < length xs → x ≡ get_or xs i x
     → map view (drop i xs) ≡ view x ∷ map view (drop (i + 1) xs)
 next_said view xs i x within is = at_drop_more (map view) xs i x within ∙ ap (λ y. view y ∷ map view (drop (i + 1) xs)) (sym is)
@@ -36,8 +36,8 @@ over_by_one f all rest x left bytes total is so_far over =
     omega (arith, whole, so_far, over)
 
 -- one is taken
-pub one_behind : {X : Type 0} (f : X → ℕ) (all rest : List X) (x : X) (left next bytes total : ℕ) → all ≡ x ∷ rest → left + total ≡ bytes + sum_by f all → next + f x ≡ left
+pub one_after : {X : Type 0} (f : X → ℕ) (all rest : List X) (x : X) (left next bytes total : ℕ) → all ≡ x ∷ rest → left + total ≡ bytes + sum_by f all → next + f x ≡ left
     → next + total ≡ bytes + sum_by f rest
-one_behind f all rest x left next bytes total is so_far taken =
+one_after f all rest x left next bytes total is so_far taken =
     let whole : sum_by f all ≡ f x + sum_by f rest = ap (sum_by f) is ∙ sum_by-cons f x rest in
     omega (arith, whole, so_far, taken)

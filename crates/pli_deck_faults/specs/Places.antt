@@ -27,7 +27,7 @@ mutual
     NoPlaces : PlacesList
     PlacesThen : Places → PlacesList → PlacesList
 
--- where members start, the first behind this byte
+-- where members start, the first after this byte
 abbrev pub starts_from : (at : ℕ) → Members → List ℕ
 starts_from at tree.NoMembers = []
 starts_from at (tree.MemberThen d ds) =

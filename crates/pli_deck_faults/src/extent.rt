@@ -78,7 +78,7 @@ fn static_bytes(code: &Code, sizes: &[u64], global: &CodedGlobal) -> u64
 }
 
 /// Whether the static variables of a unit, its own ones, are within so many bytes, and what is then left.
-fn behind_unit(code: &Code, sizes: &[u64], bytes: u64) -> Option<u64>
+fn after_unit(code: &Code, sizes: &[u64], bytes: u64) -> Option<u64>
     requires { (bytes ≤ 16777216) × (sizes.now ≡ cut_sizes code.now.descriptions.items) }
     ensures { Remains result bytes (sum_by (spelling.static_bytes (code_view code.now))
         (map global_view code.now.globals.items)) }
@@ -126,8 +126,8 @@ fn all_sizes(alloc: Global, units: &[Member]) -> Result<Vec<Vec<u64>>, AllocErro
     Ok(all)
 }
 
-/// What is left of so many bytes behind the static variables that units have for themselves; none where these are more.
-fn behind_units(units: &[Member], all: &[Vec<u64>], bytes: u64) -> Option<u64>
+/// What is left of so many bytes after the static variables that units have for themselves; none where these are more.
+fn after_units(units: &[Member], all: &[Vec<u64>], bytes: u64) -> Option<u64>
     requires { (bytes ≤ 16777216) × (map (λ sizes. sizes.items) all.now ≡ map unit_sizes units.now) }
     ensures { Remains result bytes (sum_by (λ u. sum_by (spelling.static_bytes u.deck.code) u.deck.code.globals)
         (map member_view units.now)) }
@@ -135,7 +135,7 @@ fn behind_units(units: &[Member], all: &[Vec<u64>], bytes: u64) -> Option<u64>
     let mut left = bytes;
     let mut place: usize = 0;
     for unit in units {
-        left = behind_unit(&unit.deck.code, &all[place], left)?;
+        left = after_unit(&unit.deck.code, &all[place], left)?;
         place += 1;
     }
     Some(left)
@@ -172,8 +172,8 @@ fn external_bytes(units: &[Member], all: &[Vec<u64>], external: &External) -> u6
     declared_bytes(&units[place].deck.code, &all[place], external.global)
 }
 
-/// What is left of so many bytes behind external static variables; none where these are more.
-fn behind_externals(
+/// What is left of so many bytes after external static variables; none where these are more.
+fn after_externals(
     units: &[Member],
     all: &[Vec<u64>],
     externals: &[External],
@@ -203,8 +203,8 @@ pub fn module_within(alloc: Global, program: &Module) -> Result<bool, AllocError
     if !instructions_within(units) {
         return Ok(false);
     }
-    match behind_units(units, &all, STATIC_LIMIT) {
-        Some(left) => Ok(behind_externals(units, &all, &program.externals, left).is_some()),
+    match after_units(units, &all, STATIC_LIMIT) {
+        Some(left) => Ok(after_externals(units, &all, &program.externals, left).is_some()),
         None => Ok(false),
     }
 }

@@ -125,7 +125,7 @@ pub fn placed_scalars(
     }))
 }
 
-/// The number of the first member that ends behind an offset, where each ends no earlier than the one before; how many
+/// The number of the first member that ends after an offset, where each ends no earlier than the one before; how many
 /// there are, if none does.
 fn first_over(ends: &[u32], offset: u32) -> usize
     ensures bound { result ≤ length ends.now }
@@ -145,14 +145,14 @@ fn first_over(ends: &[u32], offset: u32) -> usize
     low
 }
 
-/// What is left of an offset behind as many strides as it has; a stride of no bytes is in it no time.
+/// What is left of an offset after as many strides as it has; a stride of no bytes is in it no time.
 fn left_over(offset: u32, stride: u32) -> u32
     ensures { result ≡ offset % stride }
 {
     if stride == 0 { offset } else { offset % stride }
 }
 
-/// The scalar that stands so many bytes behind the beginning. Takes a few steps for each level, and no memory.
+/// The scalar that stands so many bytes after the beginning. Takes a few steps for each level, and no memory.
 #[cycle(scalar_at)]
 pub fn scalar_at(places: &Places, offset: u32) -> Option<&Description>
     ensures { (d : tree.Description) → places_view places.now ≡ places_of d →

@@ -1,10 +1,10 @@
 -- The code of statements and blocks of a well-formed unit has numbers within limits, and its jumps lead to its instructions.
 use Rattle.std.proofs.Common.{◌≡◌, ℕ, suc, ◌<◌, ◌≤◌, Option, Some, None, List, [], ◌∷◌, ◌++◌, length, arith}
 use Rattle.std.specs.List.{AllByRecursion}
-use Rattle.pli_gen_emit.specs.TreeTranslation.{BlockTree, value_code, place_code, skip_code, items_code, behind, start_code, tests_code, advances_code, back_code, turn_place, list_place}
+use Rattle.pli_gen_emit.specs.TreeTranslation.{BlockTree, value_code, place_code, skip_code, items_code, place_after, start_code, tests_code, advances_code, back_code, turn_place, list_place}
 use Rattle.pli_gen_emit.specs.TreeTranslation.{statement_code, form_code, list_code, end_code, block_code, blocks_code, blocks_in, blocks_of_form, blocks_among}
 use Rattle.pli_gen.proofs.CodeEnds.{both_within, one_way_within, two_ways_within, turns_within, iterate_within}
-use Rattle.pli_gen.proofs.SimpleCode.{behind_both}
+use Rattle.pli_gen.proofs.SimpleCode.{after_both}
 use Rattle.pli_gen.specs.laws.ListLaws.{all_front, all_back}
 use Rattle.pli_gen.specs.WellNumbered.{next_temporary, KeepsApart, KeepsApartForm, KeepApart}
 use Rattle.pli_program.specs.Program as op
@@ -31,38 +31,38 @@ module _ (globals blocks last : ℕ) (t : TypedUnit) (counted : length t.globals
 
   mutual
     statement_allowed : (s : TypedStatement) (parent used room p : ℕ) → room ≤ 65535 → IsStatement t s → KeepsApart used room s → AreBelow blocks (blocks_in parent s)
-        → behind (statement_code s p) p ≤ last → All (statement_code s p)
+        → place_after (statement_code s p) p ≤ last → All (statement_code s p)
     statement_allowed (Statement number form) parent used room p most h apart inner end = (h.0, form_allowed number form parent used room (suc p) most h.0 h.1 apart inner end)
 
     form_allowed : (number : ℕ) (f : Form) (parent used room p : ℕ) → room ≤ 65535 → number < word_limit → IsForm t f → KeepsApartForm used room f
-        → AreBelow blocks (blocks_of_form parent f) → behind (form_code number f p) p ≤ last → All (form_code number f p)
+        → AreBelow blocks (blocks_of_form parent f) → place_after (form_code number f p) p ≤ last → All (form_code number f p)
     form_allowed number (If test part NoElse) parent used room p most n h apart inner end =
-        let q = suc (behind (value_code test) p) in
+        let q = suc (place_after (value_code test) p) in
         let to = one_way_within (value_code test) (statement_code part) p last end in
-        test_part test (behind (statement_code part q) q) (statement_code part q) h.0 to
+        test_part test (place_after (statement_code part q) q) (statement_code part q) h.0 to
         (statement_allowed part parent used room q most h.1 apart.0 (all_front (λ b. b.head.number < blocks) (blocks_in parent part) [] inner) to)
     form_allowed number (If test part (Else other)) parent used room p most n h apart inner end =
-        let q = suc (behind (value_code test) p) in
-        let r = suc (behind (statement_code part q) q) in
+        let q = suc (place_after (value_code test) p) in
+        let r = suc (place_after (statement_code part q) q) in
         let w = two_ways_within (value_code test) (statement_code part) (statement_code other) p last end in
-        let to : behind (statement_code part q) q ≤ last = let k = w.0 in omega (arith, k) in
-        joined globals blocks last (value_code test ++ op.JumpUnless r ∷ statement_code part q) (op.Jump (behind (statement_code other r) r) ∷ statement_code other r)
+        let to : place_after (statement_code part q) q ≤ last = let k = w.0 in omega (arith, k) in
+        joined globals blocks last (value_code test ++ op.JumpUnless r ∷ statement_code part q) (op.Jump (place_after (statement_code other r) r) ∷ statement_code other r)
         (test_part test r (statement_code part q) h.0 w.0
         (statement_allowed part parent used room q most h.1 apart.0 (all_front (λ b. b.head.number < blocks) (blocks_in parent part) (blocks_in parent other) inner) to))
         (w.1, statement_allowed other parent used room r most h.2 apart.1 (all_back (λ b. b.head.number < blocks) (blocks_in parent part) (blocks_in parent other) inner) w.1)
     form_allowed number (Group statements) parent used room p most n h apart inner end = list_allowed statements parent used room p most h apart inner end
     form_allowed number (While test statements) parent used room p most n h apart inner end =
-        let q = suc (suc (behind (value_code test) (suc p))) in
+        let q = suc (suc (place_after (value_code test) (suc p))) in
         let code = list_code statements q in
         let w = turns_within number (value_code test) (list_code statements) p last end in
-        let to : behind code q ≤ last = let k = w.1 in omega (arith, k) in
-        joined globals blocks last (op.Line number ∷ value_code test ++ op.JumpUnless (suc (behind code q)) ∷ op.Step number ∷ code) (op.Jump p ∷ [])
-        (n, test_part test (suc (behind code q)) (op.Step number ∷ code) h.0 w.1 (n, list_allowed statements parent used room q most h.1 apart inner to)) (w.0, tt)
+        let to : place_after code q ≤ last = let k = w.1 in omega (arith, k) in
+        joined globals blocks last (op.Line number ∷ value_code test ++ op.JumpUnless (suc (place_after code q)) ∷ op.Step number ∷ code) (op.Jump p ∷ [])
+        (n, test_part test (suc (place_after code q)) (op.Step number ∷ code) h.0 w.1 (n, list_allowed statements parent used room q most h.1 apart inner to)) (w.0, tt)
     form_allowed number (Iterate i statements) parent used room p most n h apart inner end =
         let q = list_place i p in
         let code = list_code statements q in
         let back = back_code (is_iterated i.range) number (advances_code i.range i) (turn_place i p) in
-        let out = behind back (behind code q) in
+        let out = place_after back (place_after code q) in
         let w = iterate_within number i (list_code statements) p last end in
         let enough : next_temporary i ≤ 65535 = let k = apart.1 in omega (arith, k, most) in
         joined globals blocks last (start_code i ++ tests_code i out) (op.Step number ∷ (code ++ back))
@@ -106,10 +106,10 @@ module _ (globals blocks last : ℕ) (t : TypedUnit) (counted : length t.globals
     form_allowed number (Free items) parent used room p most n h apart inner end = freeings_allowed globals blocks last t counted named slotted items h
 
     list_allowed : (ss : TypedStatements) (parent used room p : ℕ) → room ≤ 65535 → AreStatements t ss → KeepApart used room ss → AreBelow blocks (blocks_among parent ss)
-        → behind (list_code ss p) p ≤ last → All (list_code ss p)
+        → place_after (list_code ss p) p ≤ last → All (list_code ss p)
     list_allowed NoStatement parent used room p most h apart inner end = tt
     list_allowed (StatementThen first more) parent used room p most h apart inner end =
-        let q = behind (statement_code first p) p in
+        let q = place_after (statement_code first p) p in
         let w = both_within (statement_code first p) (list_code more q) p last end in
         joined globals blocks last (statement_code first p) (list_code more q)
         (statement_allowed first parent used room p most h.0 apart.0 (all_front (λ b. b.head.number < blocks) (blocks_in parent first) (blocks_among parent more) inner) w.0)
@@ -129,18 +129,18 @@ module _ (globals blocks last : ℕ) (t : TypedUnit) (counted : length t.globals
     pub apart : KeepApart 0 b.head.temporaries b.statements
     pub inner : AreBelow blocks (blocks_among b.head.number b.statements)
 
-  block_allowed : (b : BlockTree) (p : ℕ) → suc last ≤ 65535 → GoodBlock b → behind (block_code b p) p ≤ suc last → All (block_code b p)
+  block_allowed : (b : BlockTree) (p : ℕ) → suc last ≤ 65535 → GoodBlock b → place_after (block_code b p) p ≤ suc last → All (block_code b p)
   block_allowed b p few good end =
       let code = list_code b.statements p in
       let ending = end_code b.function_end in
-      let e : behind (code ++ ending) p ≡ behind ending (behind code p) = behind_both code ending p in
-      let g = end_is_some b.function_end (behind code p) in
+      let e : place_after (code ++ ending) p ≡ place_after ending (place_after code p) = after_both code ending p in
+      let g = end_is_some b.function_end (place_after code p) in
       joined globals blocks last code ending
       (list_allowed b.statements b.head.number 0 b.head.temporaries p (few_temporaries b p 65535 good.head.2 (omega (arith, end, few))) good.statements good.apart good.inner (omega (arith, e, g, end))) (end_allowed b.function_end good.end)
 
-  pub blocks_allowed : (bs : List BlockTree) (p : ℕ) → suc last ≤ 65535 → AllByRecursion GoodBlock bs → behind (blocks_code bs p) p ≤ suc last → All (blocks_code bs p)
+  pub blocks_allowed : (bs : List BlockTree) (p : ℕ) → suc last ≤ 65535 → AllByRecursion GoodBlock bs → place_after (blocks_code bs p) p ≤ suc last → All (blocks_code bs p)
   blocks_allowed [] p few good end = tt
   blocks_allowed (b ∷ bs) p few good end =
-      let q = behind (block_code b p) p in
+      let q = place_after (block_code b p) p in
       let w = both_within (block_code b p) (blocks_code bs q) p (suc last) end in
       joined globals blocks last (block_code b p) (blocks_code bs q) (block_allowed b p few good.0 w.0) (blocks_allowed bs q few good.1 w.1)

@@ -1,7 +1,7 @@
 -- Instructions whose numbers are within limits, and the code of expressions and of groups with a control variable.
 use Rattle.std.proofs.Common.{◌≡◌, ℕ, suc, ◌+◌, ◌<◌, ◌≤◌, Bool, true, false, Option, Some, None, List, [], ◌∷◌, ◌++◌, length, arith}
 use Rattle.std.specs.List.{AllByRecursion}
-use Rattle.pli_gen_emit.specs.TreeTranslation.{argument_count, operation_code, root_code, call_instruction, value_code, place_code, operands_code, subscripts_code, dimensions_code, arguments_code, call_code, skip_code, items_code, allocation_code, allocations_code, freeing_code, freeings_code, behind}
+use Rattle.pli_gen_emit.specs.TreeTranslation.{argument_count, operation_code, root_code, call_instruction, value_code, place_code, operands_code, subscripts_code, dimensions_code, arguments_code, call_code, skip_code, items_code, allocation_code, allocations_code, freeing_code, freeings_code, place_after}
 use Rattle.pli_gen_emit.specs.TreeTranslation.{keeps_code, operations_code, conversion_code, sets_code, start_code, test_against, limit_test, while_test, guarded, tests_code, counted_code, advances_code, back_code}
 use Rattle.pli_gen.proofs.CodeEnds.{grows, both_within}
 use Rattle.pli_gen.proofs.SimpleCode.{all_both}
@@ -175,11 +175,11 @@ module _ (globals blocks last : ℕ) where
         (h.0, (enough, joined (place_code target) (op.TakeTemporary temporary ∷ op.Store ∷ []) (place_allowed target h.1) (enough, (tt, tt))))
 
     pub allocations_allowed : (items : List AllocatedItem) (used room p : ℕ) → room ≤ 65535 → AllByRecursion (IsAllocated t) items → AllByRecursion (KeepsTemporary used room) items
-        → behind (allocations_code items p) p ≤ last → AllAllowed (allocations_code items p)
+        → place_after (allocations_code items p) p ≤ last → AllAllowed (allocations_code items p)
     allocations_allowed [] used room p most h apart end = tt
     allocations_allowed (item ∷ items) used room p most h apart end =
         let code = allocation_code item p in
-        let q = behind code p in
+        let q = place_after code p in
         let w = both_within code (allocations_code items q) p last end in
         let g : p ≤ q = grows code p in
         let to : p ≤ last = let k = w.0 in omega (arith, g, k) in

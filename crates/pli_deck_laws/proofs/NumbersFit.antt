@@ -8,7 +8,7 @@ use Rattle.pli_program.specs.Program as op
 use Rattle.pli_type_tree.specs.TypedTree.{TypedUnit}
 use Rattle.pli_code.specs.CodeFields.{is_byte, is_short, parent_fits, block_fits, instruction_fits}
 use Rattle.pli_code.specs.declared.instruction.Instruction.{Instruction}
-use Rattle.pli_gen_emit.specs.TreeTranslation.{BlockTree, behind, block_code, blocks_code, blocks_of, instructions_of}
+use Rattle.pli_gen_emit.specs.TreeTranslation.{BlockTree, place_after, block_code, blocks_code, blocks_of, instructions_of}
 use Rattle.pli_gen_emit.specs.Encoding.{NumberedTables, tables_for, instruction_code, global_code, coded_block, coded_blocks, code_of}
 use Rattle.pli_gen.proofs.CodeEnds.{both_within}
 use Rattle.pli_gen.proofs.LimitLemmas.{few, blocks_counted}
@@ -70,10 +70,10 @@ module _ (tables : NumberedTables) (globals blocks last : ℕ) (few_globals : gl
       both_hold (parent_fits b.parent) (is_byte b.parameters && is_short b.head.temporaries) (parent_narrow b.parent h.parent)
       (both_hold (is_byte b.parameters) (is_short b.head.temporaries) (few_arguments b.parameters h.parameters) (short b.head.temporaries temporaries))
 
-  blocks_narrow : (bs : List BlockTree) (p : ℕ) → behind (blocks_code bs p) p ≤ 65535 → AllByRecursion (BlockWithin blocks) bs → list_all block_fits (coded_blocks tables bs p) ≡ true
+  blocks_narrow : (bs : List BlockTree) (p : ℕ) → place_after (blocks_code bs p) p ≤ 65535 → AllByRecursion (BlockWithin blocks) bs → list_all block_fits (coded_blocks tables bs p) ≡ true
   blocks_narrow [] p end h = refl
   blocks_narrow (b ∷ bs) p end h =
-      let q = behind (block_code b p) p in
+      let q = place_after (block_code b p) p in
       let w = both_within (block_code b p) (blocks_code bs q) p 65535 end in
       both_hold (block_fits (coded_block tables b p)) (list_all block_fits (coded_blocks tables bs q))
       (block_narrow b p (few_temporaries b p 65535 h.0.head.2 w.0) h.0) (blocks_narrow bs q w.1 h.1)

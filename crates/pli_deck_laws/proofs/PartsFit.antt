@@ -14,7 +14,7 @@ use Rattle.pli_type_tree.specs.TypedTree.{Signature, Global, OwnVariable, Extern
 use Rattle.pli_code.specs.CodeTables as code
 use Rattle.pli_code.specs.CodeTables.{there}
 use Rattle.pli_code.specs.Versions.{written}
-use Rattle.pli_gen_emit.specs.TreeTranslation.{BlockTree, behind, block_code, blocks_code}
+use Rattle.pli_gen_emit.specs.TreeTranslation.{BlockTree, place_after, block_code, blocks_code}
 use Rattle.pli_gen_emit.specs.Encoding.{NumberedTables, signature_descriptions, global_descriptions, global_templates, block_templates, description_number, template_number, template_code, signature_code, global_code, coded_block, coded_blocks}
 use Rattle.pli_gen.specs.laws.ListLaws.{all_front, all_back}
 use Rattle.pli_gen.proofs.SimpleCode.{all_both}
@@ -182,11 +182,11 @@ module _ (tables : NumberedTables) (globals blocks last : ℕ) (few_descriptions
               (all_mapped OfTemplate (λ n. n < length tables.templates) IsNamed (λ n e. e) numbers all)) (entry, tt);
         }
 
-    pub blocks_good : (bs : List BlockTree) (p : ℕ) → behind (blocks_code bs p) p ≤ suc last → AllByRecursion (BlockWithin blocks) bs → AllByRecursion (StandsTemplate tables) (block_templates bs)
+    pub blocks_good : (bs : List BlockTree) (p : ℕ) → place_after (blocks_code bs p) p ≤ suc last → AllByRecursion (BlockWithin blocks) bs → AllByRecursion (StandsTemplate tables) (block_templates bs)
         → AllByRecursion GoodCodedBlock (coded_blocks tables bs p)
     blocks_good [] p end h stand = tt
     blocks_good (b ∷ bs) p end h stand =
-        let q = behind (block_code b p) p in
+        let q = place_after (block_code b p) p in
         let w = both_within (block_code b p) (blocks_code bs q) p (suc last) end in
         let here : q ≤ suc last = w.0 in
         let some : suc p ≤ q = block_is_some b p in (

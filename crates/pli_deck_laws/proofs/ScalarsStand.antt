@@ -3,7 +3,7 @@ use Rattle.std.proofs.Common.{◌≡◌, ℕ, ◌+◌, ◌-◌, ◌*◌, ◌%◌
 use Rattle.std.specs.Int.{next_multiple_of}
 use Rattle.std.proofs.lemmas.Bool.{ltb-true, ltb-false}
 use Rattle.std.proofs.lemmas.Option.{none-some, same_Some}
-use Rattle.pli_bytes.specs.Contents.{scalar_on, scalars_at, scalars_behind}
+use Rattle.pli_bytes.specs.Contents.{scalar_on, scalars_at, scalars_after}
 use Rattle.pli_bytes.proofs.Rising.{rises}
 use Rattle.pli_bytes.proofs.ScalarsOn.{on_past, on_in_array, on_before, on_first, on_others}
 use Rattle.pli_map.specs.Description.{Description, FixedBinary, Character, Varying, Bit, Pointer, Offset, Area, Array, Structure, Members, NoMembers, MemberThen}
@@ -56,7 +56,7 @@ mutual
           absurd (none-some s (sym (on_past offset 0 (scalars_at (Array bounds element)) (size_of (Array bounds element)) (rises (Array bounds element)) (ltb-false offset (count_of bounds * stride_of element) e)) ∙ h))
   stands (Structure members) offset s h = among 0 members offset s h
 
-  among : (at : ℕ) (ds : Members) (offset : ℕ) (s : PlacedPart) → scalar_on offset (scalars_behind at ds) ≡ Some s → scalar_among at ds offset ≡ Some s.description
+  among : (at : ℕ) (ds : Members) (offset : ℕ) (s : PlacedPart) → scalar_on offset (scalars_after at ds) ≡ Some s → scalar_among at ds offset ≡ Some s.description
   among at NoMembers offset s h = absurd (none-some s h)
   among at (MemberThen d ds) offset s h =
       let start = next_multiple_of at (alignment_of d) in
@@ -67,7 +67,7 @@ mutual
 
       by : (b c : Bool) → nat_lt offset start ≡ b → nat_lt offset (start + size_of d) ≡ c
           → ((t : PlacedPart) → scalar_on (offset - start) (scalars_at d) ≡ Some t → scalar_at d (offset - start) ≡ Some t.description)
-          → (scalar_on offset (scalars_behind (start + size_of d) ds) ≡ Some s → scalar_among (start + size_of d) ds offset ≡ Some s.description)
+          → (scalar_on offset (scalars_after (start + size_of d) ds) ≡ Some s → scalar_among (start + size_of d) ds offset ≡ Some s.description)
           → (if b then None else if c then scalar_at d (offset - start) else scalar_among (start + size_of d) ds offset) ≡ Some s.description
       by true c e f inner rest = absurd (none-some s (sym (on_before offset at d ds (ltb-true offset start e)) ∙ h))
       by false true e f inner rest =

@@ -11,7 +11,7 @@ use Rattle.pli_type_tree.specs.Templates.{Template}
 use Rattle.pli_type_tree.specs.TypedTree.{Signature, Global, OwnVariable, ExternalVariable, EntryPoint, TypedUnit}
 use Rattle.pli_code.specs.CodeTables.{there}
 use Rattle.pli_value.specs.Value.{Value}
-use Rattle.pli_gen_emit.specs.TreeTranslation.{BlockTree, behind, block_code}
+use Rattle.pli_gen_emit.specs.TreeTranslation.{BlockTree, place_after, block_code}
 use Rattle.pli_gen_emit.specs.Encoding.{number_in, descriptions_named, templates_named, values_named, signature_descriptions, global_descriptions, global_templates, block_templates}
 use Rattle.pli_gen_emit.specs.Encoding.{NumberedTables, tables_for, description_number, template_number, coded_blocks}
 use Rattle.pli_gen.specs.Limits.{has_many_slots}
@@ -185,7 +185,7 @@ module _ (tables : NumberedTables) where
   pub few_slots : (bs : List BlockTree) (p : ℕ) → list_any has_many_slots (coded_blocks tables bs p) ≡ false → AllByRecursion (λ b. slots_of b ≤ 65535) bs
   few_slots [] p h = tt
   few_slots (b ∷ bs) p h =
-      let q = behind (block_code b p) p in
+      let q = place_after (block_code b p) p in
       let slots = b.parameters + length (map (template_number tables) b.head.variables) in
       let n = neither (nat_lt 65535 slots) (list_any has_many_slots (coded_blocks tables bs q)) h in
       let count = length-map b.head.variables (template_number tables) in

@@ -4,12 +4,12 @@ use Rattle.std.specs.List.{AllByRecursion}
 use Rattle.std.proofs.lemmas.List.{length-map}
 use Rattle.pli_program.specs.Program as op
 use Rattle.pli_type_tree.specs.TypedTree.{TypedUnit}
-use Rattle.pli_gen_emit.specs.TreeTranslation.{BlockTree, behind, block_code, blocks_code, blocks_of, places_of, statement_place, with_target, instructions_of}
-use Rattle.pli_gen_emit.proofs.JumpLemmas.{behind_is}
+use Rattle.pli_gen_emit.specs.TreeTranslation.{BlockTree, place_after, block_code, blocks_code, blocks_of, places_of, statement_place, with_target, instructions_of}
+use Rattle.pli_gen_emit.proofs.JumpLemmas.{after_is}
 use Rattle.pli_gen.specs.WellNumbered.{IsWellNumbered}
 use Rattle.pli_gen.proofs.CodeEnds.{grows}
 use Rattle.pli_gen.proofs.CodeFits.{begins_within}
-use Rattle.pli_gen.proofs.SimpleCode.{behind_both}
+use Rattle.pli_gen.proofs.SimpleCode.{after_both}
 use Rattle.pli_gen.proofs.StepPlaces.{steps_are_places}
 use Rattle.pli_deck_laws.specs.Limits.{parameter_limit, IfThere}
 use Rattle.pli_deck_laws.specs.WellFormed.{slots_of, IsHead, HasBlock, HasSlot, IsWellFormed}
@@ -54,7 +54,7 @@ pub record HasFew (t : TypedUnit) : Type 0 where
 -- its blocks and instructions are within limits, and its last instruction has this number
 pub record IsWithin (t : TypedUnit) (last : ℕ) : Type 0 where
   pub size : length (instructions_of (blocks_of t)) ≡ suc last
-  pub end : behind (blocks_code (blocks_of t) 0) 0 ≤ suc last
+  pub end : place_after (blocks_code (blocks_of t) 0) 0 ≤ suc last
   pub blocks : AllByRecursion (BlockWithin (length (blocks_of t))) (blocks_of t)
   pub instructions : AllByRecursion (Final (length t.globals) (length (blocks_of t)) last) (instructions_of (blocks_of t))
 
@@ -62,13 +62,13 @@ some_last : (n : ℕ) → 1 ≤ n → (last : ℕ) × (n ≡ suc last)
 some_last zero h = absurd (omega (arith, h))
 some_last (suc n) h = (n, refl)
 
-some_code : (bs : List BlockTree) (p : ℕ) → 1 ≤ length bs → suc p ≤ behind (blocks_code bs p) p
+some_code : (bs : List BlockTree) (p : ℕ) → 1 ≤ length bs → suc p ≤ place_after (blocks_code bs p) p
 some_code [] p h = absurd (omega (arith, h))
 some_code (b ∷ bs) p h =
     let code = block_code b p in
-    let q = behind code p in
-    let e : behind (code ++ blocks_code bs q) p ≡ behind (blocks_code bs q) q = behind_both code (blocks_code bs q) p in
-    let g : q ≤ behind (blocks_code bs q) q = grows (blocks_code bs q) q in
+    let q = place_after code p in
+    let e : place_after (code ++ blocks_code bs q) p ≡ place_after (blocks_code bs q) q = after_both code (blocks_code bs q) p in
+    let g : q ≤ place_after (blocks_code bs q) q = grows (blocks_code bs q) q in
     let some : suc p ≤ q = block_is_some b p in
     omega (arith, e, g, some)
 
@@ -95,8 +95,8 @@ module _ (t : TypedUnit) (well : IsWellNumbered t) (formed : IsWellFormed t) (fe
   counted = length-map plain (with_target (places_of bs 0))
 
   module _ (last : ℕ) (size : length plain ≡ suc last) where
-    end : behind plain 0 ≤ suc last
-    end = let e = behind_is plain 0 in omega (arith, e, size)
+    end : place_after plain 0 ≤ suc last
+    end = let e = after_is plain 0 in omega (arith, e, size)
 
     few_last : suc last ≤ 65535
     few_last = let limit = few.instructions in omega (arith, counted, limit, size)
@@ -121,7 +121,7 @@ module _ (t : TypedUnit) (well : IsWellNumbered t) (formed : IsWellFormed t) (fe
 
   pub code_within : (last : ℕ) × IsWithin t last
   code_within =
-      let e = behind_is plain 0 in
+      let e = after_is plain 0 in
       let some = some_code bs 0 (one_block t well formed.some) in
       let r = some_last (length plain) (omega (arith, e, some)) in
       (r.0, is_within r.0 r.1)

@@ -29,12 +29,12 @@ unfolding description_within
 below_all v zero bytes tag rest none h = ap (λ r. r >>= by_tag []) h
 below_all v (suc n) bytes tag rest none h = absurd (omega (arith, none))
 
--- what stands behind the tag is in one level less
-pub behind_tag : (v : Version) (levels : ℕ) (bytes : List ℕ) (tag : ℕ) (rest : List ℕ) → 0 < levels → byte_at bytes ≡ Ok (tag, rest)
+-- what stands after the tag is in one level less
+pub after_tag : (v : Version) (levels : ℕ) (bytes : List ℕ) (tag : ℕ) (rest : List ℕ) → 0 < levels → byte_at bytes ≡ Ok (tag, rest)
     → (description_within v levels).read bytes ≡ described v (description_within v (levels - 1)) tag rest
 unfolding description_within described
-behind_tag v zero bytes tag rest some h = absurd (omega (arith, some))
-behind_tag v (suc n) bytes tag rest some h =
+after_tag v zero bytes tag rest some h = absurd (omega (arith, some))
+after_tag v (suc n) bytes tag rest some h =
     let one_less : suc n - 1 ≡ n = omega arith in
     ap (λ r. r >>= by_tag (type_readers v (description_within v n))) h ∙ ap (λ m. described v (description_within v m) tag rest) (sym one_less)
 

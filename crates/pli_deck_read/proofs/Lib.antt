@@ -4,7 +4,7 @@ pub mod DeckGiven
 pub mod DescriptionReading
 pub mod HeadingLemmas
 pub mod LoopLemmas
-pub mod LoopBehindLemmas
+pub mod LoopAfterLemmas
 pub mod ModuleGiven
 pub mod VersionReading
 pub mod WholeReading

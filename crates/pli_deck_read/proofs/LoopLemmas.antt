@@ -24,12 +24,12 @@ pub regroup : {X : Type 0} (front : List X) (x : X) (read : Result (List X × Li
 regroup front x (Ok y) = ap (λ ys. Ok (ys, y.1)) (simp append_assoc)
 regroup front x (Err f) = refl
 
-pub goes_on : {X : Type 0} (read : Reader X) (front : List X) (count i : ℕ) (bytes : List ℕ) (x : X) (behind : List ℕ) (total : Result (List X × List ℕ) DeckFault) → i < count → read bytes ≡ Ok (x, behind)
-    → with_front front (many read (count - i) bytes) ≡ total → with_front (front ++ x ∷ []) (many read (count - (i + 1)) behind) ≡ total
+pub goes_on : {X : Type 0} (read : Reader X) (front : List X) (count i : ℕ) (bytes : List ℕ) (x : X) (after : List ℕ) (total : Result (List X × List ℕ) DeckFault) → i < count → read bytes ≡ Ok (x, after)
+    → with_front front (many read (count - i) bytes) ≡ total → with_front (front ++ x ∷ []) (many read (count - (i + 1)) after) ≡ total
 unfolding many
-goes_on read front count i bytes x behind total lt h so_far =
+goes_on read front count i bytes x after total lt h so_far =
     let k : count - i ≡ suc (count - (i + 1)) = omega arith in
-    let one : with_front front (many read (count - i) bytes) ≡ with_front (front ++ x ∷ []) (many read (count - (i + 1)) behind) = rw (k, h) (regroup front x (many read (count - (i + 1)) behind)) in
+    let one : with_front front (many read (count - i) bytes) ≡ with_front (front ++ x ∷ []) (many read (count - (i + 1)) after) = rw (k, h) (regroup front x (many read (count - (i + 1)) after)) in
     sym one ∙ so_far
 
 pub ends : {X : Type 0} (read : Reader X) (e : Failure DeckFault) (front : List X) (count i : ℕ) (bytes : List ℕ) (total : Result (List X × List ℕ) DeckFault) → i < count → Fails e (read bytes)

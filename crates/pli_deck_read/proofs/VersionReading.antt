@@ -1,4 +1,4 @@
--- What is read behind a version.
+-- What is read after a version.
 use Rattle.std.proofs.Common.{◌≡◌, ℕ, List, Result, Ok, Err, refl, ap, ◌∙◌}
 use Rattle.pli_code.specs.declared.fault.DeckFault.{DeckFault}
 use Rattle.pli_code.specs.declared.version.Version.{Version}
@@ -11,6 +11,6 @@ module _ {X Y : Type 0} (f : Field Version) (g : Version → Field X) (to : Vers
   joined v (Ok y) = refl
   joined v (Err d) = refl
 
-  -- where the version was read, what is made of it and of what stands behind it
-  pub behind_version : (bytes : List ℕ) (v : Version) (rest : List ℕ) → f.read bytes ≡ Ok (v, rest) → (shaped to from (followed f g)).read bytes ≡ made (λ x. to (v, x)) (g v) rest
-  behind_version bytes v rest e = ap (λ r. (r >>= then_second g) >>= as_shaped to) e ∙ joined v ((g v).read rest)
+  -- where the version was read, what is made of it and of what stands after it
+  pub after_version : (bytes : List ℕ) (v : Version) (rest : List ℕ) → f.read bytes ≡ Ok (v, rest) → (shaped to from (followed f g)).read bytes ≡ made (λ x. to (v, x)) (g v) rest
+  after_version bytes v rest e = ap (λ r. (r >>= then_second g) >>= as_shaped to) e ∙ joined v ((g v).read rest)

@@ -1,4 +1,4 @@
--- What stands behind what is read whole.
+-- What stands after what is read whole.
 use Rattle.std.proofs.Common.{◌≡◌, ℕ, ◌<◌, List, [], ◌∷◌, length, Option, Err, refl, arith}
 use Rattle.pli_code.specs.declared.fault.DeckFault.{DeckFault}
 use Rattle.pli_code.specs.declared.fault.DeckFault.TheVariants.{Trailing}

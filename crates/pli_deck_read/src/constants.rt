@@ -20,7 +20,7 @@ use pli_value::bit::Bits;
 use pli_value::{Locator, Value};
 use std::alloc::Global;
 
-/// So many bits, with zeros behind the last one.
+/// So many bits, with zeros after the last one.
 fn bits_of(alloc: Global, count: usize, bytes: &[u8]) -> Result<(Bits, &[u8]), ReadError>
     requires { count ≤ 32767 }
     ensures { Gives (λ x. (x.0, x.1.now)) result (deck_fields.bits_at count bytes.now) }

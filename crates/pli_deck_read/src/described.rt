@@ -171,7 +171,7 @@ fn description_at<'a>(
     }
 }
 
-/// What stands behind the tag of an array of stated bounds.
+/// What stands after the tag of an array of stated bounds.
 #[cycle(description)]
 #[tactic(auto, unfolding(pli_deck_write::specs::Descriptions::described))]
 fn array_at<'a>(
@@ -189,7 +189,7 @@ fn array_at<'a>(
     Ok((array, rest))
 }
 
-/// What stands behind a structure's tag.
+/// What stands after a structure's tag.
 #[cycle(description)]
 #[tactic(auto, unfolding(pli_deck_write::specs::Descriptions::described))]
 fn structure_at<'a>(
@@ -259,7 +259,7 @@ fn element_at<'a>(
     Err(ReadError::Fault(DeckFault::OutOfRange))
 }
 
-/// So many descriptions or types, one behind another.
+/// So many descriptions or types, one after another.
 #[cycle(description)]
 fn members_at<'a>(
     alloc: Global,
@@ -274,9 +274,9 @@ fn members_at<'a>(
     let mut members = Vec::new(alloc);
     let mut rest = bytes;
     for _ in 0..count {
-        let (member, behind) = description_at(alloc, version, levels, rest)?;
+        let (member, after) = description_at(alloc, version, levels, rest)?;
         members.push(member)?;
-        rest = behind;
+        rest = after;
     }
     Ok((members, rest))
 }

@@ -12,7 +12,7 @@ use pli_code::{DeckFault, Module};
 use pli_deck_faults::module_fault;
 use std::alloc::Global;
 
-/// A module, if no bytes stand behind it and it has no fault.
+/// A module, if no bytes stand after it and it has no fault.
 #[tactic(auto, using(crate::proofs::WholeReading::more_left, crate::proofs::WholeReading::none_left))]
 fn whole(alloc: Global, program: Module, rest: &[u8]) -> Result<Module, ReadError>
     ensures { Gives module_view result (whole module_fault (module_view program) rest.now) }

@@ -14,7 +14,7 @@ use crate::error::ReadError;
 use crate::read::read;
 use crate::reading::{ReadsOne, many_of, name_text_of, short_within, upper_name};
 use crate::tables::numbers_of;
-use crate::whole::{behind, version_of};
+use crate::whole::{after_prefix, version_of};
 use pli_base::Name;
 use pli_code::fields::{byte_within, short_of, word_of};
 use pli_code::{CodedGlobal, Deck, DeckFault, External, Member, Module, Version};
@@ -36,8 +36,8 @@ fn kind_of(bytes: &[u8]) -> Result<(VariableKind, &[u8]), DeckFault>
     Ok((kind, rest))
 }
 
-/// Whether a name stands behind that of the last external so far, if there is one.
-#[tactic(auto, using(crate::proofs::LoopBehindLemmas::none_before, crate::proofs::LoopBehindLemmas::last_before))]
+/// Whether a name stands after that of the last external so far, if there is one.
+#[tactic(auto, using(crate::proofs::LoopAfterLemmas::none_before, crate::proofs::LoopAfterLemmas::last_before))]
 fn comes_after(earlier: &[External], name: &Name) -> bool
     ensures { result ≡ module_fields.comes_after (last_of (map external_view earlier.now)) name.now }
 {
@@ -48,11 +48,11 @@ fn comes_after(earlier: &[External], name: &Name) -> bool
     matches!(earlier[count - 1].name.cmp(name), Ordering::Less)
 }
 
-/// An external, whose name stands behind that of the one before it.
-#[tactic(auto, unfolding(pli_deck_write::specs::ModuleFields::external_behind, pli_deck_write::specs::DeckFields::name))]
+/// An external, whose name stands after that of the one before it.
+#[tactic(auto, unfolding(pli_deck_write::specs::ModuleFields::external_after, pli_deck_write::specs::DeckFields::name))]
 fn external_of<'a>(earlier: &[External], bytes: &'a [u8]) -> Result<(External, &'a [u8]), ReadError>
     ensures { Gives (λ x. (external_view x.0, x.1.now)) result
-        ((module_fields.external_behind (last_of (map external_view earlier.now))).read bytes.now) }
+        ((module_fields.external_after (last_of (map external_view earlier.now))).read bytes.now) }
 {
     let (text, rest) = name_text_of(bytes)?;
     let Some(name) = upper_name(text) else {
@@ -82,15 +82,15 @@ fn externals_at(
     bytes: &[u8],
 ) -> Result<(Vec<External>, &[u8]), ReadError>
     ensures { Gives (λ x. (map external_view x.0.items, x.1.now)) result
-        (module_fields.many_behind module_fields.external_behind None count bytes.now) }
+        (module_fields.many_after module_fields.external_after None count bytes.now) }
 {
     let mut externals: Vec<External> = Vec::new(alloc);
     let mut rest = bytes;
     for _ in 0..count {
         match external_of(&externals, rest) {
-            Ok((external, behind)) => {
+            Ok((external, after)) => {
                 externals.push(external)?;
-                rest = behind;
+                rest = after;
             }
             Err(error) => return Err(error),
         }
@@ -101,7 +101,7 @@ fn externals_at(
 /// A list of externals.
 fn externals_of(alloc: Global, bytes: &[u8]) -> Result<(Vec<External>, &[u8]), ReadError>
     ensures { Gives (λ x. (map external_view x.0.items, x.1.now)) result
-        ((module_fields.chain module_fields.external_behind).read bytes.now) }
+        ((module_fields.chain module_fields.external_after).read bytes.now) }
 {
     let (count, rest) = short_of(bytes)?;
     externals_at(alloc, count, rest)
@@ -213,7 +213,7 @@ fn versioned_of(alloc: Global, bytes: &[u8]) -> Result<(Module, &[u8]), ReadErro
 pub fn module_at(alloc: Global, bytes: &[u8]) -> Result<(Module, &[u8]), ReadError>
     ensures { Gives (λ x. (module_view x.0, x.1.now)) result (module_fields.module_field.read bytes.now) }
 {
-    match behind(bytes, b"PLIM") {
+    match after_prefix(bytes, b"PLIM") {
         Some(rest) => versioned_of(alloc, rest),
         None => Err(ReadError::Fault(DeckFault::BadMagic)),
     }

@@ -14,7 +14,7 @@ use pli_code::{Deck, DeckFault, Version};
 use pli_deck_faults::deck_fault;
 use std::alloc::Global;
 
-/// A deck, if no bytes stand behind it and it has no fault.
+/// A deck, if no bytes stand after it and it has no fault.
 #[tactic(auto, using(crate::proofs::WholeReading::more_left, crate::proofs::WholeReading::none_left))]
 fn whole(alloc: Global, deck: Deck, rest: &[u8]) -> Result<Deck, ReadError>
     ensures { Gives deck_view result (whole fault_of (deck_view deck) rest.now) }

@@ -102,7 +102,7 @@ fn room_for(count: u32, bytes: &[u8]) -> usize
     if promised <= bytes.len() { promised } else { 0 }
 }
 
-/// So many values, one behind another.
+/// So many values, one after another.
 pub fn many_of<'a, R: ReadsOne>(
     alloc: Global,
     reader: &R,
@@ -114,9 +114,9 @@ pub fn many_of<'a, R: ReadsOne>(
     let mut values = Vec::with_capacity(alloc, room_for(count, bytes))?;
     let mut rest = bytes;
     for _ in 0..count {
-        let (value, behind) = reader.read(alloc, rest)?;
+        let (value, after) = reader.read(alloc, rest)?;
         values.push(value)?;
-        rest = behind;
+        rest = after;
     }
     Ok((values, rest))
 }

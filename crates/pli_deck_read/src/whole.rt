@@ -41,10 +41,10 @@ fn code_of(alloc: Global, version: Version, bytes: &[u8]) -> Result<(Code, &[u8]
     ))
 }
 
-/// The bytes behind those that stand in front of all decks, if they do.
-#[tactic(auto, using(crate::proofs::HeadingLemmas::too_few, crate::proofs::HeadingLemmas::behind_front))]
-pub fn behind<'a>(bytes: &'a [u8], front: &[u8]) -> Option<&'a [u8]>
-    ensures { deck_fields.behind front.now bytes.now ≡ option_map (λ rest. rest.now) result }
+/// The bytes after those that stand in front of all decks, if they do.
+#[tactic(auto, using(crate::proofs::HeadingLemmas::too_few, crate::proofs::HeadingLemmas::after_front))]
+pub fn after_prefix<'a>(bytes: &'a [u8], front: &[u8]) -> Option<&'a [u8]>
+    ensures { deck_fields.after_prefix front.now bytes.now ≡ option_map (λ rest. rest.now) result }
 {
     if bytes.len() < front.len() {
         return None;
@@ -151,7 +151,7 @@ pub fn deck_at(
     ensures { Gives (λ x. (deck_view x.0, x.1.now)) result ((deck_fields.deck_in_versions (wanted_version wanted)).read
         bytes.now) }
 {
-    match behind(bytes, b"PLID") {
+    match after_prefix(bytes, b"PLID") {
         Some(rest) => versioned_of(alloc, wanted, rest),
         None => Err(ReadError::Fault(DeckFault::BadMagic)),
     }

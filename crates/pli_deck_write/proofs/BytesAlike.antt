@@ -23,7 +23,7 @@ use Rattle.pli_code.specs.Modules.{External, Member, Module}
 use Rattle.pli_code.specs.Numbered.{kind_number}
 use Rattle.pli_deck_write.specs.Descriptions.{description_within, description}
 use Rattle.pli_deck_write.specs.DeckFields.{name, optional, bit_string, integer, characters, constant, initial, template, signature, global, block, code, contents, any_version, deck_in_versions}
-use Rattle.pli_deck_write.specs.ModuleFields.{external_behind, bytes_behind, member, module_field}
+use Rattle.pli_deck_write.specs.ModuleFields.{external_after, bytes_after, member, module_field}
 use Rattle.pli_deck_write.specs.ModuleSpelling.{module_bytes}
 use Rattle.pli_deck_write.specs.InstructionBytes.{two, four, operation_bytes, instruction_bytes}
 use Rattle.pli_deck_write.specs.DeckBytes.{counted, few_counted, name_bytes, bounds_bytes, type_bytes, integer_bytes, constant_bytes, initial_bytes, template_bytes, optional_bytes, signature_bytes, global_bytes, block_bytes, code_bytes, deck_written}
@@ -132,14 +132,14 @@ pub deck_same : (may_stand : Version → Bool) (d : Deck) → (deck_in_versions 
 unfolding deck_in_versions contents
 deck_same may_stand d = rw (name_same d.name, code_same d.version d.code) refl
 
-external_same : (before : Option External) (e : External) → (external_behind before).bytes_of e ≡ external_written e
-unfolding external_behind
+external_same : (before : Option External) (e : External) → (external_after before).bytes_of e ≡ external_written e
+unfolding external_after
 external_same before e = rw (name_same e.name) refl
 
-externals_same : (before : Option External) (es : List External) → bytes_behind external_behind before es ≡ flat_map external_written es
+externals_same : (before : Option External) (es : List External) → bytes_after external_after before es ≡ flat_map external_written es
 externals_same before [] = refl
 externals_same before (e ∷ es) =
-    ap (λ bs. bs ++ bytes_behind external_behind (Some e) es) (external_same before e)
+    ap (λ bs. bs ++ bytes_after external_after (Some e) es) (external_same before e)
     ∙ ap (λ bs. external_written e ++ bs) (externals_same (Some e) es)
 
 member_same : (v : Version) (m : Member) → (member v).bytes_of m ≡ member_written m

@@ -21,7 +21,7 @@ use Rattle.pli_code.specs.Instructions.{instruction_in}
 use Rattle.pli_code.specs.Versions.{version_number}
 use Rattle.pli_code.specs.declared.version.Version.{Version}
 use Rattle.pli_code.specs.declared.version.Version.TheVariants.{First, Second, Third}
-use Rattle.pli_deck_write.specs.DeckFields.{is_name, name, flag, number_if, none_last, is_number_if, optional, byte_count, bits_in, bits_at, bit_string, integer, characters, constant_form, constant_readers, constant, initial, template, parameter_count, parameter_number, signature, global_form, global_readers, global, kind_of, block_kind, block_of, block_parts, block, behind, past, after_magic, if_it_may, version_among, or_bad_version, version_in, code_of, code_parts, code, contents, deck_of, deck_parts, deck_in_versions}
+use Rattle.pli_deck_write.specs.DeckFields.{is_name, name, flag, number_if, none_last, is_number_if, optional, byte_count, bits_in, bits_at, bit_string, integer, characters, constant_form, constant_readers, constant, initial, template, parameter_count, parameter_number, signature, global_form, global_readers, global, kind_of, block_kind, block_of, block_parts, block, after_prefix, past, after_magic, if_it_may, version_among, or_bad_version, version_in, code_of, code_parts, code, contents, deck_of, deck_parts, deck_in_versions}
 use Rattle.pli_code.specs.Numbered.{kind_number}
 use Rattle.pli_code.proofs.FieldLaws.{AreBytes-drop, bind_ok, ok_is, held_ok, guard_ok, both_true, Taken, IsField, nothing_law, byte_law, u2_law, u4_law, count_law, byte_again, as_shaped, answered, checked_law, word_law, long_law, followed_law, ◌⊠◌, shaped_law, list_law, from_to_law}
 use Rattle.pli_code.proofs.FormLaws.{AllRead, unknown_reads, made_reads, made_again, tagged_law}
@@ -284,17 +284,17 @@ if_equal x b r y e = by_test (nat_eq x b) refl e
     by_test true same given = (eqb-true x b same, given)
     by_test false same given = absurd cc
 
-behind_is : (front bytes rest : List ℕ) → AreBytes bytes → behind front bytes ≡ Some rest → (bytes ≡ front ++ rest) × AreBytes rest
-behind_is [] bytes rest fits e = let same : bytes ≡ rest = cc in (same, subst AreBytes same fits)
-behind_is (x ∷ xs) [] rest fits e = absurd cc
-behind_is (x ∷ xs) (b ∷ bytes) rest fits e =
-    let here = if_equal x b (behind xs bytes) rest e in
-    let others = behind_is xs bytes rest (λ i. fits (suc i)) here.1 in
+after_is : (front bytes rest : List ℕ) → AreBytes bytes → after_prefix front bytes ≡ Some rest → (bytes ≡ front ++ rest) × AreBytes rest
+after_is [] bytes rest fits e = let same : bytes ≡ rest = cc in (same, subst AreBytes same fits)
+after_is (x ∷ xs) [] rest fits e = absurd cc
+after_is (x ∷ xs) (b ∷ bytes) rest fits e =
+    let here = if_equal x b (after_prefix xs bytes) rest e in
+    let others = after_is xs bytes rest (λ i. fits (suc i)) here.1 in
     (ap (λ c. c ∷ bytes) (sym here.0) ∙ ap (λ s. x ∷ s) others.0, others.1)
 
-behind_again : (front rest : List ℕ) → behind front (front ++ rest) ≡ Some rest
-behind_again [] rest = refl
-behind_again (x ∷ xs) rest = ap (λ t. cond t (behind xs (xs ++ rest)) None) (eq-eqb x x refl) ∙ behind_again xs rest
+after_again : (front rest : List ℕ) → after_prefix front (front ++ rest) ≡ Some rest
+after_again [] rest = refl
+after_again (x ∷ xs) rest = ap (λ t. cond t (after_prefix xs (xs ++ rest)) None) (eq-eqb x x refl) ∙ after_again xs rest
 
 past_ok : {X : Type 0} (fault : DeckFault) (read : Reader X) (o : Option (List ℕ)) (y : X × List ℕ) → past fault read o ≡ Ok y → (bytes : List ℕ) × (o ≡ Some bytes) × (read bytes ≡ Ok y)
 past_ok fault read None y e = absurd cc
@@ -303,17 +303,17 @@ past_ok fault read (Some bytes) y e = (bytes, refl, e)
 pub magic_law : {X : Type 0} (magic : List ℕ) (f : Field X) → IsField f → IsField (after_magic magic f)
 magic_law {X} magic f it = record { takes = take_one; again = once_more }
   where
-    take_one : (bytes : List ℕ) (x : X) (rest : List ℕ) → AreBytes bytes → past BadMagic f.read (behind magic bytes) ≡ Ok (x, rest) → Taken (after_magic magic f) bytes x rest
+    take_one : (bytes : List ℕ) (x : X) (rest : List ℕ) → AreBytes bytes → past BadMagic f.read (after_prefix magic bytes) ≡ Ok (x, rest) → Taken (after_magic magic f) bytes x rest
     take_one bytes x rest b e =
-        let p = past_ok BadMagic f.read (behind magic bytes) (x, rest) e in
-        let front = behind_is magic bytes p.0 b p.1 in
+        let p = past_ok BadMagic f.read (after_prefix magic bytes) (x, rest) e in
+        let front = after_is magic bytes p.0 b p.1 in
         let t = it.takes p.0 x rest front.1 p.2 in
         record { parts = front.0 ∙ ap (λ s. magic ++ s) t.parts ∙ sym (append_assoc magic (f.bytes_of x) rest); fitting = t.fitting; rest_bytes = t.rest_bytes }
 
-    once_more : (x : X) (rest : List ℕ) → f.fits x ≡ true → past BadMagic f.read (behind magic ((magic ++ f.bytes_of x) ++ rest)) ≡ Ok (x, rest)
+    once_more : (x : X) (rest : List ℕ) → f.fits x ≡ true → past BadMagic f.read (after_prefix magic ((magic ++ f.bytes_of x) ++ rest)) ≡ Ok (x, rest)
     once_more x rest h =
-        ap (λ s. past BadMagic f.read (behind magic s)) (append_assoc magic (f.bytes_of x) rest)
-        ∙ ap (past BadMagic f.read) (behind_again magic (f.bytes_of x ++ rest)) ∙ it.again x rest h
+        ap (λ s. past BadMagic f.read (after_prefix magic s)) (append_assoc magic (f.bytes_of x) rest)
+        ∙ ap (past BadMagic f.read) (after_again magic (f.bytes_of x ++ rest)) ∙ it.again x rest h
 
 -- ---- versions
 
@@ -342,10 +342,10 @@ version_stands may_stand n v e = first (nat_eq n 1) refl e
     first true here found = of First (may_stand First) refl (eqb-true n 1 here) found
     first false here found = second (nat_eq n 2) refl found
 
-there_ok : (o : Option Version) (behind : List ℕ) (v : Version) (rest : List ℕ) → or_bad_version o behind ≡ Ok (v, rest) → (o ≡ Some v) × (behind ≡ rest)
-there_ok None behind v rest e = absurd cc
-there_ok (Some w) behind v rest e =
-    let both = ok_is (w, behind) (v, rest) e in (ap (λ (p : Version × List ℕ). Some p.0) both, ap (λ (p : Version × List ℕ). p.1) both)
+there_ok : (o : Option Version) (after : List ℕ) (v : Version) (rest : List ℕ) → or_bad_version o after ≡ Ok (v, rest) → (o ≡ Some v) × (after ≡ rest)
+there_ok None after v rest e = absurd cc
+there_ok (Some w) after v rest e =
+    let both = ok_is (w, after) (v, rest) e in (ap (λ (p : Version × List ℕ). Some p.0) both, ap (λ (p : Version × List ℕ). p.1) both)
 
 abbrev as_version : (may_stand : Version → Bool) → ℕ × List ℕ → Result (Version × List ℕ) DeckFault
 as_version may_stand n = or_bad_version (version_among may_stand n.0) n.1

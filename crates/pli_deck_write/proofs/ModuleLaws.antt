@@ -14,7 +14,7 @@ use Rattle.pli_code.specs.declared.version.Version.{Version}
 use Rattle.pli_deck_write.specs.DeckFields.{name, version_in, any_version, deck_in_versions}
 use Rattle.pli_deck_write.specs.DeckFaults.{fault_of}
 use Rattle.pli_deck_write.specs.Spelling.{deck_bytes, deck_read_in}
-use Rattle.pli_deck_write.specs.ModuleFields.{comes_after, external_of, external_parts, external_behind, bytes_behind, fit_behind, many_behind, chain, is_none, and_rest, deck_in, sized_deck, is_external, links_of, member_of, member_parts, member, exactly, ModuleContents, module_contents, module_of, module_parts, module_field}
+use Rattle.pli_deck_write.specs.ModuleFields.{comes_after, external_of, external_parts, external_after, bytes_after, fit_after, many_after, chain, is_none, and_rest, deck_in, sized_deck, is_external, links_of, member_of, member_parts, member, exactly, ModuleContents, module_contents, module_of, module_parts, module_field}
 use Rattle.pli_deck_write.specs.ModuleSpelling.{module_fault, module_read, ReadModuleIsSpelled, SpelledModuleIsRead, OneModule}
 use Rattle.pli_code.proofs.FieldLaws.{AreBytes-drop, AreBytes-take, bind_ok, ok_is, guard_ok, both_true, Taken, IsField, byte_law, u2_law, u4_law, checked_law, followed_law, ◌⊠◌, shaped_law, list_law, from_to_law, many_takes, many_again}
 use Rattle.pli_deck_write.proofs.DeckLaws.{name_law, magic_law, version_law, deck_law}
@@ -22,44 +22,44 @@ use Rattle.pli_deck_write.proofs.WholeLaws.{IsWhole, taken_whole, read_again}
 
 -- ---- externals
 
-external_law : (before : Option External) → IsField (external_behind before)
-unfolding external_behind
+external_law : (before : Option External) → IsField (external_after before)
+unfolding external_after
 external_law before =
     shaped_law external_of external_parts (checked (comes_after before) name ⊗ from_to 2 3 u1 ⊗ u2 ⊗ u2)
     (checked_law (comes_after before) name name_law ⊠ from_to_law 2 3 u1 byte_law ⊠ u2_law ⊠ u2_law) (λ p h. refl) (λ e h. refl)
 
 pub record ChainTaken {X : Type 0} (f : Option X → Field X) (before : Option X) (count : ℕ) (bytes : List ℕ) (xs : List X) (rest : List ℕ) : Type 0 where
-  pub parts : bytes ≡ bytes_behind f before xs ++ rest
-  pub fitting : fit_behind f before xs ≡ true
+  pub parts : bytes ≡ bytes_after f before xs ++ rest
+  pub fitting : fit_after f before xs ≡ true
   pub counted : length xs ≡ count
   pub rest_bytes : AreBytes rest
 
 chain_takes : {X : Type 0} (f : Option X → Field X) → ((before : Option X) → IsField (f before)) → (before : Option X) (count : ℕ) (bytes : List ℕ) (xs : List X) (rest : List ℕ)
-    → AreBytes bytes → many_behind f before count bytes ≡ Ok (xs, rest) → ChainTaken f before count bytes xs rest
-unfolding many_behind
+    → AreBytes bytes → many_after f before count bytes ≡ Ok (xs, rest) → ChainTaken f before count bytes xs rest
+unfolding many_after
 chain_takes f it before zero bytes xs rest b e =
     subst (λ p. ChainTaken f before 0 bytes p.0 p.1) (ok_is ([], bytes) (xs, rest) e) (record { parts = refl; fitting = refl; counted = refl; rest_bytes = b })
 chain_takes f it before (suc n) bytes xs rest b e =
-    let r = bind_ok ((f before).read bytes) (λ x. many_behind f (Some x.0) n x.1 >>= λ ys. Ok (x.0 ∷ ys.0, ys.1)) (xs, rest) e in
-    let s = bind_ok (many_behind f (Some r.0.0) n r.0.1) (λ ys. Ok (r.0.0 ∷ ys.0, ys.1)) (xs, rest) r.2 in
+    let r = bind_ok ((f before).read bytes) (λ x. many_after f (Some x.0) n x.1 >>= λ ys. Ok (x.0 ∷ ys.0, ys.1)) (xs, rest) e in
+    let s = bind_ok (many_after f (Some r.0.0) n r.0.1) (λ ys. Ok (r.0.0 ∷ ys.0, ys.1)) (xs, rest) r.2 in
     let t = (it before).takes bytes r.0.0 r.0.1 b r.1 in
     let u = chain_takes f it (Some r.0.0) n r.0.1 s.0.0 s.0.1 t.rest_bytes s.1 in
     subst (λ p. ChainTaken f before (suc n) bytes p.0 p.1) (ok_is (r.0.0 ∷ s.0.0, s.0.1) (xs, rest) s.2) (record {
-      parts = t.parts ∙ ap (λ bs. (f before).bytes_of r.0.0 ++ bs) u.parts ∙ sym (append_assoc ((f before).bytes_of r.0.0) (bytes_behind f (Some r.0.0) s.0.0) s.0.1);
+      parts = t.parts ∙ ap (λ bs. (f before).bytes_of r.0.0 ++ bs) u.parts ∙ sym (append_assoc ((f before).bytes_of r.0.0) (bytes_after f (Some r.0.0) s.0.0) s.0.1);
       fitting = both_true _ _ t.fitting u.fitting;
       counted = ap suc u.counted;
       rest_bytes = u.rest_bytes;
     })
 
 chain_again : {X : Type 0} (f : Option X → Field X) → ((before : Option X) → IsField (f before)) → (before : Option X) (xs : List X) (rest : List ℕ)
-    → fit_behind f before xs ≡ true → many_behind f before (length xs) (bytes_behind f before xs ++ rest) ≡ Ok (xs, rest)
-unfolding many_behind
+    → fit_after f before xs ≡ true → many_after f before (length xs) (bytes_after f before xs ++ rest) ≡ Ok (xs, rest)
+unfolding many_after
 chain_again f it before [] rest h = refl
 chain_again f it before (x ∷ xs) rest h =
-    let both = and_parts ((f before).fits x) (fit_behind f (Some x) xs) h in
-    let behind = bytes_behind f (Some x) xs in
-    ap (λ bs. (f before).read bs >>= λ y. many_behind f (Some y.0) (length xs) y.1 >>= λ ys. Ok (y.0 ∷ ys.0, ys.1)) (append_assoc ((f before).bytes_of x) behind rest)
-    ∙ ap (λ r. r >>= λ y. many_behind f (Some y.0) (length xs) y.1 >>= λ ys. Ok (y.0 ∷ ys.0, ys.1)) ((it before).again x (behind ++ rest) both.0)
+    let both = and_parts ((f before).fits x) (fit_after f (Some x) xs) h in
+    let after = bytes_after f (Some x) xs in
+    ap (λ bs. (f before).read bs >>= λ y. many_after f (Some y.0) (length xs) y.1 >>= λ ys. Ok (y.0 ∷ ys.0, ys.1)) (append_assoc ((f before).bytes_of x) after rest)
+    ∙ ap (λ r. r >>= λ y. many_after f (Some y.0) (length xs) y.1 >>= λ ys. Ok (y.0 ∷ ys.0, ys.1)) ((it before).again x (after ++ rest) both.0)
     ∙ ap (λ r. r >>= λ ys. Ok (x ∷ ys.0, ys.1)) (chain_again f it (Some x) xs rest both.1)
 
 pub chain_law : {X : Type 0} (f : Option X → Field X) → ((before : Option X) → IsField (f before)) → IsField (chain f)
@@ -67,21 +67,21 @@ chain_law {X} f it = record { takes = take_all; again = once_more }
   where
     take_all : (bytes : List ℕ) (xs : List X) (rest : List ℕ) → AreBytes bytes → (chain f).read bytes ≡ Ok (xs, rest) → Taken (chain f) bytes xs rest
     take_all bytes xs rest b e =
-        let r = bind_ok (u2.read bytes) (λ n. many_behind f None n.0 n.1) (xs, rest) e in
+        let r = bind_ok (u2.read bytes) (λ n. many_after f None n.0 n.1) (xs, rest) e in
         let t = u2_law.takes bytes r.0.0 r.0.1 b r.1 in
         let u = chain_takes f it None r.0.0 r.0.1 xs rest t.rest_bytes r.2 in
         record {
-          parts = t.parts ∙ ap (λ bs. u2.bytes_of r.0.0 ++ bs) u.parts ∙ sym (append_assoc (u2.bytes_of r.0.0) (bytes_behind f None xs) rest)
-              ∙ ap (λ n. (u2.bytes_of n ++ bytes_behind f None xs) ++ rest) (sym u.counted);
+          parts = t.parts ∙ ap (λ bs. u2.bytes_of r.0.0 ++ bs) u.parts ∙ sym (append_assoc (u2.bytes_of r.0.0) (bytes_after f None xs) rest)
+              ∙ ap (λ n. (u2.bytes_of n ++ bytes_after f None xs) ++ rest) (sym u.counted);
           fitting = both_true _ _ (ap u2.fits u.counted ∙ t.fitting) u.fitting;
           rest_bytes = u.rest_bytes;
         }
 
     once_more : (xs : List X) (rest : List ℕ) → (chain f).fits xs ≡ true → (chain f).read ((chain f).bytes_of xs ++ rest) ≡ Ok (xs, rest)
     once_more xs rest h =
-        let both = and_parts (u2.fits (length xs)) (fit_behind f None xs) h in
-        ap (λ bs. u2.read bs >>= λ n. many_behind f None n.0 n.1) (append_assoc (u2.bytes_of (length xs)) (bytes_behind f None xs) rest)
-        ∙ ap (λ r. r >>= λ n. many_behind f None n.0 n.1) (u2_law.again (length xs) (bytes_behind f None xs ++ rest) both.0)
+        let both = and_parts (u2.fits (length xs)) (fit_after f None xs) h in
+        ap (λ bs. u2.read bs >>= λ n. many_after f None n.0 n.1) (append_assoc (u2.bytes_of (length xs)) (bytes_after f None xs) rest)
+        ∙ ap (λ r. r >>= λ n. many_after f None n.0 n.1) (u2_law.again (length xs) (bytes_after f None xs ++ rest) both.0)
         ∙ chain_again f it None xs rest both.1
 
 -- ---- decks within a module
@@ -201,11 +201,11 @@ abbrev Heading : Type 0
 Heading = ℕ × (ℕ × List External)
 
 abbrev heading : Field Heading
-heading = from_to 1 999 u2 ⊗ u2 ⊗ chain external_behind
+heading = from_to 1 999 u2 ⊗ u2 ⊗ chain external_after
 
 contents_law : (v : Version) → IsField (module_contents v)
 contents_law v =
-    followed_law heading (λ h. exactly h.0 (member v)) (from_to_law 1 999 u2 u2_law ⊠ u2_law ⊠ chain_law external_behind external_law) (λ h. exactly_law h.0 (member v) (member_law v))
+    followed_law heading (λ h. exactly h.0 (member v)) (from_to_law 1 999 u2 u2_law ⊠ u2_law ⊠ chain_law external_after external_law) (λ h. exactly_law h.0 (member v) (member_law v))
 
 parts_there : (p : Version × ModuleContents) → (followed (version_in any_version) module_contents).fits p ≡ true → module_parts (module_of p) ≡ p
 parts_there p h =

@@ -1,28 +1,28 @@
--- The bytes of externals, which do not depend on those before them; those of a module, behind its head; and decks whose
+-- The bytes of externals, which do not depend on those before them; those of a module, after its head; and decks whose
 -- bytes are there.
 use Rattle.std.proofs.Common.{◌≡◌, ℕ, zero, suc, ◌<◌, List, [], ◌∷◌, ◌++◌, Option, Some, None, drop, get_or, length, map, refl, sym, ap, ◌∙◌, arith}
 use Rattle.std.specs.List.{flat_map}
 use Rattle.pli_code.specs.Modules.{External, Module}
-use Rattle.pli_deck_write.specs.ModuleFields.{external_behind, bytes_behind, member, member_bytes, module_field}
+use Rattle.pli_deck_write.specs.ModuleFields.{external_after, bytes_after, member, member_bytes, module_field}
 use Rattle.pli_deck_write.specs.ModuleSpelling.{module_bytes}
 use Rattle.pli_deck_write.specs.answers.ModuleHead.{head_bytes}
 
 abbrev pub external_bytes : External → List ℕ
-external_bytes = (external_behind None).bytes_of
+external_bytes = (external_after None).bytes_of
 
-same_bytes : (before : Option External) (e : External) → (external_behind before).bytes_of e ≡ external_bytes e
-unfolding external_behind
+same_bytes : (before : Option External) (e : External) → (external_after before).bytes_of e ≡ external_bytes e
+unfolding external_after
 same_bytes before e = refl
 
-pub behind_bytes : (before : Option External) (es : List External) → bytes_behind external_behind before es ≡ flat_map external_bytes es
-behind_bytes before [] = refl
-behind_bytes before (e ∷ es) =
-    ap (λ bs. bs ++ bytes_behind external_behind (Some e) es) (same_bytes before e) ∙ ap (λ bs. external_bytes e ++ bs) (behind_bytes (Some e) es)
+pub after_bytes : (before : Option External) (es : List External) → bytes_after external_after before es ≡ flat_map external_bytes es
+after_bytes before [] = refl
+after_bytes before (e ∷ es) =
+    ap (λ bs. bs ++ bytes_after external_after (Some e) es) (same_bytes before e) ∙ ap (λ bs. external_bytes e ++ bs) (after_bytes (Some e) es)
 
 -- the bytes of a module are its head, and its units
-pub behind_head : (m : Module) → module_bytes m ≡ head_bytes m ++ flat_map member_bytes m.units
+pub after_head : (m : Module) → module_bytes m ≡ head_bytes m ++ flat_map member_bytes m.units
 unfolding module_field member
-behind_head m = refl
+after_head m = refl
 
 -- lists that are the same by what is said of them say the same at each place
 module _ {X Y Z : Type 0} (f : X → Z) (g : Y → Z) where

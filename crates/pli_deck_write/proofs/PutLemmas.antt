@@ -1,4 +1,4 @@
--- Lists of values, and parts one behind another.
+-- Lists of values, and parts one after another.
 use Rattle.std.proofs.Common.{◌≡◌, List, [], ◌∷◌, ◌++◌, ℕ, map, length, refl, sym, ap, ◌∙◌, append_assoc}
 use Rattle.std.specs.List.{flat_map}
 use Rattle.std.proofs.lemmas.List.{length-map}
@@ -19,7 +19,7 @@ list_put say bytes_of old new lent xs put is =
     put ∙ ap (λ ys. old ++ (big_bytes 2 (length ys) ++ flat_map bytes_of (map say ys))) is
     ∙ ap (λ n. old ++ (big_bytes 2 n ++ flat_map bytes_of (map say xs))) (sym (mapped_length say xs))
 
--- seven parts, one behind another
+-- seven parts, one after another
 pub seven_parts : (a b c d e f g : List ℕ) → a ++ (b ++ (c ++ (d ++ (e ++ (f ++ g))))) ≡ (((((a ++ b) ++ c) ++ d) ++ e) ++ f) ++ g
 seven_parts a b c d e f g =
     sym (append_assoc ((((a ++ b) ++ c) ++ d) ++ e) f g ∙ append_assoc (((a ++ b) ++ c) ++ d) e (f ++ g)

@@ -4,7 +4,7 @@ use Rattle.pli_code.specs.Fields.{byte_at, number_at, many}
 use Rattle.pli_deck_write.specs.Descriptions.{description_within}
 use Rattle.pli_code.specs.Instructions.{instruction}
 use Rattle.pli_deck_write.specs.DeckFields.{name, optional, bits_at, bit_string, characters, constant, initial, template, signature, global, block, code, contents, deck_in_versions}
-use Rattle.pli_deck_write.specs.ModuleFields.{external_behind, many_behind, deck_in, member, module_field}
+use Rattle.pli_deck_write.specs.ModuleFields.{external_after, many_after, deck_in, member, module_field}
 use Rattle.pli_deck_write.specs.ModuleSpelling.{module_read}
 use Rattle.pli_deck_write.specs.Spelling.{deck_read_in}
 use Rattle.pli_deck_write.specs.examples.DeckExamples.{WrittenSo, ReadSo}
@@ -12,7 +12,7 @@ use Rattle.pli_deck_write.specs.examples.ModuleExamples.{ModulesWrittenSo, Modul
 use Rattle.pli_deck_write.specs.examples.TypeExamples.{TypesWrittenSo, TypesReadSo}
 
 worked : WrittenSo × ReadSo × ModulesWrittenSo × ModulesReadSo × ModuleFaultsAre
-unfolding byte_at number_at many description_within instruction name optional bits_at bit_string characters constant initial template signature global block code contents deck_in_versions deck_read_in external_behind many_behind deck_in member module_field module_read
+unfolding byte_at number_at many description_within instruction name optional bits_at bit_string characters constant initial template signature global block code contents deck_in_versions deck_read_in external_after many_after deck_in member module_field module_read
 worked = (
   (refl, refl, refl, refl, refl, refl, refl, refl, refl, refl, refl),
   (refl, refl, refl, refl, refl, refl, refl, refl, refl, refl, refl, refl, refl, refl, refl, refl, refl, refl, refl),

@@ -25,7 +25,7 @@ use Rattle.pli_code.specs.declared.version.Version.{Version}
 use Rattle.pli_code.specs.declared.version.Version.TheVariants.{First, Second, Third}
 use Rattle.pli_deck_write.specs.InstructionBytes.{two, four, bound_bytes, instruction_bytes}
 
--- items, each by its bytes, behind their count in two bytes
+-- items, each by its bytes, after their count in two bytes
 abbrev pub counted : {X : Type 0} → (X → List ℕ) → List X → List ℕ
 counted item xs = two (length xs) ++ flat_map item xs
 
@@ -75,7 +75,7 @@ constant_bytes v (Bits bits) = 3 ∷ two (length bits) ++ packed bits
 constant_bytes v (Located (locators.Offset position)) = 5 ∷ []
 constant_bytes v (Located pointer) = 4 ∷ []
 
--- an initial value behind the byte of the variable on which it stands
+-- an initial value after the byte of the variable on which it stands
 abbrev pub initial_bytes : Version → InitialScalar → List ℕ
 initial_bytes v i = four i.offset ++ constant_bytes v i.value
 

@@ -112,7 +112,7 @@ abbrev pub jumps_within : Code → Bool
 jumps_within c =
     list_all (λ i. nat_lt i (length c.instructions)) (flat_map targets_of c.instructions)
 
--- the scalar that stands so many bytes behind a description's beginning
+-- the scalar that stands so many bytes after a description's beginning
 abbrev mutual
   pub scalar_at : Description → (offset : ℕ) → Option Description
   scalar_at (Array bounds element) offset =
@@ -121,7 +121,7 @@ abbrev mutual
   scalar_at (Structure members) offset = scalar_among 0 members offset
   scalar_at scalar offset = if nat_eq offset 0 then Some scalar else None
 
-  -- the same among members, the first of which stands at its next aligned place behind this byte
+  -- the same among members, the first of which stands at its next aligned place after this byte
   pub scalar_among : (at : ℕ) → Members → (offset : ℕ) → Option Description
   scalar_among at NoMembers offset = None
   scalar_among at (MemberThen d ds) offset =

@@ -74,7 +74,7 @@ optional = record {
 abbrev pub byte_count : (bits : ℕ) → ℕ
 byte_count bits = (bits + 7) / 8
 
--- so many bits of these bytes, whose last one has zeros behind the bits
+-- so many bits of these bytes, whose last one has zeros after the bits
 abbrev pub bits_in : (count : ℕ) → List ℕ → (rest : List ℕ) → Result (List Bool × List ℕ) DeckFault
 bits_in count bytes rest =
     held (bytes_eq bytes (packed (unpacked count bytes))) (unpacked count bytes, rest)
@@ -85,7 +85,7 @@ bits_at count bytes =
     if nat_lt (length bytes) (byte_count count) then Err Truncated
     else bits_in count (take (byte_count count) bytes) (drop (byte_count count) bytes)
 
--- how many bits, and the bits, eight to a byte, the first bit highest, with zeros behind the last
+-- how many bits, and the bits, eight to a byte, the first bit highest, with zeros after the last
 unfoldable pub bit_string : Field (List Bool)
 bit_string = record {
   bytes_of = λ bits. u2.bytes_of (length bits) ++ packed bits;
@@ -108,7 +108,7 @@ abbrev pub locator_tag : Locator → ℕ
 locator_tag (locators.Offset position) = 5
 locator_tag pointer = 4
 
--- the form of a constant; of locators null alone has a spelling, a tag behind which nothing stands
+-- the form of a constant; of locators null alone has a spelling, a tag after which nothing stands
 abbrev pub constant_form : Version → Value → Form
 constant_form v (Number x) = form 1 (integer v) x
 constant_form v (Characters text) = form 2 characters text
@@ -205,13 +205,13 @@ unfoldable pub block : Field CodedBlock
 block = shaped block_of block_parts
     (block_kind ⊗ optional ⊗ parameter_number ⊗ list u2 ⊗ u2 ⊗ u2 ⊗ u4)
 
--- what stands behind bytes that are the same everywhere, if they stand in front
-abbrev pub behind : List ℕ → List ℕ → Option (List ℕ)
-behind [] bytes = Some bytes
-behind (x ∷ xs) [] = None
-behind (x ∷ xs) (b ∷ bytes) = if nat_eq x b then behind xs bytes else None
+-- what stands after bytes that are the same everywhere, if they stand in front
+abbrev pub after_prefix : List ℕ → List ℕ → Option (List ℕ)
+after_prefix [] bytes = Some bytes
+after_prefix (x ∷ xs) [] = None
+after_prefix (x ∷ xs) (b ∷ bytes) = if nat_eq x b then after_prefix xs bytes else None
 
--- what is read behind them, or a fault where they do not stand
+-- what is read after them, or a fault where they do not stand
 abbrev pub past : {X : Type 0} → DeckFault → Reader X → Option (List ℕ) → Result (X × List ℕ) DeckFault
 past fault read None = Err fault
 past fault read (Some bytes) = read bytes
@@ -221,7 +221,7 @@ abbrev pub after_magic : {X : Type 0} → List ℕ → Field X → Field X
 after_magic magic f = record {
   bytes_of = λ x. magic ++ f.bytes_of x;
   fits = f.fits;
-  read = λ bytes. past BadMagic f.read (behind magic bytes);
+  read = λ bytes. past BadMagic f.read (after_prefix magic bytes);
 }
 
 -- a version, if it may stand there
@@ -282,7 +282,7 @@ code v = shaped code_of code_parts
     (signature ⊗ list (description v) ⊗ list (template v) ⊗ list (constant v) ⊗ list global ⊗ list block
     ⊗ list (instruction_in v))
 
--- what a deck has behind its version: the procedure's name, whether it is the main one, and the code
+-- what a deck has after its version: the procedure's name, whether it is the main one, and the code
 abbrev pub Contents : Type 0
 Contents = Name × (Bool × Code)
 

@@ -11,7 +11,7 @@ use Rattle.pli_deck_write.specs.DeckBytes.{counted, name_bytes, deck_written}
 abbrev pub external_written : External → List ℕ
 external_written e = name_bytes e.name ++ (e.kind ∷ two e.unit ++ two e.global)
 
--- a unit: its name, its deck behind the count of its bytes, and what its external globals stand for
+-- a unit: its name, its deck after the count of its bytes, and what its external globals stand for
 abbrev pub member_written : Member → List ℕ
 member_written m =
     name_bytes m.name ++ (four (length (deck_written m.deck)) ++ deck_written m.deck) ++ counted two m.links

@@ -30,7 +30,7 @@ abbrev pub is_less : Ordering → Bool
 is_less Less = true
 is_less other = false
 
--- a name comes behind that of the external before, if there is one
+-- a name comes after that of the external before, if there is one
 abbrev pub comes_after : Option External → Name → Bool
 comes_after None n = true
 comes_after (Some e) n = is_less (slice_cmp nat_cmp e.name n)
@@ -43,33 +43,33 @@ external_of p = record { name = p.0; kind = p.1.0; unit = p.1.1.0; global = p.1.
 abbrev pub external_parts : External → Name × (ℕ × (ℕ × ℕ))
 external_parts e = (e.name, (e.kind, (e.unit, e.global)))
 
--- an external whose name comes behind that of the one before
-unfoldable pub external_behind : (before : Option External) → Field External
-external_behind before =
+-- an external whose name comes after that of the one before
+unfoldable pub external_after : (before : Option External) → Field External
+external_after before =
     shaped external_of external_parts (checked (comes_after before) name ⊗ from_to 2 3 u1 ⊗ u2 ⊗ u2)
 
 -- the bytes of values, each by the field that the one before gives
-abbrev pub bytes_behind : {X : Type 0} → (Option X → Field X) → Option X → List X → List ℕ
-bytes_behind f before [] = []
-bytes_behind f before (x ∷ xs) = (f before).bytes_of x ++ bytes_behind f (Some x) xs
+abbrev pub bytes_after : {X : Type 0} → (Option X → Field X) → Option X → List X → List ℕ
+bytes_after f before [] = []
+bytes_after f before (x ∷ xs) = (f before).bytes_of x ++ bytes_after f (Some x) xs
 
 -- each of these fits
-abbrev pub fit_behind : {X : Type 0} → (Option X → Field X) → Option X → List X → Bool
-fit_behind f before [] = true
-fit_behind f before (x ∷ xs) = (f before).fits x && fit_behind f (Some x) xs
+abbrev pub fit_after : {X : Type 0} → (Option X → Field X) → Option X → List X → Bool
+fit_after f before [] = true
+fit_after f before (x ∷ xs) = (f before).fits x && fit_after f (Some x) xs
 
 -- so many of these are read
-unfoldable pub many_behind : {X : Type 0} → (Option X → Field X) → Option X → (count : ℕ) → Reader (List X)
-many_behind f before zero bytes = Ok ([], bytes)
-many_behind f before (suc n) bytes =
-    (f before).read bytes >>= λ x. many_behind f (Some x.0) n x.1 >>= λ xs. Ok (x.0 ∷ xs.0, xs.1)
+unfoldable pub many_after : {X : Type 0} → (Option X → Field X) → Option X → (count : ℕ) → Reader (List X)
+many_after f before zero bytes = Ok ([], bytes)
+many_after f before (suc n) bytes =
+    (f before).read bytes >>= λ x. many_after f (Some x.0) n x.1 >>= λ xs. Ok (x.0 ∷ xs.0, xs.1)
 
 -- a list, each of whose values depends on the one before
 abbrev pub chain : {X : Type 0} → (Option X → Field X) → Field (List X)
 chain f = record {
-  bytes_of = λ xs. u2.bytes_of (length xs) ++ bytes_behind f None xs;
-  fits = λ xs. u2.fits (length xs) && fit_behind f None xs;
-  read = λ bytes. u2.read bytes >>= λ n. many_behind f None n.0 n.1;
+  bytes_of = λ xs. u2.bytes_of (length xs) ++ bytes_after f None xs;
+  fits = λ xs. u2.fits (length xs) && fit_after f None xs;
+  read = λ bytes. u2.read bytes >>= λ n. many_after f None n.0 n.1;
 }
 
 -- ---- units
@@ -79,7 +79,7 @@ abbrev pub is_none : Option DeckFault → Bool
 is_none None = true
 is_none (Some f) = false
 
--- what is read of a deck, with what stands behind it
+-- what is read of a deck, with what stands after it
 abbrev pub and_rest : List ℕ → Result Deck DeckFault → Result (Deck × List ℕ) DeckFault
 and_rest rest read = read >>= λ d. Ok (d, rest)
 
@@ -140,14 +140,14 @@ exactly count f = record {
   read = many f.read count;
 }
 
--- what a module has behind its version: how many units there are, the main unit and externals, and the units
+-- what a module has after its version: how many units there are, the main unit and externals, and the units
 abbrev pub ModuleContents : Type 0
 ModuleContents = (ℕ × (ℕ × List External)) × List Member
 
 -- from 1 to 999 units, each of whose decks is of this version
 abbrev pub module_contents : Version → Field ModuleContents
 module_contents v =
-    followed (from_to 1 999 u2 ⊗ u2 ⊗ chain external_behind) (λ h. exactly h.0 (member v))
+    followed (from_to 1 999 u2 ⊗ u2 ⊗ chain external_after) (λ h. exactly h.0 (member v))
 
 -- a module of its parts
 abbrev pub module_of : Version × ModuleContents → Module

@@ -1,4 +1,4 @@
--- What is read whole from bytes: nothing stands behind its last item, and then it has no fault as a whole.
+-- What is read whole from bytes: nothing stands after its last item, and then it has no fault as a whole.
 use Rattle.std.specs.Prelude.{ℕ, List, [], ◌∷◌, Option, Some, None, Result, Ok, Err}
 use Rattle.pli_code.specs.declared.fault.DeckFault.{DeckFault}
 use Rattle.pli_code.specs.declared.fault.DeckFault.TheVariants.{Trailing}
@@ -10,7 +10,7 @@ abbrev pub unless_faulty : {X : Type 0} → Option DeckFault → X → Result X 
 unless_faulty None x = Ok x
 unless_faulty (Some f) x = Err f
 
--- the same, if nothing stands behind it
+-- the same, if nothing stands after it
 abbrev pub whole : {X : Type 0} → (fault_of : X → Option DeckFault) → X → (rest : List ℕ) → Result X DeckFault
 whole fault_of x [] = unless_faulty (fault_of x) x
 whole fault_of x (b ∷ rest) = Err Trailing

@@ -89,7 +89,7 @@ fn put_within(out: &mut Vec<u8>, levels: u16, value: &Description) -> Result<(),
     }
 }
 
-/// Puts descriptions one behind another.
+/// Puts descriptions one after another.
 #[cycle(put_description)]
 fn put_members(out: &mut Vec<u8>, levels: u16, members: &[Description]) -> Result<(), AllocError>
     ensures { OnOk result (out.new.items ≡ out.old.items ++ flat_map
@@ -144,7 +144,7 @@ fn put_type(out: &mut Vec<u8>, levels: u16, value: &ParameterType) -> Result<(),
     }
 }
 
-/// Puts types one behind another.
+/// Puts types one after another.
 #[cycle(put_type)]
 fn put_types(out: &mut Vec<u8>, levels: u16, members: &[ParameterType]) -> Result<(), AllocError>
     ensures { OnOk result (out.new.items ≡ out.old.items ++ flat_map (description_within written levels).bytes_of

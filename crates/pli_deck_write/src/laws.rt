@@ -10,7 +10,7 @@ ghost use Rattle.pli_deck_write.specs.examples.ModuleExamples.{ModulesWrittenSo,
 ghost use Rattle.pli_deck_write.specs.examples.TypeExamples.{TypesWrittenSo, TypesReadSo};
 
 /// A law: in each version, a description or a type that is read is spelled by the bytes that were there, and one that
-/// is spelled is read again, whatever stands behind it.
+/// is spelled is read again, whatever stands after it.
 pub fn descriptions_both_ways()
     ensures { (v : Version) → BothWays (description v) }
 {}

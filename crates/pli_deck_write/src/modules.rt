@@ -36,9 +36,9 @@ impl PutsOne for Externals {
 
     ghost say = { external_view };
 
-    ghost bytes_of = { λ _. (module_fields.external_behind None).bytes_of };
+    ghost bytes_of = { λ _. (module_fields.external_after None).bytes_of };
 
-    #[tactic(auto, unfolding(crate::specs::ModuleFields::external_behind))]
+    #[tactic(auto, unfolding(crate::specs::ModuleFields::external_after))]
     fn put(&self, out: &mut Vec<u8>, value: &External) -> Result<(), AllocError> {
         put_name(out, &value.name)?;
         put_byte(out, kind_number(value.kind))?;
@@ -55,7 +55,7 @@ fn put_member(alloc: Global, out: &mut Vec<u8>, unit: &LentMember<'_>) -> Result
     put_spelled(out, unit, &deck)
 }
 
-/// Puts units one behind another.
+/// Puts units one after another.
 fn put_members(alloc: Global, out: &mut Vec<u8>, units: &[LentMember<'_>]) -> Result<(), AllocError>
     ensures { OnOk result (out.new.items ≡ out.old.items ++ flat_map module_fields.member_bytes
         (map lent_member_view units.now)) }

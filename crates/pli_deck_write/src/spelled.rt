@@ -29,7 +29,7 @@ pub(crate) fn put_spelled(
     put_numbers(out, &unit.links)
 }
 
-/// Puts units one behind another, whose decks have these bytes.
+/// Puts units one after another, whose decks have these bytes.
 fn put_spelled_members(
     out: &mut Vec<u8>,
     units: &[LentMember<'_>],

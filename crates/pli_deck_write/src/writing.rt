@@ -140,7 +140,7 @@ pub trait PutsOne {
         ensures { OnOk result (out.new.items ≡ out.old.items ++ bytes_of self.now (say value.now)) };
 }
 
-/// Puts values one behind another.
+/// Puts values one after another.
 pub fn put_all<P: PutsOne>(
     out: &mut Vec<u8>,
     writer: &P,

@@ -233,7 +233,7 @@ mark_faults o number p =
 abbrev pub declared_by : Outline → (block : ℕ) → List PlacedMark → ℕ
 declared_by o block marks = length (tables.entries_after o.regions block [] marks)
 
--- the faults of marks, one after another, behind others
+-- the faults of marks, one after another, after others
 abbrev pub faults_after : Outline → (before : List PlacedMark) → List PlacedMark → List Fault
 faults_after o before [] = []
 faults_after o before (p ∷ ps) =

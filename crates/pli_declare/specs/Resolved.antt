@@ -95,7 +95,7 @@ abbrev pub locators_at : Outline → (here : ℕ) → Mark → List Use
 locators_at o here (Declared items) = flat_map (item_names o here locator_in) items
 locators_at o here mark = []
 
--- of all marks behind the first
+-- of all marks after the first
 abbrev pub of_marks : (ℕ → Mark → List Use) → List PlacedMark → List Use
 of_marks uses ps = flat_map (λ p. uses p.region p.mark) ps
 

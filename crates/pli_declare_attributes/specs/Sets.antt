@@ -5,7 +5,7 @@ use Rattle.std.specs.Int.RustNames.{bit_and, bit_or}
 use Rattle.std.specs.List.{list_any}
 use Rattle.pli_base.specs.Declarations as tree
 
--- FIXED, a data attribute as the seven behind it
+-- FIXED, a data attribute as the seven after it
 abbrev pub fixed : ℕ
 fixed = 1
 
@@ -37,7 +37,7 @@ offset = 64
 abbrev pub area : ℕ
 area = 128
 
--- AUTOMATIC, a storage class as the three behind it
+-- AUTOMATIC, a storage class as the three after it
 abbrev pub automatic : ℕ
 automatic = 256
 
@@ -53,7 +53,7 @@ based = 1024
 abbrev pub controlled : ℕ
 controlled = 2048
 
--- INTERNAL, a scope as the one behind it
+-- INTERNAL, a scope as the one after it
 abbrev pub internal : ℕ
 internal = 4096
 

@@ -32,7 +32,7 @@ use pli_base::{Code, Failure};
 use pli_map::{Bounds, Description, ParameterType, array_of, size};
 use std::alloc::{AllocError, Global};
 
-/// Why there is nothing to which an item's attributes are completed: its least fault, or want of memory.
+/// Why there is nothing to which an item's attributes are completed: its least fault, or that memory was refused.
 pub type AttributeError = Failure<Code>;
 
 /// The storage class: AUTOMATIC by default; EXTERNAL implies STATIC unless CONTROLLED stands.

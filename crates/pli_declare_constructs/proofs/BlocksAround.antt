@@ -162,8 +162,8 @@ module _ (rs : List Region) (n : ℕ) where
   pub next_before : (outer : Option ℕ) (o : ℕ) → outer ≡ Some o → o < n → next rs n outer ≡ innermost rs o
   next_before outer o e lt = ap (next rs n) e ∙ ap (λ (b : Bool). if b then innermost rs o else None) (lt-ltb o n lt)
 
-  pub next_behind : (outer : Option ℕ) (o : ℕ) → outer ≡ Some o → n ≤ o → next rs n outer ≡ None
-  next_behind outer o e le = ap (next rs n) e ∙ ap (λ (b : Bool). if b then innermost rs o else None) (le-ltb o n le)
+  pub next_after : (outer : Option ℕ) (o : ℕ) → outer ≡ Some o → n ≤ o → next rs n outer ≡ None
+  next_after outer o e le = ap (next rs n) e ∙ ap (λ (b : Bool). if b then innermost rs o else None) (le-ltb o n le)
 
   pub next_none : (outer : Option ℕ) → outer ≡ None → next rs n outer ≡ None
   next_none outer e = ap (next rs n) e

@@ -6,8 +6,8 @@ use Rattle.pli_declare_outline.specs.Outlines.{Region}
 use Rattle.pli_declare_outline.specs.declared.region.RegionKind.{RegionKind}
 use Rattle.pli_declare_outline.specs.declared.region.RegionKind.TheVariants as kinds
 use Rattle.pli_declare_constructs.specs.Regions.{round_of, rounds_after, outside, is_block, kind_at, innermost, block_of, first_or_unit}
-use Rattle.pli_declare_constructs.specs.Reach.{is_group, is_unit, encloses, in_front_of, is_unit_of, unit_between, reaches}
-use Rattle.pli_declare_constructs.specs.answers.ReachSteps.{left_unit, reaches_through}
+use Rattle.pli_declare_constructs.specs.Reach.{is_group, is_on_unit, encloses, in_front_of, is_on_unit_of, on_unit_between, reaches}
+use Rattle.pli_declare_constructs.specs.answers.ReachSteps.{left_on_unit, reaches_through}
 use Rattle.pli_declare_constructs.proofs.RegionsAround.{before, round_step, round_past}
 use Rattle.pli_declare_constructs.proofs.BlocksAround.{finds, next, innermost_step}
 
@@ -65,7 +65,7 @@ near (Some b) n h = h
 abbrev told : List Region → (left : Bool) → List ℕ → (n label : ℕ) → Bool
 told rs left round n label =
     list_any (λ r. r == label) round
-    && not (is_group (kind_at rs label) && ((left && (block_of rs n == block_of rs label)) || list_any (is_unit_of rs label) (in_front_of label round)))
+    && not (is_group (kind_at rs label) && ((left && (block_of rs n == block_of rs label)) || list_any (is_on_unit_of rs label) (in_front_of label round)))
 
 at_label : (left group same : Bool) → same ≡ true → not (left && group) ≡ not (group && ((left && same) || false))
 at_label left group false e = absurd cc
@@ -87,13 +87,13 @@ at_unit false same unit = refl
 -- one region further outwards
 module _ (group left unit enclosed outer_same same : Bool) where
   abbrev Goes : RegionKind → Type 0
-  Goes k = (enclosed && not (group && ((left_unit left k && outer_same) || unit))) ≡ (enclosed && not (group && ((left && same) || ((is_unit k && same) || unit))))
+  Goes k = (enclosed && not (group && ((left_on_unit left k && outer_same) || unit))) ≡ (enclosed && not (group && ((left && same) || ((is_on_unit k && same) || unit))))
 
   goes : (k : RegionKind) → (is_block k ≡ true → enclosed ≡ true → same ≡ false) → (is_block k ≡ false → outer_same ≡ same) → Goes k
   goes kinds.Procedure other alike = at_block group left same unit enclosed (other refl)
   goes kinds.Begin other alike = at_block group left same unit enclosed (other refl)
   goes kinds.Group other alike = ap (λ s. enclosed && not (group && ((left && s) || unit))) (alike refl)
-  goes kinds.Unit other alike =
+  goes kinds.OnUnit other alike =
       ap (λ s. enclosed && not (group && (s || unit))) (alike refl) ∙ ap (λ s. enclosed && not (group && s)) (at_unit left same unit)
 
 module _ (rs : List Region) (label : ℕ) where
@@ -113,7 +113,7 @@ module _ (rs : List Region) (label : ℕ) where
     where
       last : (b : Bool) → (n == label) ≡ b
           → (if b then not (left && is_group (kind_at rs n)) else false)
-          ≡ ((b || false) && not (is_group (kind_at rs label) && ((left && (block_of rs n == block_of rs label)) || list_any (is_unit_of rs label) (if b then [] else n ∷ []))))
+          ≡ ((b || false) && not (is_group (kind_at rs label) && ((left && (block_of rs n == block_of rs label)) || list_any (is_on_unit_of rs label) (if b then [] else n ∷ []))))
       last true t =
           let same : n ≡ label = eqb-true n label t in
           ap (λ k. not (left && is_group (kind_at rs k))) same
@@ -121,15 +121,15 @@ module _ (rs : List Region) (label : ℕ) where
       last false t = refl
 
       here : (o : ℕ) → n < length rs → o < n → (is_block (kind_at rs n) ≡ false → innermost rs n ≡ innermost rs o) → (b : Bool) → (n == label) ≡ b
-          → (if b then not (left && is_group (kind_at rs n)) else reaches_through rs (left_unit left (kind_at rs n)) (round_of rs o) label)
-          ≡ ((b || encloses rs o label) && not (is_group (kind_at rs label) && ((left && (block_of rs n == block_of rs label)) || list_any (is_unit_of rs label) (if b then [] else n ∷ in_front_of label (round_of rs o)))))
+          → (if b then not (left && is_group (kind_at rs n)) else reaches_through rs (left_on_unit left (kind_at rs n)) (round_of rs o) label)
+          ≡ ((b || encloses rs o label) && not (is_group (kind_at rs label) && ((left && (block_of rs n == block_of rs label)) || list_any (is_on_unit_of rs label) (if b then [] else n ∷ in_front_of label (round_of rs o)))))
       here o is less i true t =
           let same : n ≡ label = eqb-true n label t in
           ap (λ k. not (left && is_group (kind_at rs k))) same
           ∙ at_label left (is_group (kind_at rs label)) (block_of rs n == block_of rs label) (eq-eqb (block_of rs n) (block_of rs label) (ap (block_of rs) same))
       here o is less i false t =
-          inner o less (left_unit left (kind_at rs n))
-          ∙ goes (is_group (kind_at rs label)) left (unit_between rs o label) (encloses rs o label) (block_of rs o == block_of rs label) (block_of rs n == block_of rs label)
+          inner o less (left_on_unit left (kind_at rs n))
+          ∙ goes (is_group (kind_at rs label)) left (on_unit_between rs o label) (encloses rs o label) (block_of rs o == block_of rs label) (block_of rs n == block_of rs label)
           (kind_at rs n) (other_block n o is less) (λ f. ap (λ b. first_or_unit b == block_of rs label) (sym (i f)))
 
       way : n < length rs → Outwards rs n → Tells left (round_of rs n) n

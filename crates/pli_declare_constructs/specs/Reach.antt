@@ -13,14 +13,14 @@ abbrev pub is_group : RegionKind → Bool
 is_group kinds.Procedure = false
 is_group kinds.Begin = false
 is_group kinds.Group = true
-is_group kinds.Unit = false
+is_group kinds.OnUnit = false
 
 -- an ON-unit
-abbrev pub is_unit : RegionKind → Bool
-is_unit kinds.Procedure = false
-is_unit kinds.Begin = false
-is_unit kinds.Group = false
-is_unit kinds.Unit = true
+abbrev pub is_on_unit : RegionKind → Bool
+is_on_unit kinds.Procedure = false
+is_on_unit kinds.Begin = false
+is_on_unit kinds.Group = false
+is_on_unit kinds.OnUnit = true
 
 -- the list of one region encloses what stands in another
 abbrev pub encloses : List Region → (from label : ℕ) → Bool
@@ -32,15 +32,16 @@ in_front_of label [] = []
 in_front_of label (r ∷ rs) = if r == label then [] else r ∷ in_front_of label rs
 
 -- an ON-unit of the block in which the label stands
-abbrev pub is_unit_of : List Region → (label : ℕ) → ℕ → Bool
-is_unit_of regions label r = is_unit (kind_at regions r) && block_of regions r == block_of regions label
+abbrev pub is_on_unit_of : List Region → (label : ℕ) → ℕ → Bool
+is_on_unit_of regions label r = is_on_unit (kind_at regions r) && block_of regions r == block_of regions label
 
 -- such an ON-unit stands between
-abbrev pub unit_between : List Region → (from label : ℕ) → Bool
-unit_between regions from label =
-    list_any (is_unit_of regions label) (in_front_of label (round_of regions from))
+abbrev pub on_unit_between : List Region → (from label : ℕ) → Bool
+on_unit_between regions from label =
+    list_any (is_on_unit_of regions label) (in_front_of label (round_of regions from))
 
 -- from a region to a label of the list of another
 abbrev pub reaches : List Region → (from label : ℕ) → Bool
 reaches regions from label =
-    encloses regions from label && not (is_group (kind_at regions label) && unit_between regions from label)
+    encloses regions from label
+    && not (is_group (kind_at regions label) && on_unit_between regions from label)

@@ -10,14 +10,14 @@ abbrev pub is_block : RegionKind → Bool
 is_block kinds.Procedure = true
 is_block kinds.Begin = true
 is_block kinds.Group = false
-is_block kinds.Unit = false
+is_block kinds.OnUnit = false
 
 -- the regions round what stands in this one, if it stands in any, the innermost first
 abbrev pub round : List (List ℕ) → Option ℕ → List ℕ
 round rounds None = []
 round rounds (Some outer) = get_or rounds outer []
 
--- the regions round each of these, behind those of earlier ones
+-- the regions round each of these, after those of earlier ones
 abbrev pub rounds_after : List (List ℕ) → List Region → List (List ℕ)
 rounds_after rounds [] = rounds
 rounds_after rounds (r ∷ rs) = rounds_after (rounds ++ (length rounds ∷ round rounds r.outer) ∷ []) rs

@@ -2,7 +2,7 @@
 ghost use Rattle.std.specs.Prelude.{◌≡◌};
 ghost use Rattle.pli_declare_constructs.specs.Regions.{is_block};
 ghost use Rattle.pli_declare_constructs.specs.Reach.{is_group};
-ghost use Rattle.pli_declare_constructs.specs.answers.ReachSteps.{left_unit};
+ghost use Rattle.pli_declare_constructs.specs.answers.ReachSteps.{left_on_unit};
 
 use pli_declare_outline::RegionKind;
 
@@ -12,7 +12,7 @@ pub(crate) fn is_block(kind: RegionKind) -> bool
 {
     match kind {
         RegionKind::Procedure | RegionKind::Begin => true,
-        RegionKind::Group | RegionKind::Unit => false,
+        RegionKind::Group | RegionKind::OnUnit => false,
     }
 }
 
@@ -22,17 +22,17 @@ pub(crate) fn is_group(kind: RegionKind) -> bool
 {
     match kind {
         RegionKind::Group => true,
-        RegionKind::Procedure | RegionKind::Begin | RegionKind::Unit => false,
+        RegionKind::Procedure | RegionKind::Begin | RegionKind::OnUnit => false,
     }
 }
 
 /// Whether an ON-unit of the block was left, when a region of this kind is left too.
-pub(crate) fn left_unit(left: bool, kind: RegionKind) -> bool
-    ensures { result ≡ left_unit left kind }
+pub(crate) fn left_on_unit(left: bool, kind: RegionKind) -> bool
+    ensures { result ≡ left_on_unit left kind }
 {
     match kind {
         RegionKind::Procedure | RegionKind::Begin => false,
         RegionKind::Group => left,
-        RegionKind::Unit => true,
+        RegionKind::OnUnit => true,
     }
 }

@@ -5,7 +5,7 @@ ghost use Rattle.pli_declare_constructs.specs.answers.Kept.{HasInnermost};
 ghost use Rattle.pli_declare_constructs.specs.Regions.{innermost, blocks_round, blocks_from};
 ghost use Rattle.pli_declare_constructs.specs.Reach.{reaches};
 
-use crate::kind::{is_block, is_group, left_unit};
+use crate::kind::{is_block, is_group, left_on_unit};
 use pli_declare_outline::Region;
 use std::alloc::{AllocError, Global};
 use std::marker::Model;
@@ -103,7 +103,7 @@ impl Nesting {
             if here == label {
                 return !(left && is_group(region.kind));
             }
-            left = left_unit(left, region.kind);
+            left = left_on_unit(left, region.kind);
             match region.outer {
                 Some(outer) if outer < here => here = outer,
                 _ => return false,

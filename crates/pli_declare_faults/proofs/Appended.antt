@@ -1,4 +1,4 @@
--- A loop that puts behind a list what each element of another gives.
+-- A loop that puts after a list what each element of another gives.
 use Rattle.std.proofs.Common.{◌≡◌, ◌++◌, ◌∷◌, [], ◌+◌, ◌<◌, ◌≤◌, ℕ, List, drop, get_or, length, ap, sym, ◌∙◌, append_assoc, append-nil}
 use Rattle.std.proofs.lemmas.List.{at_drop_all, at_drop_more}
 

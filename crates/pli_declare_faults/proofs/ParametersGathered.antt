@@ -77,10 +77,10 @@ entered_gathered count marks at heading region lists next changed so_far = by (l
         ∙ none_gathered count marks (record { region = at; mark = Entered heading region }) lists
         (λ b low. headed_elsewhere heading region b (λ d. omega (arith, past, d, ap length so_far, length_of_numbers (gathered marks) 0 count))) so_far
 
--- names behind those of one list
-pub put_behind : {A : Type 0} (lists : List (Vec A Global)) (n : ℕ) (old new : Vec A Global) (names : List A) → n < length lists → old ≡ get_or lists n old → new.items ≡ old.items ++ names
+-- names after those of one list
+pub put_after : {A : Type 0} (lists : List (Vec A Global)) (n : ℕ) (old new : Vec A Global) (names : List A) → n < length lists → old ≡ get_or lists n old → new.items ≡ old.items ++ names
     → map (λ list. list.items) (set lists n new) ≡ set (map (λ list. list.items) lists) n (get_or (map (λ list. list.items) lists) n [] ++ names)
-put_behind {A} lists n old new names lt read more =
+put_after {A} lists n old new names lt read more =
     let items : Vec A Global → List A = λ list. list.items in
     map-set items lists n new
     ∙ ap (set (map items lists) n) (more ∙ ap (λ ns. ns ++ names) (ap items read ∙ sym (get_or-map items lists n old [] lt)))

@@ -23,7 +23,7 @@ use pli_declare_constructs::Nesting;
 use pli_declare_outline::{Mark, Outline, PlacedMark};
 use std::alloc::{AllocError, Global};
 
-/// The faults of names that have these numbers in a block of these codes, from the first on. Gives the number behind
+/// The faults of names that have these numbers in a block of these codes, from the first on. Gives the number after
 /// them.
 fn tell_names(
     codes: &[Option<Code>],
@@ -43,7 +43,7 @@ fn tell_names(
     Ok(number)
 }
 
-/// The faults of the names of items. Gives the number behind them.
+/// The faults of the names of items. Gives the number after them.
 fn tell_items(
     codes: &[Option<Code>],
     first: usize,
@@ -62,7 +62,7 @@ fn tell_items(
     Ok(number)
 }
 
-/// The faults of the names that a mark declares. Gives the number behind them.
+/// The faults of the names that a mark declares. Gives the number after them.
 fn tell_declared(
     codes: &[Option<Code>],
     first: usize,
@@ -154,7 +154,7 @@ fn tell_used(
 }
 
 /// The marks of an outline but the first.
-pub(crate) fn marks_behind<'a, 'b>(outline: &'a Outline<'b>) -> &'a [PlacedMark<'b>]
+pub(crate) fn marks_after<'a, 'b>(outline: &'a Outline<'b>) -> &'a [PlacedMark<'b>]
     ensures { marks_view result.now ≡ inner_marks (outline_view outline.now).marks }
 {
     let Some((_first, marks)) = outline.marks.split_first() else {
@@ -174,7 +174,7 @@ pub(crate) fn block_of(outline: &Outline, nesting: &Nesting, region: usize) -> u
     }
 }
 
-/// The faults of the marks behind the first, in their order, where codes are those of each name of each block; and what
+/// The faults of the marks after the first, in their order, where codes are those of each name of each block; and what
 /// the names mean that they use.
 pub(crate) fn tell_marks(
     alloc: Global,

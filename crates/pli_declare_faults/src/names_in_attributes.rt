@@ -16,7 +16,7 @@ ghost use Rattle.pli_declare_faults.specs.answers.Walks.{item_goodness, mark_goo
 use crate::known::Known;
 use crate::lists::no_lists;
 use crate::look_up::Looked;
-use crate::marks::{block_of, marks_behind};
+use crate::marks::{block_of, marks_after};
 use crate::uses::add_use;
 use pli_base::declaration::Item;
 use pli_base::syntax::Identifier;
@@ -24,7 +24,7 @@ use pli_declare::{Target, Use};
 use pli_declare_outline::Mark;
 use std::alloc::{AllocError, AllocFailed, Global};
 
-/// The same answer for each of some names, behind others.
+/// The same answer for each of some names, after others.
 fn append_answer(
     answers: &mut Vec<bool>,
     names: &[Identifier],
@@ -48,7 +48,7 @@ fn target_of(first: Option<Looked>) -> Option<Target>
     }
 }
 
-/// The same meaning at each of some names, behind other uses.
+/// The same meaning at each of some names, after other uses.
 fn append_uses(
     uses: &mut Vec<Use>,
     names: &[Identifier],
@@ -155,7 +155,7 @@ impl Known<'_> {
     }
 
     /// For each name of each block whether the names of locators and areas in its attributes are good; and what the
-    /// first area and the first locator mean, at each name, behind others.
+    /// first area and the first locator mean, at each name, after others.
     pub(crate) fn names_in_attributes(
         &self,
         alloc: Global,
@@ -170,7 +170,7 @@ impl Known<'_> {
             OnOk result (locators.new.items ≡ locators.old.items ++ of_marks (locators_at o) (inner_marks o.marks)) }
     {
         let mut all = no_lists(alloc, self.scopes.outline.regions.len() + 1)?;
-        let marks = marks_behind(self.scopes.outline);
+        let marks = marks_after(self.scopes.outline);
         for placed in marks {
             let block = block_of(self.scopes.outline, self.scopes.nesting, placed.region);
             self.append_at(&mut all, block, &placed.mark, areas, locators)?;

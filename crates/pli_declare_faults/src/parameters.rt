@@ -21,7 +21,7 @@ use pli_declare_tables::{Entity, Entry, Tables, owners_stand_before};
 use pli_declare_variables::{Judged, judge};
 use std::alloc::{AllocError, AllocFailed, Global};
 
-/// The names of parameters, behind others.
+/// The names of parameters, after others.
 fn append_names(names: &mut Vec<Name>, parameters: &[Identifier]) -> Result<(), AllocError>
     ensures { OnOk result (names.new.items ≡ names.old.items ++ map (λ i. i.name) parameters.now) }
 {
@@ -31,7 +31,7 @@ fn append_names(names: &mut Vec<Name>, parameters: &[Identifier]) -> Result<(), 
     Ok(())
 }
 
-/// The names of parameters, behind those of their block. A region that is none has no names.
+/// The names of parameters, after those of their block. A region that is none has no names.
 fn append_at(
     all: &mut Vec<Vec<Name>>,
     region: usize,

@@ -27,7 +27,8 @@ use pli_declare_tables::{Tables, owners_stand_before};
 use pli_declare_variables::{Declaration, declare};
 use std::alloc::{AllocError, Global};
 
-/// Why there is no resolved unit: all faults of declarations and uses, in the order of their tokens, or want of memory.
+/// Why there is no resolved unit: all faults of declarations and uses, in the order of their tokens, or that memory was
+/// refused.
 pub type ResolveError = Failure<Vec<Fault>>;
 
 /// What a region declares, where no declaration has a fault.

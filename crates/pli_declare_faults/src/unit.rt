@@ -36,7 +36,7 @@ fn codes_of_blocks(
     Ok(codes)
 }
 
-/// The least code of each name of each block; and what the areas and the locators in attributes mean, behind others.
+/// The least code of each name of each block; and what the areas and the locators in attributes mean, after others.
 fn codes_of(
     alloc: Global,
     scopes: &Scopes,
@@ -88,7 +88,7 @@ fn tell_unit(
 }
 
 /// The faults of the marks of an outline, what the names mean that they use, and what the areas and the locators in the
-/// attributes of declared names mean, each behind others.
+/// attributes of declared names mean, each after others.
 fn tell_outline(
     alloc: Global,
     scopes: &Scopes,

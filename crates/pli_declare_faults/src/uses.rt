@@ -136,7 +136,7 @@ pub(crate) fn jump(scopes: &Scopes, here: usize, label: Name) -> Used
     }
 }
 
-/// What the name at a token means, if it means anything, behind other uses.
+/// What the name at a token means, if it means anything, after other uses.
 pub(crate) fn add_use(
     uses: &mut Vec<Use>,
     at: u32,

@@ -7,11 +7,11 @@ use Rattle.pli_base.specs.declared.syntax.Identifier.{Identifier}
 use Rattle.pli_base.specs.declared.syntax.Reference.{Reference, out-Reference}
 use Rattle.pli_declare_outline.specs.Outlines.{Mark, Used, PlacedMark, placed, member_names, reference_marks, argument_marks, joined_marks}
 
--- marks put behind others
+-- marks put after others
 pub placed_more : (here : ℕ) (before : List PlacedMark) (xs ys : List Mark) → (before ++ placed here xs) ++ placed here ys ≡ before ++ placed here (xs ++ ys)
 placed_more here before xs ys = append_assoc before (placed here xs) (placed here ys) ∙ ap (λ zs. before ++ zs) (sym (map-append (λ m. record { region = here; mark = m }) xs ys))
 
--- a reference: its names, what stands in parentheses behind the first, and what is joined to it
+-- a reference: its names, what stands in parentheses after the first, and what is joined to it
 pub reference_marked : (here : ℕ) (r : Reference) (names : List Identifier) (before named given all : List PlacedMark)
     → names ≡ (out-Reference r).first.name ∷ member_names (joined_view (out-Reference r).joined.items)
     → named ≡ before ++ placed here (Used names ∷ [])

@@ -1,4 +1,4 @@
--- What walks over statements put, one behind another.
+-- What walks over statements put, one after another.
 use Rattle.std.proofs.Common.{◌≡◌, ℕ, ◌+◌, length, List, [], ◌∷◌, ◌++◌, ap, ◌∙◌, sym, subst, append_assoc, append-nil, arith, length-append}
 use Rattle.std.proofs.lemmas.List.{map-append}
 use Rattle.pli_base.specs.Statements as tree
@@ -89,7 +89,7 @@ none_walked here regions marks ss e =
     (statements_marks here (length regions) (statements_view x)) (regions_among (statements_view x))) (sym e)
     (nothing_walked regions marks)
 
--- a statement, and then those behind it
+-- a statement, and then those after it
 pub statements_then : (here : ℕ) (s : Statement) (all more : List Statement)
     (regions given regions' : List Region) (marks between marks' : List PlacedMark)
     → all ≡ s ∷ more
@@ -114,7 +114,7 @@ pub data IsRegion : RegionKind → tree.Statements → tree.Body → Type 0 wher
       → IsRegion kinds.Group statements (tree.Do control statements end)
 
 -- its own marks, and then the walk in it
-region_behind : (here : ℕ) (kind : RegionKind) (inner : tree.Statements) (b : tree.Body)
+region_after : (here : ℕ) (kind : RegionKind) (inner : tree.Statements) (b : tree.Body)
     (regions regions' : List Region) (marks between marks' : List PlacedMark)
     → IsRegion kind inner b
     → marks_view between ≡ marks_view marks ++ placed here (own_marks (length regions) b)
@@ -123,11 +123,11 @@ region_behind : (here : ℕ) (kind : RegionKind) (inner : tree.Statements) (b : 
     (statements_marks (length regions) (length regions + 1) inner) (1 + regions_among inner)
     → Walked regions regions' marks marks' (body_regions here (length regions) b) (body_marks here (length regions) b)
     (regions_of b)
-region_behind here kind inner b regions regions' marks between marks' (procedure heading statements end) own w =
+region_after here kind inner b regions regions' marks between marks' (procedure heading statements end) own w =
     marks_then here (own_marks (length regions) (tree.Procedure heading statements end)) regions regions' marks between marks' _ _ _ own w
-region_behind here kind inner b regions regions' marks between marks' (block statements end) own w =
+region_after here kind inner b regions regions' marks between marks' (block statements end) own w =
     marks_then here [] regions regions' marks between marks' _ _ _ own w
-region_behind here kind inner b regions regions' marks between marks' (group control statements end) own w =
+region_after here kind inner b regions regions' marks between marks' (group control statements end) own w =
     marks_then here (own_marks (length regions) (tree.Do control statements end)) regions regions' marks between marks' _ _ _ own w
 
 -- the same of a statement and a list that are known by equations
@@ -146,7 +146,7 @@ pub region_walked : (here number : ℕ) (kind : RegionKind) (inner given : tree.
 region_walked here number kind inner given b b' regions regions' marks between marks' i e s n h w =
     subst (λ x. Walked regions regions' marks marks' (body_regions here (length regions) x)
     (body_marks here (length regions) x) (regions_of x)) (sym e)
-    (region_behind here kind inner b regions regions' marks between marks' i
+    (region_after here kind inner b regions regions' marks between marks' i
     (h ∙ ap (λ m. marks_view marks ++ placed here (own_marks m b')) n
     ∙ ap (λ x. marks_view marks ++ placed here (own_marks (length regions) x)) e)
     (subst (λ x. Walked regions regions' between marks'
@@ -180,7 +180,7 @@ pub unit_walked : (here number : ℕ) (condition : Condition) (part : tree.State
     → b ≡ tree.On condition part
     → marks_view own ≡ marks_view marks ++ placed here (own_marks number b)
     → Walked regions regions' own marks'
-    (region_in kinds.Unit here ∷ statement_regions (length regions) (length regions + 1) part)
+    (region_in kinds.OnUnit here ∷ statement_regions (length regions) (length regions + 1) part)
     (statement_marks (length regions) (length regions + 1) part) (1 + regions_in part)
     → Walked regions regions' marks marks' (body_regions here (length regions) b)
     (body_marks here (length regions) b) (regions_of b)

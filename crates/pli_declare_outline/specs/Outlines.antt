@@ -54,7 +54,7 @@ abbrev mutual
   reference_marks (Named name arguments more) =
       Used (name ∷ member_names more) ∷ argument_marks arguments ++ joined_marks more
 
-  -- a name behind `->` begins another reference
+  -- a name after `->` begins another reference
   pub joined_marks : JoinedParts → List Mark
   joined_marks Alone = []
   joined_marks (Joined Member name arguments more) = argument_marks arguments ++ joined_marks more
@@ -175,7 +175,7 @@ abbrev mutual
       statement_regions here next consequence
       ++ alternative_regions here (next + regions_in consequence) alternative
   body_regions here next (body.On condition unit) =
-      region_in kinds.Unit here ∷ statement_regions next (next + 1) unit
+      region_in kinds.OnUnit here ∷ statement_regions next (next + 1) unit
   body_regions here next other = []
 
   -- the regions of each statement of a list, numbered on
@@ -196,7 +196,7 @@ abbrev mutual
   statement_marks here next (Numbered number label at body) =
       placed here (label_marks label body) ++ body_marks here next body
 
-  -- the marks of a statement behind its label
+  -- the marks of a statement after its label
   pub body_marks : (here next : ℕ) → Body → List PlacedMark
   body_marks here next (body.Procedure heading statements end) =
       placed here (Entered heading next ∷ []) ++ statements_marks next (next + 1) statements

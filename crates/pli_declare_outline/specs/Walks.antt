@@ -1,4 +1,4 @@
--- What a walk over statements puts behind the regions and marks that are there.
+-- What a walk over statements puts after the regions and marks that are there.
 use Rattle.std.specs.Prelude.{◌≡◌, ℕ, ◌+◌, length, List, [], ◌∷◌, ◌++◌}
 use Rattle.pli_base.specs.Statements as body
 use Rattle.pli_declare_outline.specs.Outlines as plain
@@ -7,7 +7,7 @@ use Rattle.pli_declare_outline.specs.views.OutlineView.{regions_view, marks_view
 use Rattle.pli_declare_outline.specs.declared.region.Region.{Region}
 use Rattle.pli_declare_outline.specs.declared.region.PlacedMark.{PlacedMark}
 
--- behind these regions and marks stand those, of which there are so many regions more
+-- after these regions and marks stand those, of which there are so many regions more
 pub record Walked (before after : List Region) (before' after' : List PlacedMark)
     (rs : List plain.Region) (ms : List plain.PlacedMark) (many : ℕ) : Type 0 where
   pub regions : regions_view after ≡ regions_view before ++ rs

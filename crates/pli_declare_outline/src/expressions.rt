@@ -81,7 +81,7 @@ fn mark_joined(
     Ok(())
 }
 
-/// The marks of what stands in the parentheses behind a name.
+/// The marks of what stands in the parentheses after a name.
 #[cycle(marked)]
 fn mark_arguments(
     alloc: Global,

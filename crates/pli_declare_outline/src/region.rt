@@ -12,7 +12,7 @@ pub enum RegionKind {
     /// A DO group.
     Group,
     /// The statement of ON.
-    Unit,
+    OnUnit,
 }
 
 /// A region, and the number of the one that it stands in; the external procedure stands in none.

@@ -73,7 +73,7 @@ fn walk_region<'a>(
 
 /// The region of an ON-unit, with the regions and marks of its statement.
 #[cycle(walk)]
-fn walk_unit<'a>(
+fn walk_on_unit<'a>(
     alloc: Global,
     region: Region,
     statement: &'a Statement,
@@ -142,10 +142,10 @@ fn walk_body<'a>(
         }
         Body::On { unit, .. } => {
             let region = Region {
-                kind: RegionKind::Unit,
+                kind: RegionKind::OnUnit,
                 outer: Some(here),
             };
-            walk_unit(alloc, region, unit, regions, marks)
+            walk_on_unit(alloc, region, unit, regions, marks)
         }
         Body::Null
         | Body::Assign { .. }

@@ -81,7 +81,7 @@ skipped_step test named k found false e only rest = by (test k) refl ∙ rest
     by true f = let bad : true ≡ false = sym (only f) ∙ e in cc
     by false f = ap (λ t. found_below test k (if t then with_number k found else found)) f
 
--- numbers behind the last that is named add nothing
+-- numbers after the last that is named add nothing
 pub skipped : (test named : ℕ → Bool) (k : ℕ) (found : Found) → ((j : ℕ) → j < k → test j ≡ true → named j ≡ true)
     → found_below test k found ≡ found_below test (rank (last_below named k)) found
 skipped test named zero found only = refl

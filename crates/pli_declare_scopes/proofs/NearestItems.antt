@@ -7,7 +7,7 @@ use Rattle.pli_declare_scopes.specs.declared.level.ItemStanding.{ItemStanding}
 use Rattle.pli_declare_scopes.specs.declared.level.Numbered.{Numbered}
 use Rattle.pli_declare_scopes.specs.Levels.{level_of, nearest_after, nearest, standing, standings_after}
 
--- one more item behind some
+-- one more item after some
 pub nearest_last : (found : Option ℕ) (level : ℕ) (is : List Numbered) (i : Numbered)
     → nearest_after found level (is ++ i ∷ []) ≡ (if nat_lt i.level level then Some i.number else nearest_after found level is)
 nearest_last found level [] i = refl
@@ -44,7 +44,7 @@ module _ (is : List Numbered) (i : Numbered) (some : 0 < length is) (at : i ≡ 
       ∙ ap (λ b. if b then Some i.number else nearest level (take (length is - 1) is)) test)
 
 module _ (before after : List Numbered) (n level : ℕ) (kept : (m : ℕ) → m ≤ level → nearest m after ≡ nearest m before) where
-  -- one more item behind those that are kept says what it says behind all
+  -- one more item after those that are kept says what it says after all
   pub kept_more : (m : ℕ) → nearest m (after ++ record { number = n; level = level } ∷ []) ≡ nearest m (before ++ record { number = n; level = level } ∷ [])
   kept_more m =
       let i : Numbered = record { number = n; level = level } in

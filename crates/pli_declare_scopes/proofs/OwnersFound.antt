@@ -14,13 +14,13 @@ abbrev pub numbered : ℕ → List ℕ → List Numbered
 numbered n [] = []
 numbered n (l ∷ ls) = record { number = n; level = l } ∷ numbered (n + 1) ls
 
-stands_behind : (ls : List ℕ) (before : List Numbered) (n i : ℕ) (d : ItemStanding) → i < length ls
+stands_after : (ls : List ℕ) (before : List Numbered) (n i : ℕ) (d : ItemStanding) → i < length ls
     → get_or (standings_after before n ls) i d ≡ standing (get_or ls i 0) (nearest (get_or ls i 0) (before ++ numbered n (take i ls)))
-stands_behind [] before n i d lt = absurd (omega arith)
-stands_behind (l ∷ ls) before n zero d lt = ap (λ is. standing l (nearest l is)) (sym (append-nil before))
-stands_behind (l ∷ ls) before n (suc i) d lt =
+stands_after [] before n i d lt = absurd (omega arith)
+stands_after (l ∷ ls) before n zero d lt = ap (λ is. standing l (nearest l is)) (sym (append-nil before))
+stands_after (l ∷ ls) before n (suc i) d lt =
     let x : Numbered = record { number = n; level = l } in
-    stands_behind ls (before ++ x ∷ []) (n + 1) i d (omega arith)
+    stands_after ls (before ++ x ∷ []) (n + 1) i d (omega arith)
     ∙ ap (λ is. standing (get_or ls i 0) (nearest (get_or ls i 0) is)) (append_assoc before (x ∷ []) (numbered (n + 1) (take i ls)))
 
 -- none of the levels is lesser
@@ -44,8 +44,8 @@ last_here level q qs lt rest = record { within = omega arith; lesser = lt; after
     by zero a b = absurd (omega arith)
     by (suc k) a b = rest k (omega arith)
 
-last_behind : (level q : ℕ) (qs : List ℕ) (j : ℕ) → LastLesser level qs j → LastLesser level (q ∷ qs) (suc j)
-last_behind level q qs j h = record { within = omega arith; lesser = h.lesser; after = by }
+last_after : (level q : ℕ) (qs : List ℕ) (j : ℕ) → LastLesser level qs j → LastLesser level (q ∷ qs) (suc j)
+last_after level q qs j h = record { within = omega arith; lesser = h.lesser; after = by }
   where
     by : (k : ℕ) → suc j < k → k < length (q ∷ qs) → level ≤ get_or (q ∷ qs) k 0
     by zero a b = absurd (omega arith)
@@ -60,13 +60,13 @@ near_more q qs found level n true e rest =
     let same : nearest_after found level (numbered n (q ∷ qs)) ≡ nearest_after (Some n) level (numbered (n + 1) qs) = ap (λ b. nearest_after (if b then Some n else found) level (numbered (n + 1) qs)) e in
     elim rest [
       | inl h ↦ inr (0, same ∙ h.0 ∙ ap (λ (m : ℕ). Some m) (omega arith), last_here level q qs (search (rules, nat_tests)) h.1)
-      | inr h ↦ inr (suc h.0, same ∙ h.1 ∙ ap (λ (m : ℕ). Some m) (omega arith), last_behind level q qs h.0 h.2)
+      | inr h ↦ inr (suc h.0, same ∙ h.1 ∙ ap (λ (m : ℕ). Some m) (omega arith), last_after level q qs h.0 h.2)
     ]
 near_more q qs found level n false e rest =
     let same : nearest_after found level (numbered n (q ∷ qs)) ≡ nearest_after found level (numbered (n + 1) qs) = ap (λ b. nearest_after (if b then Some n else found) level (numbered (n + 1) qs)) e in
     elim rest [
       | inl h ↦ inl (same ∙ h.0, none_more level q qs (search (rules, nat_tests)) h.1)
-      | inr h ↦ inr (suc h.0, same ∙ h.1 ∙ ap (λ (m : ℕ). Some m) (omega arith), last_behind level q qs h.0 h.2)
+      | inr h ↦ inr (suc h.0, same ∙ h.1 ∙ ap (λ (m : ℕ). Some m) (omega arith), last_after level q qs h.0 h.2)
     ]
 
 near : (qs : List ℕ) (found : Option ℕ) (level n : ℕ) → Near found level n qs
@@ -91,7 +91,7 @@ module _ (levels : List (Option ℕ)) (n : ℕ) (lt : n < length levels) where
 
   pub stands : stands_at levels n ≡ standing (level_at levels n) found
   stands =
-      stands_behind (map level_of levels) [] 0 n (standing 1 None) long
+      stands_after (map level_of levels) [] 0 n (standing 1 None) long
       ∙ ap (λ q. standing q (nearest q (numbered 0 (take n (map level_of levels))))) here
 
   abbrev level : ℕ

@@ -1,4 +1,4 @@
--- Two names of a reference, one behind the other, above an item.
+-- Two names of a reference, one after the other, above an item.
 use Rattle.std.proofs.Common.{◌≡◌, ℕ, zero, suc, ◌+◌, ◌-◌, ◌<◌, ◌≤◌, inl, inr, Bool, true, false, nat_lt, ◌&&◌, List, [], ◌∷◌, ◌++◌, length, get_or, take, Option, None, Some, IfSome, refl, sym, ap, subst, ◌∙◌, arith}
 use Rattle.std.specs.Prelude.{reverse}
 use Rattle.std.proofs.lemmas.Bool.Decides.{nat_tests}
@@ -36,7 +36,7 @@ part_front (x ∷ xs) (y ∷ ys) zs h = elim h [
   | inr p ↦ inr (part_front (x ∷ xs) ys zs p)
 ]
 
--- a name among some, and one behind them
+-- a name among some, and one after them
 then_last : (y x : Name) (ys : List Name) → IsAmong y ys → IsPart (y ∷ x ∷ []) (ys ++ x ∷ [])
 then_last y x [] h = absurd h
 then_last y x (z ∷ zs) h = elim h [
@@ -48,7 +48,7 @@ then_last y x (z ∷ zs) h = elim h [
     at_end [] = inl (refl, tt)
     at_end (w ∷ ws) = inr (at_end ws)
 
--- two names one behind the other stand the other way round among names that are read backwards
+-- two names one after the other stand the other way round among names that are read backwards
 turned_pair : (names : List Name) (k : ℕ) → suc k < length names → IsPart (get_or names (suc k) [] ∷ get_or names k [] ∷ []) (reverse names)
 turned_pair [] k lt = absurd (omega arith)
 turned_pair (n ∷ ns) zero lt =

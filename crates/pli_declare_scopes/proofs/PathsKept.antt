@@ -52,10 +52,10 @@ spells_one steps (Some p) (n ∷ ns) (m ∷ ms) g h =
     ap (λ x. x ∷ ns) (sym g.1 ∙ h.1) ∙ ap (λ xs. m ∷ xs) (spells_one steps (step_at steps p).above ns ms g.2 h.2)
 
 -- some of the last names of a chain are spelled too
-pub spells_behind : (steps : List Step) (at : Option ℕ) (front c : List Name) → Spells steps at (front ++ c) → (q : Option ℕ) × Spells steps q c
-spells_behind steps at [] c h = (at, h)
-spells_behind steps None (n ∷ ns) c h = absurd h
-spells_behind steps (Some p) (n ∷ ns) c h = spells_behind steps (step_at steps p).above ns c h.2
+pub spells_after : (steps : List Step) (at : Option ℕ) (front c : List Name) → Spells steps at (front ++ c) → (q : Option ℕ) × Spells steps q c
+spells_after steps at [] c h = (at, h)
+spells_after steps None (n ∷ ns) c h = absurd h
+spells_after steps (Some p) (n ∷ ns) c h = spells_after steps (step_at steps p).above ns c h.2
 
 -- steps that are compared
 abbrev pub same_step : Step → Step → Bool
@@ -130,7 +130,7 @@ module _ (steps : List Step) (once : (p q : ℕ) → p < length steps → q < le
       ap (λ (k : ℕ). Some k) (once p q g.0 h.0 (same_step_is (step_at steps p) (step_at steps q) (g.1 ∙ sym h.1)
       (spelled_once (step_at steps p).above (step_at steps q).above ns g.2 h.2)))
 
--- more chains stand behind those of the items before
+-- more chains stand after those of the items before
 chains_both : (is js : BlockItems) (chains : List (List Name)) → chains_after chains (is ++ js) ≡ chains_after (chains_after chains is) js
 chains_both [] js chains = refl
 chains_both (i ∷ is) js chains = chains_both is js (chains ++ (i.name ∷ chain_above chains i.owner) ∷ [])
@@ -331,9 +331,9 @@ module _ (items : BlockItems) (owners : OwnersBefore items) (steps : List Step) 
           take_drop (suc n) [] = refl
           take_drop (suc n) (x ∷ xs) = ap (λ ys. x ∷ ys) (take_drop n xs)
 
-      behind : (q : Option ℕ) → Spells steps q (get_or names k d ∷ reverse (take k names)) → ⊥
-      behind None g = absurd g
-      behind (Some r) g =
+      after : (q : Option ℕ) → Spells steps q (get_or names k d ∷ reverse (take k names)) → ⊥
+      after None g = absurd g
+      after (Some r) g =
           missing r g.0 (same_step_is (step_at steps r) (record { name = get_or names k d; above = at }) g.1
           (spelled_once steps kept.once (step_at steps r).above at (reverse (take k names)) g.2 h))
 
@@ -341,6 +341,6 @@ module _ (items : BlockItems) (owners : OwnersBefore items) (steps : List Step) 
       by j within false e = refl
       by j within true e =
           let chain : reverse names ≡ chain_at items j = whole_to (reverse names) (chain_at items j) e in
-          let there = spells_behind steps (Some (get_or paths j 0)) (reverse (drop (k + 1) names)) (get_or names k d ∷ reverse (take k names))
+          let there = spells_after steps (Some (get_or paths j 0)) (reverse (drop (k + 1) names)) (get_or names k d ∷ reverse (take k names))
           (subst (Spells steps (Some (get_or paths j 0))) (sym chain ∙ split) (kept.spelled j within)) in
-          absurd (behind there.0 there.1)
+          absurd (after there.0 there.1)

@@ -221,8 +221,8 @@ module _ (items : BlockItems) (owners : OwnersBefore items) (lasts now : List (O
     (i : Declared) (owned : IfSome i.owner (λ o. o < length items)) (before : Option ℕ)
     (link : i.counts ≡ true → before ≡ last_below (is_named items i.name) (length items))
     (within : IfSome before (λ b. b < length items))
-    (is_behind : Bool) (closed : AreClosed items lasts i.owner now is_behind)
-    (was : then_ordered ≡ true → is_ordered ≡ true) (behind : then_ordered ≡ true → is_behind ≡ true)
+    (is_after : Bool) (closed : AreClosed items lasts i.owner now is_after)
+    (was : then_ordered ≡ true → is_ordered ≡ true) (beyond : then_ordered ≡ true → is_after ≡ true)
     (counting : then_ordered ≡ true → i.counts ≡ true → IfSome i.owner (λ o. (item_at items o).counts ≡ true))
     (later_owners : OwnersBefore (items ++ i ∷ [])) where
   abbrev top : ℕ
@@ -265,7 +265,7 @@ module _ (items : BlockItems) (owners : OwnersBefore items) (lasts now : List (O
           let up = climbs_last items i owners owned k above c in
           let there : up.0 < length items = subst (λ o. IfSome o (λ m. m < length items)) up.1 owned in
           let no_later : above ≤ up.0 = climbs_back items owners k above up.0 there up.2 in
-          let inside = subst (λ o. IfSome o (λ m. (last : ℕ) → suc last ≡ length items → IsWithin items m last)) up.1 (closed.within (behind e)) in
+          let inside = subst (λ o. IfSome o (λ m. (last : ℕ) → suc last ≡ length items → IsWithin items m last)) up.1 (closed.within (beyond e)) in
           let on = inside (length items - 1) (omega (arith, there)) in
           let old = kept.still (was e) (length items - 1) above n (omega (arith, there)) (climbs_through items k on.0 above up.0 (length items - 1) up.2 on.1) counts named le short in
           let same : last_of now (get_or tops n 0) ≡ last_of lasts (get_or tops n 0) =
@@ -399,7 +399,7 @@ module _ (items : BlockItems) (owners : OwnersBefore items) (lasts now : List (O
           let up = climbs_last items i owners owned k above c in
           let there : up.0 < length items = subst (λ o. IfSome o (λ m. m < length items)) up.1 owned in
           let no_later : above ≤ up.0 = climbs_back items owners k above up.0 there up.2 in
-          let inside = subst (λ o. IfSome o (λ m. (last : ℕ) → suc last ≡ length items → IsWithin items m last)) up.1 (closed.within (behind e)) in
+          let inside = subst (λ o. IfSome o (λ m. (last : ℕ) → suc last ≡ length items → IsWithin items m last)) up.1 (closed.within (beyond e)) in
           let on = inside (length items - 1) (omega (arith, there)) in
           last_front above (omega (arith, there, no_later))
           ∙ subst (λ o. IfSome o (λ m. (j : ℕ) → j ≤ m → last_of now j ≡ last_of lasts j)) up.1 closed.kept above no_later
@@ -422,7 +422,7 @@ module _ (items : BlockItems) (owners : OwnersBefore items) (lasts now : List (O
       untaken f = let bad : Some end ≡ None = sym f ∙ same ∙ none in cc
 
       by : (o : Option ℕ) → i.owner ≡ o → IfSome o (λ m. m < length items)
-          → (is_behind ≡ true → IfSome o (λ m. (last : ℕ) → suc last ≡ length items → IsWithin items m last))
+          → (is_after ≡ true → IfSome o (λ m. (last : ℕ) → suc last ≡ length items → IsWithin items m last))
           → ((n last : ℕ) → suc last ≡ length items → IsWithin items n last → IfSome o (λ m. m < n) → last_of now n ≡ Some last)
           → IsWithin later above (length items)
       by None f h within taken = absurd (untaken (taken above end is_end old tt))
@@ -430,7 +430,7 @@ module _ (items : BlockItems) (owners : OwnersBefore items) (lasts now : List (O
         where
           on : above ≤ o → IsWithin later above (length items)
           on short =
-              let holds = within (behind e) end is_end in
+              let holds = within (beyond e) end is_end in
               let up = within_both items owners old.0 holds.0 above o end (omega (arith, is_end)) old.1 holds.1 short in
               (suc up.0, (o, ap (λ (j : Declared). j.owner) (item_last items i) ∙ f, climbs_later items i owners up.0 above o h up.1))
 

@@ -1,4 +1,4 @@
--- What a reference fits is among what the names behind its first fit.
+-- What a reference fits is among what the names after its first fit.
 use Rattle.std.proofs.Common.{◌≡◌, ℕ, zero, suc, ◌-◌, ◌<◌, Bool, true, false, ◌&&◌, List, [], ◌∷◌, ◌++◌, length, get_or, drop, inl, if◌then◌else◌, refl, sym, ap, subst, ◌∙◌, arith}
 use Rattle.std.specs.Prelude.{reverse}
 use Rattle.std.proofs.lemmas.List.{reverse-append, length-reverse}
@@ -88,7 +88,7 @@ module _ (items : BlockItems) (first : Name) (tail : List Name) (some : 0 < leng
   abbrev found : Narrowed (length items) (fits items (first ∷ tail)) (fits items tail) (found_fitting items tail) (found_fitting items (first ∷ tail))
   found = narrowed (fits items (first ∷ tail)) (fits items tail) (tail_fits items first tail some) (length items)
 
-  -- where nothing fits the names behind the first, nothing fits all
+  -- where nothing fits the names after the first, nothing fits all
   pub none_by_tail : found_fitting items tail ≡ Nothing → found_fitting items (first ∷ tail) ≡ Nothing
   none_by_tail = found.none
 

@@ -27,7 +27,7 @@ counts_above verdicts (Some n) = is_counting (get_or verdicts n Beneath)
 abbrev pub judged : (counts_above is_repeated : Bool) → Verdict
 judged above repeated = if above then (if repeated then Twice else Counts) else Beneath
 
--- what becomes of items behind others
+-- what becomes of items after others
 abbrev pub verdicts_after : List Written → List Verdict → List Written → List Verdict
 verdicts_after before verdicts [] = verdicts
 verdicts_after before verdicts (i ∷ is) =

@@ -53,12 +53,12 @@ pub struct BlockItems {
     lasts: Vec<Option<usize>>,
     /// The outermost item of its name that each item is within.
     tops: Vec<usize>,
-    /// Whether all items stand in order: each behind what its owner has so far, and one that counts within one that
+    /// Whether all items stand in order: each after what its owner has so far, and one that counts within one that
     /// counts.
     is_ordered: bool,
     /// What the names of references were found to fit, among all these items.
     remembered: IndexMap<Vec<Name>, Found>,
-    /// What items the names behind the first of a reference were found to qualify, in part or fully.
+    /// What items the names after the first of a reference were found to qualify, in part or fully.
     tails: IndexMap<Vec<Name>, Found>,
 }
 
@@ -450,7 +450,7 @@ impl BlockItems {
         Some(self.found_with(names, number))
     }
 
-    /// What items the names behind the first of a reference qualify, in part or fully. They are searched for once.
+    /// What items the names after the first of a reference qualify, in part or fully. They are searched for once.
     fn found_of_tail(&mut self, alloc: Global, tail: &[Name]) -> Result<Found, AllocError>
         ensures kept { self.new ≡ self.old }
         ensures found { IfOk result (λ found. found ≡ found_fitting self.old tail.now) }
@@ -464,7 +464,7 @@ impl BlockItems {
         Ok(found)
     }
 
-    /// The item that alone fits the names behind the first of a reference, if it fits all of them.
+    /// The item that alone fits the names after the first of a reference, if it fits all of them.
     fn found_alone(&self, names: &[Name], number: usize) -> Found
         requires some { 1 < length names.now }
         requires within { number < length self.now }
@@ -480,7 +480,7 @@ impl BlockItems {
     }
 
     /// What items a reference of three names or more qualifies, in part or fully. It qualifies none that the names
-    /// behind the first don't.
+    /// after the first don't.
     fn found_by_tail(&mut self, alloc: Global, names: &[Name]) -> Result<Found, AllocError>
         ensures kept { self.new ≡ self.old }
         ensures found { IfOk result (λ found. found ≡ found_fitting self.old names.now) }
@@ -498,7 +498,7 @@ impl BlockItems {
         }
     }
 
-    /// What items fit the names of a reference, searched for by the names behind its first: one that they qualify fully
+    /// What items fit the names of a reference, searched for by the names after its first: one that they qualify fully
     /// is preferred.
     fn searched_by_tail(&mut self, alloc: Global, names: &[Name]) -> Result<Found, AllocError>
         ensures kept { self.new ≡ self.old }

@@ -21,7 +21,7 @@ pub struct ItemStanding {
 }
 
 /// How an item of this level stands, where this is the nearest before it with a lesser level.
-fn standing_behind(level: u64, nearest: Option<usize>) -> ItemStanding
+fn standing_after(level: u64, nearest: Option<usize>) -> ItemStanding
     ensures { result ≡ standing level nearest }
 {
     ItemStanding {
@@ -55,7 +55,7 @@ pub fn standings(alloc: Global, levels: &[Option<u64>]) -> Result<Vec<ItemStandi
     for (number, written) in levels.iter().enumerate() {
         let level = written.unwrap_or(1);
         let nearest = nearest_among(&mut before, level);
-        standings.push(standing_behind(level, nearest))?;
+        standings.push(standing_after(level, nearest))?;
         before.push(Numbered { number, level })?;
     }
     Ok(standings)

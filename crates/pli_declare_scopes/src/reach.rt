@@ -12,7 +12,7 @@ use crate::room::push_within;
 
 /// Whether a number is no greater than that of an owner, if there is one.
 fn is_up_to(number: usize, owner: Option<usize>) -> bool
-    ensures behind { result ≡ false → IfSome owner (λ o. o < number) }
+    ensures after { result ≡ false → IfSome owner (λ o. o < number) }
     ensures up_to { result ≡ true → number < rank owner }
 {
     match owner {
@@ -40,12 +40,12 @@ fn close(items: &[Declared], lasts: &mut Vec<Option<usize>>, owner: Option<usize
     owner.is_none()
 }
 
-/// Whether items still stand in order with one more: they did so far, it stands behind what its owner has so far, and
+/// Whether items still stand in order with one more: they did so far, it stands after what its owner has so far, and
 /// where it counts its owner does.
-fn is_in_order(items: &[Declared], item: &Declared, is_ordered: bool, is_behind: bool) -> bool
+fn is_in_order(items: &[Declared], item: &Declared, is_ordered: bool, is_after: bool) -> bool
     requires { IfSome item.now.owner (λ o. o < length items.now) }
     ensures so_far { result ≡ true → is_ordered ≡ true }
-    ensures behind { result ≡ true → is_behind ≡ true }
+    ensures after { result ≡ true → is_after ≡ true }
     ensures counted { result ≡ true → item.now.counts ≡ true →
         IfSome item.now.owner (λ o. (item_at items.now o).counts ≡ true) }
 {
@@ -53,7 +53,7 @@ fn is_in_order(items: &[Declared], item: &Declared, is_ordered: bool, is_behind:
         Some(owner) => !item.counts || items[owner].counts,
         None => true,
     };
-    is_ordered && is_behind && counts
+    is_ordered && is_after && counts
 }
 
 /// The outermost item of its name that one is within, which has the item of its name before it.
@@ -88,11 +88,11 @@ pub(crate) fn reach_on(
     requires tops_room { vec_len tops.old < vec_capacity tops.old }
     ensures { AreReaching (items.now ++ item.now ∷ []) lasts.new.items tops.new.items result }
 {
-    let is_behind = close(items, lasts, item.owner);
+    let is_after = close(items, lasts, item.owner);
     let top = outermost(lasts, tops, before, items.len());
     push_within(lasts, None);
     push_within(tops, top);
-    is_in_order(items, item, is_ordered, is_behind)
+    is_in_order(items, item, is_ordered, is_after)
 }
 
 /// Whether an item of some name stands above a place, or there, where this is the last item of that name up to the
@@ -119,7 +119,7 @@ pub(crate) fn stands_above(
     }
 }
 
-/// Whether an item of which this is the last number, if it has one, reaches to a place behind it.
+/// Whether an item of which this is the last number, if it has one, reaches to a place after it.
 pub(crate) fn reaches(last: Option<usize>, place: usize) -> bool
     ensures { result ≡ true → IfSome last (λ l. place ≤ l) }
 {

@@ -47,7 +47,7 @@ fn judge(counts_above: bool, is_new: bool) -> Verdict
     }
 }
 
-/// What becomes of the items of a block, each of which stands behind its owner (own): of two items of one name at level
+/// What becomes of the items of a block, each of which stands after its owner (own): of two items of one name at level
 /// 1, or in one structure, the later one is a fault, and neither it nor its members count.
 pub fn verdicts(alloc: Global, items: &[Written]) -> Result<Vec<Verdict>, AllocError>
     ensures { IfOk result (λ verdicts. verdicts.items ≡ verdicts_of items.now) }

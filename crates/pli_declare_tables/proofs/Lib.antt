@@ -1,4 +1,4 @@
-pub mod ItemsStandBehind
-pub mod MembersStandBehind
+pub mod ItemsStandAfter
+pub mod MembersStandAfter
 pub mod BlocksByMarks
 pub mod TablesOfUnits

@@ -4,13 +4,13 @@ use Rattle.pli_declare_outline.specs.Outlines.{Mark, Declared, Labelled, Entered
 use Rattle.pli_declare_scopes.specs.Repeats.{verdicts_of}
 use Rattle.pli_declare_scopes.specs.Scopes.{BlockItems}
 use Rattle.pli_declare_tables.specs.Tables.{Entry, written, with_verdicts, entries_in, heading_entries, unit_entries, numbers_from, table_with, table_in}
-use Rattle.pli_declare_tables.specs.answers.Answers.{AllBehindOwners}
-use Rattle.pli_declare_tables.proofs.MembersStandBehind.{owners_stand_before}
+use Rattle.pli_declare_tables.specs.answers.Answers.{AllAfterOwners}
+use Rattle.pli_declare_tables.proofs.MembersStandAfter.{owners_stand_before}
 
-pub all_behind : (o : Outline) (first count : ℕ) → AllBehindOwners (map (entries_in o) (numbers_from first count))
-all_behind o first zero n lt = absurd (omega arith)
-all_behind o first (suc count) zero lt = owners_stand_before o first
-all_behind o first (suc count) (suc n) lt = all_behind o (first + 1) count n (omega arith)
+pub all_after : (o : Outline) (first count : ℕ) → AllAfterOwners (map (entries_in o) (numbers_from first count))
+all_after o first zero n lt = absurd (omega arith)
+all_after o first (suc count) zero lt = owners_stand_before o first
+all_after o first (suc count) (suc n) lt = all_after o (first + 1) count n (omega arith)
 
 pub tables_in : (o : Outline) (ns : List ℕ) → map table_with (map (entries_in o) ns) ≡ map (table_in o) ns
 tables_in o [] = refl

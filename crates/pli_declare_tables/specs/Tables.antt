@@ -62,7 +62,7 @@ entries_of base here (Entered heading region) =
 entries_of base here (Used names) = []
 entries_of base here (Jumped label) = []
 
--- what marks declare in a block, behind what it declares before them
+-- what marks declare in a block, after what it declares before them
 abbrev pub entries_after : List Region → (block : ℕ) → List Entry → List PlacedMark → List Entry
 entries_after regions block entries [] = entries
 entries_after regions block entries (p ∷ ps) =
@@ -140,7 +140,7 @@ table_in o block =
     record { entries = entries_in o block; verdicts = verdicts_in o block; block = block_in o block }
 
 -- the tables of all regions, each under its number; those of groups and ON-units are empty, and so is one
--- more behind them unless there is no region
+-- more after them unless there is no region
 abbrev pub all_tables : Outline → List Table
 all_tables o = map (table_in o) (numbers_from 0 (length o.regions + 1))
 

@@ -5,7 +5,7 @@ ghost use Rattle.pli_base.specs.views.DeclarationView.{item_view};
 ghost use Rattle.pli_declare_outline.specs.views.OutlineView.{mark_view};
 ghost use Rattle.pli_declare_tables.specs.Tables.{named, item_entries, declared_entries, entries_of};
 ghost use Rattle.pli_declare_tables.specs.views.TableView.{named_view, entity_view, entries_view};
-ghost use Rattle.pli_declare_tables.specs.answers.Answers.{StandBehindOwners};
+ghost use Rattle.pli_declare_tables.specs.answers.Answers.{StandAfterOwners};
 
 use crate::entry::{Entity, Entry};
 use pli_base::declaration::Item;
@@ -22,7 +22,7 @@ struct NamedItem<'a> {
     facts: ItemFacts<'a>,
 }
 
-/// The names of an item, behind those of others.
+/// The names of an item, after those of others.
 fn add_names<'a>(names: &mut Vec<NamedItem<'a>>, facts: ItemFacts<'a>) -> Result<(), AllocError>
     ensures { OnOk result (map named_view names.new.items ≡ map named_view names.old.items
         ++ named (item_view facts.entry.item.now)) }
@@ -92,7 +92,7 @@ fn add_items<'a>(
     names: &[NamedItem<'a>],
     standings: &[ItemStanding],
 ) -> Result<(), AllocError>
-    requires { StandBehindOwners standings.now }
+    requires { StandAfterOwners standings.now }
     ensures { OnOk result (entries_view entries.new.items
         ≡ entries_view entries.old.items ++ item_entries (length entries.old.items)
         (map named_view names.now) standings.now) }
@@ -128,7 +128,7 @@ fn declare_items<'a>(
     add_items(entries, &names, &standings)
 }
 
-/// What a mark of a region declares, behind what its block declares before it.
+/// What a mark of a region declares, after what its block declares before it.
 pub fn declare<'a>(
     alloc: Global,
     entries: &mut Vec<Entry<'a>>,

@@ -5,7 +5,7 @@ ghost use Rattle.pli_declare_tables.specs.Tables.{written, entries_of, entries_a
 ghost use Rattle.pli_declare_tables.specs.Tables.{with_verdicts, numbers_from, table_with};
 ghost use Rattle.pli_declare_scopes.specs.Repeats.{verdicts_of};
 ghost use Rattle.pli_declare_tables.specs.views.TableView.{table_view, entries_view, blocks_view};
-ghost use Rattle.pli_declare_tables.specs.answers.Answers.{AreOf, AreBehindOwners, AllBehindOwners};
+ghost use Rattle.pli_declare_tables.specs.answers.Answers.{AreOf, AreAfterOwners, AllAfterOwners};
 
 use crate::entries::{add_entry, declare};
 use crate::entry::{Entity, Entry};
@@ -134,7 +134,7 @@ fn declare_names(
     verdicts: &[Verdict],
 ) -> Result<(), AllocError>
     requires empty { block.old ≡ [] }
-    requires behind { AreBehindOwners (entries_view entries.now) }
+    requires after { AreAfterOwners (entries_view entries.now) }
     ensures { OnOk result (block.new ≡ with_verdicts (entries_view entries.now) verdicts.now) }
 {
     for (entry, verdict) in entries.iter().zip(verdicts) {
@@ -153,7 +153,7 @@ fn block_with(
     entries: &[Entry<'_>],
     verdicts: &[Verdict],
 ) -> Result<BlockItems, AllocError>
-    requires { AreBehindOwners (entries_view entries.now) }
+    requires { AreAfterOwners (entries_view entries.now) }
     ensures { IfOk result (λ block. block ≡ with_verdicts (entries_view entries.now) verdicts.now) }
 {
     let mut block = BlockItems::with_room(alloc, entries.len())?;
@@ -167,7 +167,7 @@ fn block_with(
 impl<'a> Table<'a> {
     /// The table of a block that declares this.
     fn new(alloc: Global, entries: Vec<Entry<'a>>) -> Result<Table<'a>, AllocError>
-        requires { AreBehindOwners (entries_view entries.items) }
+        requires { AreAfterOwners (entries_view entries.items) }
         ensures { IfOk result (λ table. table_view table ≡ table_with (entries_view entries.entry.items)) }
     {
         let verdicts = verdicts_on(alloc, &entries)?;
@@ -182,7 +182,7 @@ impl<'a> Table<'a> {
 
 /// The tables of blocks that declare this.
 fn tables_of<'a>(alloc: Global, blocks: Vec<Vec<Entry<'a>>>) -> Result<Vec<Table<'a>>, AllocError>
-    requires { AllBehindOwners (blocks_view blocks.items) }
+    requires { AllAfterOwners (blocks_view blocks.items) }
     ensures { IfOk result (λ tables. map table_view tables.items ≡ map table_with (blocks_view blocks.entry.items)) }
 {
     let mut tables = Vec::new(alloc);

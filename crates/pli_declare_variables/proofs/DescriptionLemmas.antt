@@ -1,4 +1,4 @@
--- Descriptions of members, one behind the other.
+-- Descriptions of members, one after the other.
 use Rattle.std.proofs.Common.{◌≡◌, ℕ, zero, suc, ◌+◌, ◌<◌, ◌≤◌, Bool, true, false, Option, Some, None, option_map, List, [], ◌∷◌, ◌++◌, map, length, get_or, drop, Vec, true≢false, refl, ap, sym, ◌∙◌, arith}
 use Rattle.std.specs.Global.{Global}
 use Rattle.std.specs.Bool.{◌==◌}
@@ -13,14 +13,14 @@ use Rattle.pli_map.specs.declared.description.Description.TheVariants as made
 use Rattle.pli_map.specs.declared.description.Description.TheFolds as folds
 use Rattle.pli_declare_attributes.specs.Extents.{all_bounds}
 use Rattle.pli_declare_attributes.specs.Faults.{with_bounds}
-use Rattle.pli_declare_tables.specs.answers.Answers.{AreBehindOwners}
+use Rattle.pli_declare_tables.specs.answers.Answers.{AreAfterOwners}
 use Rattle.pli_declare_tables.specs.Tables.{Entry, numbers_from}
 use Rattle.pli_declare_variables.specs.Places.{members_of, item_of}
 use Rattle.pli_declare_variables.specs.Descriptions.{is_of_shape, scalar_at, member_then, members_made, inside, described}
 use Rattle.pli_declare_variables.proofs.NumberListLemmas.{map_at, length_numbers}
 use Rattle.pli_declare_variables.proofs.MembersFound.{members_stand, same_inside, enough}
 
--- members that are known, and others behind them
+-- members that are known, and others after them
 abbrev pub in_front : List Description → Option Members → Option Members
 in_front [] others = others
 in_front (d ∷ ds) others = option_map (MemberThen d) (in_front ds others)
@@ -62,7 +62,7 @@ pub all_known : (f : ℕ → Option Description) (ks : List ℕ) (i : ℕ) (ds :
 all_known f ks i ds over so_far = sym (front_all ds) ∙ ap (λ xs. in_front ds (members_made f xs)) (sym (drop_all i ks over)) ∙ so_far
 
 -- an item of a good shape, by the descriptions of its members
-pub of_parts : (size : ℕ) (entries : List Entry) → AreBehindOwners entries → (codes : List (Option Code)) → size ≡ length entries → (n : ℕ)
+pub of_parts : (size : ℕ) (entries : List Entry) → AreAfterOwners entries → (codes : List (Option Code)) → size ≡ length entries → (n : ℕ)
     → n < size → is_of_shape (get_or codes n None) ≡ false
     → option_map (with_bounds (all_bounds (item_of entries n).dimensions)) (inside (described size entries codes) (scalar_at entries n) (members_of entries n)) ≡ described size entries codes n
 of_parts zero entries owners codes is n within shape = absurd (omega (arith, within))

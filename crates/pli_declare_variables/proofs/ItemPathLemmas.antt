@@ -3,7 +3,7 @@ use Rattle.std.proofs.Common.{◌≡◌, ℕ, ◌<◌, ◌&&◌, ◌||◌, Bool,
 use Rattle.std.proofs.lemmas.List.{length-map}
 use Rattle.pli_declare_attributes.specs.Sets.{set_of, has, outermost, area, pointer, offset}
 use Rattle.pli_declare_attributes.specs.declared.named.Named.{Named}
-use Rattle.pli_declare_tables.specs.answers.Answers.{AreBehindOwners}
+use Rattle.pli_declare_tables.specs.answers.Answers.{AreAfterOwners}
 use Rattle.pli_declare_tables.specs.views.TableView.{entry_view, entries_view}
 use Rattle.pli_declare_tables.specs.Tables as plain
 use Rattle.pli_declare_tables.specs.Tables.{no_entry, numbers_from}
@@ -16,22 +16,22 @@ use Rattle.pli_declare_variables.proofs.LevelLemmas.{view_at, owner_before}
 use Rattle.pli_declare_variables.proofs.NumberLemmas.{mapped_at}
 use Rattle.pli_declare_variables.proofs.OwnerLemmas.{Below, owners_next, owners_none}
 
-one_above : (entries : List plain.Entry) → AreBehindOwners entries → (i : ℕ) → i < length entries → (chains : List Chain)
+one_above : (entries : List plain.Entry) → AreAfterOwners entries → (i : ℕ) → i < length entries → (chains : List Chain)
     → chains ≡ map (chain_at entries) (numbers_from 0 i) → (owner : Option ℕ) → (get_or entries i no_entry).owner ≡ owner → Below owner i
     → chain_above chains owner ≡ chain_of entries (owners_of entries i)
-one_above entries behind i lt chains known None is below = ap (chain_of entries) (sym (owners_none entries i is))
-one_above entries behind i lt chains known (Some o) is below =
+one_above entries after i lt chains known None is below = ap (chain_of entries) (sym (owners_none entries i is))
+one_above entries after i lt chains known (Some o) is below =
     ap (λ (cs : List Chain). get_or cs o no_chain) known ∙ mapped_at (chain_at entries) i o no_chain below
-    ∙ ap (chain_of entries) (sym (owners_next entries behind i o (omega arith) is))
+    ∙ ap (chain_of entries) (sym (owners_next entries after i o (omega arith) is))
 
-pub chain_more : (entries : List Entry) → AreBehindOwners (entries_view entries) → (i : ℕ) (e : Entry) → i < length entries → e ≡ get_or entries i e
+pub chain_more : (entries : List Entry) → AreAfterOwners (entries_view entries) → (i : ℕ) (e : Entry) → i < length entries → e ≡ get_or entries i e
     → (chains : List Chain) → chains ≡ map (chain_at (entries_view entries)) (numbers_from 0 i)
     → chain_with (item_in (entry_view e).entity) (chain_above chains e.owner) ≡ chain_at (entries_view entries) i
-chain_more entries behind i e lt is chains known =
+chain_more entries after i e lt is chains known =
     let view = view_at entries i e lt is in
     ap (chain_with (item_in (entry_view e).entity))
-    (one_above (entries_view entries) behind i (omega (arith, length-map entries entry_view)) chains known e.owner
-    (ap (λ (x : plain.Entry). x.owner) view) (owner_before entries behind i e lt is))
+    (one_above (entries_view entries) after i (omega (arith, length-map entries entry_view)) chains known e.owner
+    (ap (λ (x : plain.Entry). x.owner) view) (owner_before entries after i e lt is))
     ∙ ap (λ (x : plain.Entry). chain_with (item_in x.entity) (chain_of (entries_view entries) (owners_of (entries_view entries) i))) (sym view)
 
 four : (a x b y c z d w : Bool) → a ≡ x → b ≡ y → c ≡ z → d ≡ w → (a && b && c && d) ≡ (x && y && z && w)

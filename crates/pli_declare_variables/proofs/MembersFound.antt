@@ -1,4 +1,4 @@
--- Members stand behind the items that they are members of.
+-- Members stand after the items that they are members of.
 use Rattle.std.proofs.Common.{◌≡◌, ℕ, zero, suc, ◌+◌, ◌<◌, ◌≤◌, ◌≢◌, ◌==◌, Bool, true, false, cond, if◌then◌else◌, Option, Some, None, IfSome, option_map, List, [], ◌∷◌, ◌++◌, map, length, get_or, set, refl, ap, sym, ◌∙◌, subst, arith, inl, inr, ◌-◌, append-nil, eq-eqb}
 use Rattle.std.specs.List.{filter}
 use Rattle.std.specs.Option.{unwrap_or}
@@ -8,7 +8,7 @@ use Rattle.pli_base.specs.declared.code.Code.{Code}
 use Rattle.pli_map.specs.Description.{Description}
 use Rattle.pli_declare_attributes.specs.Extents.{all_bounds}
 use Rattle.pli_declare_attributes.specs.Faults.{with_bounds}
-use Rattle.pli_declare_tables.specs.answers.Answers.{AreBehindOwners}
+use Rattle.pli_declare_tables.specs.answers.Answers.{AreAfterOwners}
 use Rattle.pli_declare_tables.specs.Tables.{Entry, no_entry, written, numbers_from}
 use Rattle.pli_declare_tables.specs.views.TableView.{entry_view, entries_view}
 use Rattle.pli_declare_tables.specs.declared.entry.Entry as program
@@ -20,7 +20,7 @@ use Rattle.pli_declare_variables.specs.declared.sizes.Measured.TheVariants.{Unkn
 use Rattle.pli_declare_variables.proofs.NumberListLemmas.{length_numbers, numbers_more, map_at, map_same, set_at_number, filtered, filter_push}
 
 -- an owner stands before its members
-pub before : (entries : List Entry) → AreBehindOwners entries → (k o : ℕ) → k < length entries → (get_or entries k no_entry).owner ≡ Some o → o < k
+pub before : (entries : List Entry) → AreAfterOwners entries → (k o : ℕ) → k < length entries → (get_or entries k no_entry).owner ≡ Some o → o < k
 before entries owners k o within is =
     let h = owners k (omega (arith, length-map entries written, within)) in
     let e = get_or-map written entries k no_entry (record { name = []; owner = None }) within in
@@ -31,8 +31,8 @@ named : (x : Option ℕ) (n : ℕ) → unwrap_or (option_map (λ o. o == n) x) f
 named None n h = cc
 named (Some o) n h = ap Some (eqb-true o n h)
 
--- members are behind their owner
-pub members_stand : (entries : List Entry) → AreBehindOwners entries → (n i : ℕ) → i < length (members_of entries n)
+-- members are after their owner
+pub members_stand : (entries : List Entry) → AreAfterOwners entries → (n i : ℕ) → i < length (members_of entries n)
     → (n < get_or (members_of entries n) i 0) × (get_or (members_of entries n) i 0 < length entries)
 members_stand entries owners n =
     filtered (λ k. owner_is n (get_or entries k no_entry)) (λ k. (n < k) × (k < length entries)) 0 (length entries)
@@ -49,7 +49,7 @@ same_inside f g scalar [] h = refl
 same_inside f g scalar (k ∷ ks) h = ap (option_map _) (same_made f g (k ∷ ks) h)
 
 -- a bound that is enough gives what a greater one gives
-pub enough : (entries : List Entry) → AreBehindOwners entries → (codes : List (Option Code)) (a b n : ℕ) → n < length entries → length entries ≤ a + n → length entries ≤ b + n
+pub enough : (entries : List Entry) → AreAfterOwners entries → (codes : List (Option Code)) (a b n : ℕ) → n < length entries → length entries ≤ a + n → length entries ≤ b + n
     → described a entries codes n ≡ described b entries codes n
 enough entries owners codes zero b n within p q = absurd (omega arith)
 enough entries owners codes (suc a) zero n within p q = absurd (omega arith)
@@ -65,8 +65,8 @@ pub shapeless : (bound : ℕ) (entries : List Entry) (codes : List (Option Code)
 shapeless zero entries codes n h = tt
 shapeless (suc bound) entries codes n h = rw h tt
 
--- an item of a good shape, where what the items behind it take is known
-pub shaped : (size : ℕ) (entries : List Entry) → AreBehindOwners entries → (codes : List (Option Code)) → size ≡ length entries → (measured : List Measured) (n : ℕ)
+-- an item of a good shape, where what the items after it take is known
+pub shaped : (size : ℕ) (entries : List Entry) → AreAfterOwners entries → (codes : List (Option Code)) → size ≡ length entries → (measured : List Measured) (n : ℕ)
     → n < size → is_of_shape (get_or codes n None) ≡ false → (members : List ℕ) → members ≡ members_of entries n
     → ((k : ℕ) → n < k → k < size → IsMeasured (get_or measured k Unknown) (described size entries codes k)) → (taken : Measured)
     → ((describe : ℕ → Option Description) → AreMeasured describe measured members

@@ -3,7 +3,7 @@ use Rattle.std.proofs.Common.{◌≡◌, ℕ, zero, suc, ◌<◌, ◌≤◌, IfS
 use Rattle.std.proofs.lemmas.List.{get_or-map, length-map}
 use Rattle.pli_declare_scopes.specs.declared.repeat.Written.{Written}
 use Rattle.pli_declare_scopes.specs.laws.RepeatLaws.{written_at}
-use Rattle.pli_declare_tables.specs.answers.Answers.{AreBehindOwners}
+use Rattle.pli_declare_tables.specs.answers.Answers.{AreAfterOwners}
 use Rattle.pli_declare_tables.specs.Tables.{Entry, no_entry, written}
 use Rattle.pli_declare_variables.specs.Places.{above, owners_of}
 
@@ -14,11 +14,11 @@ pub weaker : (owner : Option ℕ) (n m : ℕ) → n ≤ m → Below owner n → 
 weaker None n m le h = tt
 weaker (Some o) n m le h = omega arith
 
-module _ (entries : List Entry) (behind : AreBehindOwners entries) where
+module _ (entries : List Entry) (after : AreAfterOwners entries) where
   pub owner_below : (n : ℕ) → n < length entries → Below (get_or entries n no_entry).owner n
   owner_below n lt =
       let same : written_at (map written entries) n ≡ written (get_or entries n no_entry) = get_or-map written entries n no_entry (record { name = []; owner = None }) lt in
-      subst (λ (w : Written). Below w.owner n) same (behind n (omega (arith, length-map entries written)))
+      subst (λ (w : Written). Below w.owner n) same (after n (omega (arith, length-map entries written)))
 
   above_same : (b c : ℕ) (owner : Option ℕ) → Below owner b → Below owner c → Below owner (length entries) → above b entries owner ≡ above c entries owner
   above_same zero zero owner p q r = refl

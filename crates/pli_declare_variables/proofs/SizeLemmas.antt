@@ -1,4 +1,4 @@
--- Members one behind the other, and arrays, as far as what they take is known.
+-- Members one after the other, and arrays, as far as what they take is known.
 use Rattle.std.proofs.Common.{◌≡◌, ℕ, zero, suc, ◌+◌, ◌*◌, ◌≤◌, max, Bool, true, false, ◌&&◌, Option, Some, None, option_map, List, [], ◌∷◌, refl, ap, sym, ◌∙◌, arith}
 use Rattle.std.specs.Prelude.{int_le}
 use Rattle.std.specs.Int.{next_multiple_of}
@@ -7,7 +7,7 @@ use Rattle.pli_base.specs.declared.declaration.WrittenBounds.{WrittenBounds}
 use Rattle.pli_base.specs.declared.declaration.WrittenBounds.TheVariants as limits
 use Rattle.pli_map.specs.Description.{Description, Structure, Members, NoMembers}
 use Rattle.pli_map.specs.Layouts.{IsLayout}
-use Rattle.pli_map.specs.Sizes.{size_of, alignment_of, end_behind, greatest_alignment, count_of, extent_of}
+use Rattle.pli_map.specs.Sizes.{size_of, alignment_of, end_after, greatest_alignment, count_of, extent_of}
 use Rattle.pli_map.specs.declared.layout.Layout.{Layout}
 use Rattle.pli_map.proofs.Members.{later}
 use Rattle.pli_map.proofs.Alignments.{members_positive}
@@ -20,12 +20,12 @@ use Rattle.pli_declare_variables.specs.answers.Measures.{of_layout, IsMeasured, 
 use Rattle.pli_declare_variables.specs.declared.sizes.Measured.{Measured}
 use Rattle.pli_declare_variables.specs.declared.sizes.Measured.TheVariants.{Unknown, TooLarge, Takes}
 
--- what is left of a layout and members behind it
+-- what is left of a layout and members after it
 layout_then : (answer : Option Layout) (bytes alignment : ℕ) → IsLayout answer bytes alignment → (others : Members) (whole : Members)
-    → end_behind bytes others ≡ end_behind 0 whole → max alignment (greatest_alignment others) ≡ greatest_alignment whole
+    → end_after bytes others ≡ end_after 0 whole → max alignment (greatest_alignment others) ≡ greatest_alignment whole
     → IsFront (of_layout answer) (Some others) (Some whole)
 layout_then None bytes alignment h others whole p q = omega (arith, h, later bytes others, p)
-layout_then (Some l) bytes alignment h others whole p q = (ap (λ n. end_behind n others) h.1 ∙ p, ap (λ n. max n (greatest_alignment others)) h.2 ∙ q)
+layout_then (Some l) bytes alignment h others whole p q = (ap (λ n. end_after n others) h.1 ∙ p, ap (λ n. max n (greatest_alignment others)) h.2 ∙ q)
 
 none_then : (answer : Option Layout) (whole : Option Members) → whole ≡ None → IsFront (of_layout answer) None whole
 none_then None whole h = h
@@ -41,7 +41,7 @@ both_known before member answer h (Some x) None whole m f = none_then answer who
 both_known before member answer h (Some x) (Some os) None m f = absurd f
 both_known before member answer h (Some x) (Some os) (Some w) m f =
     let e : next_multiple_of before.bytes member.alignment + member.bytes ≡ next_multiple_of before.bytes (alignment_of x) + size_of x = rw (m.1, m.2) refl in
-    layout_then answer _ _ h os w (ap (λ n. end_behind n os) e ∙ f.0) (omega (arith, f.1, m.2))
+    layout_then answer _ _ h os w (ap (λ n. end_after n os) e ∙ f.0) (omega (arith, f.1, m.2))
 
 -- one member more, which is too large
 pub over_member : (before : Layout) (d : Option Description) (others whole : Option Members) → IsMeasured TooLarge d
@@ -51,12 +51,12 @@ over_member before (Some x) None whole m f = f
 over_member before (Some x) (Some os) None m f = f
 over_member before (Some x) (Some os) (Some w) m f = omega (arith, m, later (next_multiple_of before.bytes (alignment_of x) + size_of x) os, f.0)
 
--- all members stand behind none
+-- all members stand after none
 pub begins : (l : Layout) → l.bytes ≡ 0 → l.alignment ≡ 1 → (ms : Option Members) → IsFront (Takes l) ms ms
 begins l p q None = refl
-begins l p q (Some ms) = (ap (λ n. end_behind n ms) p, omega (arith, q, members_positive ms))
+begins l p q (Some ms) = (ap (λ n. end_after n ms) p, omega (arith, q, members_positive ms))
 
--- and none behind all
+-- and none after all
 pub ends : (front : Measured) (whole : Option Members) → IsFront front (Some NoMembers) whole → IsMeasured front (option_map Structure whole)
 ends Unknown None f = tt
 ends Unknown (Some w) f = cc

@@ -41,7 +41,7 @@ inside describe scalar [] = Some scalar
 inside describe scalar (k ∷ ks) = option_map Structure (members_made describe (k ∷ ks))
 
 -- the description of an item, where neither it nor an item in it has one of A3 to A7; its members stand
--- behind it, so they nest less deep than there are entries. A `*` counts as 1 in it
+-- after it, so they nest less deep than there are entries. A `*` counts as 1 in it
 abbrev pub described : (bound : ℕ) → List Entry → (codes : List (Option Code)) → ℕ → Option Description
 described zero entries codes n = None
 described (suc bound) entries codes n =

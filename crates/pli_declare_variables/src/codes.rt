@@ -7,7 +7,7 @@ ghost use Rattle.pli_declare_attributes.specs.answers.Cuts.{cut_place};
 ghost use Rattle.pli_declare_attributes.specs.declared.place.ItemPlace.{ItemPlace as SpecPlace};
 ghost use Rattle.pli_declare_tables.specs.Tables.{numbers_from};
 ghost use Rattle.pli_declare_tables.specs.views.TableView.{entry_view, entries_view};
-ghost use Rattle.pli_declare_tables.specs.answers.Answers.{AreBehindOwners};
+ghost use Rattle.pli_declare_tables.specs.answers.Answers.{AreAfterOwners};
 ghost use Rattle.pli_declare_variables.specs.Places.{no_item, item_in};
 ghost use Rattle.pli_declare_variables.specs.Places as place;
 ghost use Rattle.pli_declare_variables.specs.Declarations.{AreGood};
@@ -81,7 +81,7 @@ pub(crate) fn own_codes(
     entries: &[Entry],
     parameters: &[Name],
 ) -> Result<Vec<Option<Code>>, AllocError>
-    requires { AreBehindOwners (entries_view entries.now) }
+    requires { AreAfterOwners (entries_view entries.now) }
     ensures { IfOk result (λ codes. codes.items ≡ map (place.own_code (entries_view entries.now) parameters.now)
         (numbers_from 0 (length entries.now))) }
 {

@@ -7,7 +7,7 @@ ghost use Rattle.pli_declare_attributes.specs.views.CompletedView.{completed_vie
 ghost use Rattle.pli_declare_attributes.specs.Faults.{item_fault};
 ghost use Rattle.pli_declare_tables.specs.Tables.{numbers_from};
 ghost use Rattle.pli_declare_tables.specs.views.TableView.{entry_view, entries_view};
-ghost use Rattle.pli_declare_tables.specs.answers.Answers.{AreBehindOwners};
+ghost use Rattle.pli_declare_tables.specs.answers.Answers.{AreAfterOwners};
 ghost use Rattle.pli_declare_variables.specs.Places.{members_of};
 ghost use Rattle.pli_declare_variables.specs.Descriptions.{ShapesAreSound};
 ghost use Rattle.pli_declare_variables.specs.Declarations.{AreGood, declared_in};
@@ -51,7 +51,7 @@ fn whole_description(
     codes: &[Option<Code>],
     number: usize,
 ) -> Result<Option<Description>, AllocError>
-    requires owners { AreBehindOwners (entries_view entries.now) }
+    requires owners { AreAfterOwners (entries_view entries.now) }
     requires members { map (λ v. v.items) members.now ≡ map (members_of (entries_view entries.now))
         (numbers_from 0 (length entries.now)) }
     requires sound { ShapesAreSound (entries_view entries.now) codes.now }
@@ -102,7 +102,7 @@ pub fn declare<'a>(
     entries: &[Entry<'a>],
     parameters: &[Name],
 ) -> Result<Vec<Declaration<'a>>, AllocError>
-    requires owners { AreBehindOwners (entries_view entries.now) }
+    requires owners { AreAfterOwners (entries_view entries.now) }
     requires good { AreGood (entries_view entries.now) parameters.now }
     ensures { IfOk result (λ declarations. map declaration_view declarations.items
         ≡ declared_in (entries_view entries.now) parameters.now) }

@@ -3,7 +3,7 @@ ghost use Rattle.std.specs.Prelude.{◌≡◌, ◌<◌, map, option_map, length,
 ghost use Rattle.pli_map.specs.views.DescriptionView.{description_view, members_view};
 ghost use Rattle.pli_declare_tables.specs.Tables.{numbers_from};
 ghost use Rattle.pli_declare_tables.specs.views.TableView.{entries_view};
-ghost use Rattle.pli_declare_tables.specs.answers.Answers.{AreBehindOwners};
+ghost use Rattle.pli_declare_tables.specs.answers.Answers.{AreAfterOwners};
 ghost use Rattle.pli_declare_variables.specs.Places.{members_of};
 ghost use Rattle.pli_declare_variables.specs.Descriptions.{described, members_made, ShapesAreSound};
 
@@ -25,7 +25,7 @@ pub(crate) fn describe(
     codes: &[Option<Code>],
     number: usize,
 ) -> Result<Option<Description>, AllocError>
-    requires owners { AreBehindOwners (entries_view entries.now) }
+    requires owners { AreAfterOwners (entries_view entries.now) }
     requires members { map (λ v. v.items) members.now ≡ map (members_of (entries_view entries.now))
         (numbers_from 0 (length entries.now)) }
     requires sound { ShapesAreSound (entries_view entries.now) codes.now }
@@ -57,7 +57,7 @@ fn describe_members(
     codes: &[Option<Code>],
     owner: usize,
 ) -> Result<Option<Vec<Description>>, AllocError>
-    requires owners { AreBehindOwners (entries_view entries.now) }
+    requires owners { AreAfterOwners (entries_view entries.now) }
     requires members { map (λ v. v.items) members.now ≡ map (members_of (entries_view entries.now))
         (numbers_from 0 (length entries.now)) }
     requires sound { ShapesAreSound (entries_view entries.now) codes.now }

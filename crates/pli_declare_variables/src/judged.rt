@@ -1,7 +1,7 @@
 //! What is known of the items of a block.
 ghost use Rattle.std.specs.Prelude.{◌≡◌, IfOk};
 ghost use Rattle.pli_declare_tables.specs.views.TableView.{entries_view};
-ghost use Rattle.pli_declare_tables.specs.answers.Answers.{AreBehindOwners};
+ghost use Rattle.pli_declare_tables.specs.answers.Answers.{AreAfterOwners};
 ghost use Rattle.pli_declare_variables.specs.Judging.{all_judged};
 
 use crate::codes::own_codes;
@@ -30,7 +30,7 @@ pub fn judge(
     entries: &[Entry],
     parameters: &[Name],
 ) -> Result<Vec<Judged>, AllocError>
-    requires { AreBehindOwners (entries_view entries.now) }
+    requires { AreAfterOwners (entries_view entries.now) }
     ensures { IfOk result (λ judged. judged.items ≡ all_judged (entries_view entries.now) parameters.now) }
 {
     let codes = own_codes(alloc, entries, parameters)?;

@@ -4,7 +4,7 @@ ghost use Rattle.pli_declare_attributes.specs.Extents.{is_array};
 ghost use Rattle.pli_declare_attributes.specs.Sets.{set_of, has, none_of, outermost, area, based, pointer, offset};
 ghost use Rattle.pli_declare_tables.specs.Tables.{numbers_from};
 ghost use Rattle.pli_declare_tables.specs.views.TableView.{entry_view, entries_view};
-ghost use Rattle.pli_declare_tables.specs.answers.Answers.{AreBehindOwners};
+ghost use Rattle.pli_declare_tables.specs.answers.Answers.{AreAfterOwners};
 ghost use Rattle.pli_declare_variables.specs.Places.{item_in, is_variable};
 ghost use Rattle.pli_declare_variables.specs.answers.Walks as walk;
 
@@ -95,7 +95,7 @@ fn use_of(named: Named, chain: Chain) -> Nameable
 
 /// Which items BASED and OFFSET may name.
 pub(crate) fn nameables(alloc: Global, entries: &[Entry]) -> Result<Vec<Nameable>, AllocError>
-    requires { AreBehindOwners (entries_view entries.now) }
+    requires { AreAfterOwners (entries_view entries.now) }
     ensures { IfOk result (λ all. all.items ≡ map (walk.nameable_at (entries_view entries.now))
         (numbers_from 0 (length entries.now))) }
 {

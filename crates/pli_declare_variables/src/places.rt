@@ -8,7 +8,7 @@ ghost use Rattle.pli_declare_attributes.specs.Initials.{elements_inside};
 ghost use Rattle.pli_declare_attributes.specs.answers.Cuts.{cut};
 ghost use Rattle.pli_declare_tables.specs.Tables.{no_entry, numbers_from};
 ghost use Rattle.pli_declare_tables.specs.views.TableView.{entry_view, entries_view};
-ghost use Rattle.pli_declare_tables.specs.answers.Answers.{AreBehindOwners};
+ghost use Rattle.pli_declare_tables.specs.answers.Answers.{AreAfterOwners};
 ghost use Rattle.pli_declare_variables.specs.Places.{item_in, is_bad_level, stands_alone, is_built_in, position_of};
 ghost use Rattle.pli_declare_variables.specs.answers.Walks.{has_members_at, above_at, above_owner, placed};
 ghost use Rattle.pli_declare_variables.specs.answers.Walks.{cut_place_in};
@@ -61,7 +61,7 @@ fn above(aboves: &[LevelsAbove], entries: &[Entry], owner: Option<usize>) -> Lev
 
 /// What the levels above each item make.
 fn aboves(alloc: Global, entries: &[Entry]) -> Result<Vec<LevelsAbove>, AllocError>
-    requires { AreBehindOwners (entries_view entries.now) }
+    requires { AreAfterOwners (entries_view entries.now) }
     ensures { IfOk result (λ aboves. aboves.items ≡ map (above_at (entries_view entries.now))
         (numbers_from 0 (length entries.now))) }
 {
@@ -75,7 +75,7 @@ fn aboves(alloc: Global, entries: &[Entry]) -> Result<Vec<LevelsAbove>, AllocErr
 
 /// Which items have members.
 fn with_members(alloc: Global, entries: &[Entry]) -> Result<Vec<bool>, AllocError>
-    requires { AreBehindOwners (entries_view entries.now) }
+    requires { AreAfterOwners (entries_view entries.now) }
     ensures { IfOk result (λ marks. marks.items ≡ map (has_members_at (entries_view entries.now))
         (numbers_from 0 (length entries.now))) }
 {
@@ -141,7 +141,7 @@ pub(crate) fn places(
     entries: &[Entry],
     parameters: &[Name],
 ) -> Result<Vec<ItemPlace>, AllocError>
-    requires { AreBehindOwners (entries_view entries.now) }
+    requires { AreAfterOwners (entries_view entries.now) }
     ensures { IfOk result (λ places. places.items ≡ map (cut_place_in (entries_view entries.now) parameters.now)
         (numbers_from 0 (length entries.now))) }
 {

@@ -8,7 +8,7 @@ ghost use Rattle.pli_map.specs.Description.{Description, Structure, Members};
 ghost use Rattle.pli_declare_attributes.specs.Extents.{all_bounds, are_bad_bounds};
 ghost use Rattle.pli_declare_attributes.specs.Faults.{with_bounds, described_scalar};
 ghost use Rattle.pli_declare_attributes.specs.Sets.{outermost};
-ghost use Rattle.pli_declare_tables.specs.answers.Answers.{AreBehindOwners};
+ghost use Rattle.pli_declare_tables.specs.answers.Answers.{AreAfterOwners};
 ghost use Rattle.pli_declare_tables.specs.Tables.{numbers_from};
 ghost use Rattle.pli_declare_tables.specs.views.TableView.{entry_view, entries_view};
 ghost use Rattle.pli_declare_variables.specs.Descriptions.{is_of_shape, described, inside, members_made, member_then};
@@ -147,7 +147,7 @@ pub(crate) fn members_by_owner(
     alloc: Global,
     entries: &[Entry],
 ) -> Result<Vec<Vec<usize>>, AllocError>
-    requires { AreBehindOwners (entries_view entries.now) }
+    requires { AreAfterOwners (entries_view entries.now) }
     ensures { IfOk result (λ members. map (λ v. v.items) members.items
         ≡ map (members_of (entries_view entries.now)) (numbers_from 0 (length entries.now))) }
 {
@@ -164,13 +164,13 @@ pub(crate) fn members_by_owner(
     Ok(members)
 }
 
-/// What each item takes: each after its members, which stand behind it.
+/// What each item takes: each after its members, which stand after it.
 fn measure_all(
     alloc: Global,
     entries: &[Entry],
     codes: &[Option<Code>],
 ) -> Result<Vec<Measured>, AllocError>
-    requires owners { AreBehindOwners (entries_view entries.now) }
+    requires owners { AreAfterOwners (entries_view entries.now) }
     requires sound { ShapesAreSound (entries_view entries.now) codes.now }
     ensures { IfOk result (λ measured. (n : ℕ) → n < length entries.now
         → IsMeasured (get_or measured.items n variants.Unknown)
@@ -205,7 +205,7 @@ pub(crate) fn too_large(
     entries: &[Entry],
     codes: &[Option<Code>],
 ) -> Result<Vec<bool>, AllocError>
-    requires owners { AreBehindOwners (entries_view entries.now) }
+    requires owners { AreAfterOwners (entries_view entries.now) }
     requires sound { ShapesAreSound (entries_view entries.now) codes.now }
     ensures { IfOk result (λ large. large.items ≡ map (is_large_at (entries_view entries.now) codes.now)
         (numbers_from 0 (length entries.now))) }

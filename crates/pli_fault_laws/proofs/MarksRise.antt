@@ -113,8 +113,8 @@ areas_marked (Some (Named n args m)) (Some (Named o others k)) = λ low high h.
       | inr more ↦
           let turned : Rises low (rt ++ ra) high = subst (λ b. Rises low (cond b (ra ++ rt) (rt ++ ra)) high) (le-ltb n.at o.at more) h in
           let apart = rises_apart rt ra low high turned in
-          let behind : o.at + 1 ≤ apart.0 = rises_up (argument_tokens others ++ joined_tokens k) (o.at + 1) apart.0 apart.1.1 in
-          subst (λ b. Rises low (tokens_of_each mark_tokens (cond b (tm ++ am) (am ++ tm))) high) (sym (lt-ltb o.at n.at (omega (arith, behind, apart.2.0))))
+          let after : o.at + 1 ≤ apart.0 = rises_up (argument_tokens others ++ joined_tokens k) (o.at + 1) apart.0 apart.1.1 in
+          subst (λ b. Rises low (tokens_of_each mark_tokens (cond b (tm ++ am) (am ++ tm))) high) (sym (lt-ltb o.at n.at (omega (arith, after, apart.2.0))))
           (marked_both tm am rt ra (reference_marked t) (reference_marked a) low high turned)
     ]
 
@@ -130,7 +130,7 @@ placed_same here (m ∷ ms) = ap (λ ts. mark_tokens m ++ ts) (placed_same here 
 placed_marked : (here : ℕ) (ms : List Mark) (ts : List ℕ) → Marked ms ts → Outlined (placed here ms) ts
 placed_marked here ms ts k = subst (λ us. Keeps us ts) (sym (placed_same here ms)) k
 
--- behind a label
+-- after a label
 labelled : (here : ℕ) (ms : List Mark) (label : Option Identifier) (ps : List PlacedMark) (ts : List ℕ) → Marked ms (tokens_of_some name_tokens label) → Outlined ps ts
     → Outlined (placed here ms ++ ps) (tokens_of_some name_tokens label ++ ts)
 labelled here ms label ps ts k l = outlined_both (placed here ms) ps (tokens_of_some name_tokens label) ts (placed_marked here ms (tokens_of_some name_tokens label) k) l

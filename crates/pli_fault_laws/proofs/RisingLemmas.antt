@@ -20,7 +20,7 @@ pub token_left : (t : ℕ) (xs ys : List ℕ) → Keeps xs ys → Keeps xs (t �
 token_left t xs ys k low high h =
     rises_within xs (t + 1) low high high (omega (arith, h.0)) (omega arith) (k (t + 1) high h.1)
 
--- where two lists rise one behind the other, there is a place between them
+-- where two lists rise one after the other, there is a place between them
 pub rises_apart : (xs ys : List ℕ) (low high : ℕ) → Rises low (xs ++ ys) high
     → (middle : ℕ) × Rises low xs middle × Rises middle ys high
 rises_apart [] ys low high h = (low, omega arith, h)
@@ -33,7 +33,7 @@ both_kept xs ys us vs k m low high h =
     let apart = rises_apart ys vs low high h in
     rises_on xs us low apart.0 apart.0 high (omega arith) (k low apart.0 apart.1) (m apart.0 high apart.2)
 
--- of what stands one behind the other
+-- of what stands one after the other
 pub each_apart : {A : Type 0} (tokens : A → List ℕ) (xs ys : List A)
     → tokens_of_each tokens (xs ++ ys) ≡ tokens_of_each tokens xs ++ tokens_of_each tokens ys
 each_apart tokens [] ys = refl

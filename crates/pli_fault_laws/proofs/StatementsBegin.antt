@@ -8,9 +8,9 @@ use Rattle.pli_parse.proofs.StatementRead.{unit_reads}
 use Rattle.pli_parse_expression.specs.Expressions.{Deeper, SpellsReference}
 use Rattle.pli_parse_expression.specs.Operators.{nesting_limit}
 use Rattle.pli_parse_statement.specs.StatementGrammar.{SpellsStatement, SpellsBody, SpellsStatements, SpellsAlternative, StandsIn}
-use Rattle.pli_parse_statement.specs.StatementWords.{Context, standing, the_unit, a_procedure}
+use Rattle.pli_parse_statement.specs.StatementWords.{Context, standing, the_on_unit, a_procedure}
 use Rattle.pli_parse_statement.specs.declared.keyword.StatementStanding.{StatementStanding}
-use Rattle.pli_parse_statement.specs.declared.keyword.StatementStanding.TheVariants.{InBlock, InGroup, AsClause, AsUnit}
+use Rattle.pli_parse_statement.specs.declared.keyword.StatementStanding.TheVariants.{InBlock, InGroup, AsClause, AsOnUnit}
 use Rattle.pli_fault_laws.specs.StatementStarts.{Begins, BodyBegins, AllBegin, ElseBegins, StatementsBegin}
 
 -- what holds a level deeper makes something hold
@@ -26,7 +26,7 @@ named : (standing : StatementStanding) (label : Option Identifier) (heading : He
 named InBlock label heading statements end s = s
 named InGroup label heading statements end s = absurd s
 named AsClause label heading statements end s = absurd s
-named AsUnit label heading statements end s = absurd (s.1)
+named AsOnUnit label heading statements end s = absurd (s.1)
 
 mutual
   begins : (c : Context) (levels p k : ℕ) (ts : Tokens) (s : Statement) → SpellsStatement c levels p k ts s → Begins s
@@ -51,7 +51,7 @@ mutual
         else_begins c m _ (k + 1 + count consequence) _ consequence alternative g.2,
       )) h.4.4
   body_begins c levels label at p k ts (On condition unit) place s h =
-      deeper _ (Begins unit) levels (λ m g. begins the_unit m _ (k + 1) _ unit g) h.4.4
+      deeper _ (Begins unit) levels (λ m g. begins the_on_unit m _ (k + 1) _ unit g) h.4.4
   body_begins c levels label at p k ts body place s h = tt
 
   list_begins : (c : Context) (levels p k : ℕ) (ts : Tokens) (ss : Statements) → SpellsStatements c levels p k ts ss

@@ -23,7 +23,7 @@ use Rattle.pli_type.specs.References.{AsValue, AsArgument, AsTarget, AsLocator, 
 use Rattle.pli_type.specs.StatementTyping as statements
 use Rattle.pli_type.specs.StatementTyping.{WithProcedures}
 use Rattle.pli_type.specs.Temporaries.{Next}
-use Rattle.pli_type.specs.Typing.{first_token, behind_arrows, own_token}
+use Rattle.pli_type.specs.Typing.{first_token, after_arrows, own_token}
 use Rattle.pli_type.specs.declared.beginning.Beginning.{Beginning}
 use Rattle.pli_type.specs.TypingSteps as steps
 use Rattle.pli_type_tree.specs.TypedTree.{Callee, Form, TypedArguments, TypedRange, TypedStatements, TypedProcedure}
@@ -175,7 +175,7 @@ in_turn_stands high tokens each stands (x ∷ xs) h =
     (λ y. only_then high _ _ (in_turn_stands high tokens each stands xs (below_right high (tokens x) (tokens_of_each tokens xs) h))
     (λ ys. fine high _))
 
-arrows_below : (high at : ℕ) (more : JoinedParts) → at < high → Below high (joined_tokens more) → behind_arrows at more < high
+arrows_below : (high at : ℕ) (more : JoinedParts) → at < high → Below high (joined_tokens more) → after_arrows at more < high
 arrows_below high at Alone a h = a
 arrows_below high at (Joined Member name arguments more) a h =
     arrows_below high at more a (below_right high (argument_tokens arguments) (joined_tokens more) h.1)
@@ -309,7 +309,7 @@ told_procedure high form make (Err fs) p = p
 
 -- units
 
--- a statement's first token behind its label
+-- a statement's first token after its label
 start_below : (high : ℕ) (label : Option Identifier) (at : ℕ) (body : Body) → BodyBegins label at body → Below high (begun_tokens at body) → at < high
 start_below high label at (tree.Assign (Named name arguments more) equals value) b h = subst (λ t. t < high) (sym b) h.0
 start_below high label at tree.Null b h = h.0

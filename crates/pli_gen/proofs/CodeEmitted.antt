@@ -58,7 +58,7 @@ unfolding with_instruction
 tables_are e [] = refl
 tables_are e (i ∷ is) = tables_are (with_instruction e i) is ∙ after_one e.tables i is
 
--- a number that was given stays, whatever is numbered behind it
+-- a number that was given stays, whatever is numbered after it
 kept : (t : NumberedTables) (i : op.Instruction) (is : List op.Instruction) (n : ℕ) → Fits n i → emitted t i ≡ emitted (tables_after t (i ∷ is)) i
 kept t (op.Field offset d) is n h =
     ap (λ k. coded.Field offset (min k 65535)) (sym (first_number same_type same_type_decides t.descriptions (Stated d) (flat_map descriptions_named is)))

@@ -1,9 +1,9 @@
--- Numbers of blocks and instructions are within their fields before what they name is numbered as behind it.
+-- Numbers of blocks and instructions are within their fields before what they name is numbered as after it.
 use Rattle.std.proofs.Common.{◌≡◌, ℕ, zero, suc, ◌<◌, ◌&&◌, Bool, true, false, true≢false, List, [], ◌∷◌, map, get_or, length, refl, sym, ap, ◌∙◌, arith}
 use Rattle.std.specs.List.{list_all}
 use Rattle.pli_program.specs.Program as op
 use Rattle.pli_code.specs.CodeFields as fields
-use Rattle.pli_gen_emit.specs.TreeTranslation.{BlockTree, behind, block_code}
+use Rattle.pli_gen_emit.specs.TreeTranslation.{BlockTree, place_after, block_code}
 use Rattle.pli_gen_emit.specs.Encoding.{NumberedTables, instruction_code, coded_blocks}
 use Rattle.pli_gen_emit.specs.answers.Instructions.{instruction_fits}
 use Rattle.pli_gen.specs.answers.Pieces.{block_fits}
@@ -21,7 +21,7 @@ one_of_all p f (x ∷ xs) (suc i) d lt h = one_of_all p f xs i d (omega (arith, 
 module _ (t : NumberedTables) where
   pub blocks_as_coded : (bs : List BlockTree) (p : ℕ) → list_all fields.block_fits (coded_blocks t bs p) ≡ list_all block_fits bs
   blocks_as_coded [] p = refl
-  blocks_as_coded (b ∷ bs) p = ap (λ r. block_fits b && r) (blocks_as_coded bs (behind (block_code b p) p))
+  blocks_as_coded (b ∷ bs) p = ap (λ r. block_fits b && r) (blocks_as_coded bs (place_after (block_code b p) p))
 
   one_as_coded : (i : op.Instruction) → fields.instruction_fits (instruction_code t i) ≡ instruction_fits i
   one_as_coded (op.Operate operation) = refl

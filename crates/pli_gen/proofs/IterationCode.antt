@@ -1,16 +1,16 @@
--- Code of groups with a control variable, round their lists: no step, and jumps only behind the tests and to them.
+-- Code of groups with a control variable, round their lists: no step, and jumps only after the tests and to them.
 use Rattle.std.proofs.Common.{◌≡◌, ℕ, suc, ◌+◌, ◌≤◌, nat_eq, Bool, true, false, if◌then◌else◌, Option, Some, None, List, [], ◌∷◌, ◌++◌, refl, ap, sym, ◌∙◌}
 use Rattle.std.specs.List.{AllByRecursion}
 use Rattle.pli_program.specs.Program as op
 use Rattle.pli_operation.specs.declared.operation.Operation.TheVariants as calculate
 use Rattle.pli_type_tree.specs.Iterations.{kept_by, limit_number, step_number, is_iterated}
 use Rattle.pli_type_tree.specs.TypedTree.{TypedExpression, Iteration, TypedRange, Once, ToBy, ByTo, Repeated, RepeatedString}
-use Rattle.pli_gen_emit.specs.TreeTranslation.{value_code, place_code, behind, keeps_code, conversion_code, sets_code, start_code, test_against, limit_test, while_test, guarded}
+use Rattle.pli_gen_emit.specs.TreeTranslation.{value_code, place_code, place_after, keeps_code, conversion_code, sets_code, start_code, test_against, limit_test, while_test, guarded}
 use Rattle.pli_gen_emit.specs.TreeTranslation.{tests_code, counted_code, advances_code, back_code, turn_place, list_place, iterate_code}
 use Rattle.pli_gen_emit.specs.answers.Instructions.{step_place}
 use Rattle.pli_gen.specs.answers.Pieces.{Fits}
 use Rattle.pli_gen.proofs.SimpleCode.{AllSimple, all_both, simple_both, value_simple, place_simple, conversion_simple, simple_fits, none_begins}
-use Rattle.pli_gen.proofs.SimpleCode.{step_place_behind, behind_both}
+use Rattle.pli_gen.proofs.SimpleCode.{step_place_after, after_both}
 
 keeps_simple : (t : ℕ) (es : List TypedExpression) → AllSimple (keeps_code t es)
 keeps_simple t [] = tt
@@ -80,47 +80,47 @@ back_fits true number between turn n t simple =
     all_both (Fits n) (op.Line number ∷ between) (op.Jump turn ∷ []) (tt, simple_fits between n simple) (t, tt)
 
 -- a test is as long wherever its jump leads
-guard_length : (test : Option (List op.Instruction)) (a b p : ℕ) → behind (guarded test a) p ≡ behind (guarded test b) p
+guard_length : (test : Option (List op.Instruction)) (a b p : ℕ) → place_after (guarded test a) p ≡ place_after (guarded test b) p
 guard_length None a b p = refl
-guard_length (Some test) a b p = behind_both test (op.JumpUnless a ∷ []) p ∙ sym (behind_both test (op.JumpUnless b ∷ []) p)
+guard_length (Some test) a b p = after_both test (op.JumpUnless a ∷ []) p ∙ sym (after_both test (op.JumpUnless b ∷ []) p)
 
-pub tests_length : (i : Iteration) (a b p : ℕ) → behind (tests_code i a) p ≡ behind (tests_code i b) p
+pub tests_length : (i : Iteration) (a b p : ℕ) → place_after (tests_code i a) p ≡ place_after (tests_code i b) p
 tests_length i a b p =
     let first : ℕ → List op.Instruction = λ t. guarded (limit_test i) t in
     let second : ℕ → List op.Instruction = λ t. guarded (while_test i.condition) t in
-    behind_both (first a) (second a) p ∙ ap (behind (second a)) (guard_length (limit_test i) a b p) ∙ guard_length (while_test i.condition) a b (behind (first b) p)
-    ∙ sym (behind_both (first b) (second b) p)
+    after_both (first a) (second a) p ∙ ap (place_after (second a)) (guard_length (limit_test i) a b p) ∙ guard_length (while_test i.condition) a b (place_after (first b) p)
+    ∙ sym (after_both (first b) (second b) p)
 
--- the place behind the tests
-pub tests_end : (i : Iteration) (target p : ℕ) → suc (behind (start_code i ++ tests_code i target) p) ≡ list_place i p
-tests_end i target p = ap suc (behind_both (start_code i) (tests_code i target) p ∙ tests_length i target 0 (turn_place i p))
+-- the place after the tests
+pub tests_end : (i : Iteration) (target p : ℕ) → suc (place_after (start_code i ++ tests_code i target) p) ≡ list_place i p
+tests_end i target p = ap suc (after_both (start_code i) (tests_code i target) p ∙ tests_length i target 0 (turn_place i p))
 
--- and behind all
+-- and after all
 pub iterate_ends : (number : ℕ) (i : Iteration) (list : ℕ → List op.Instruction) (p : ℕ)
-    → behind (iterate_code number i list p) p
-    ≡ behind (back_code (is_iterated i.range) number (advances_code i.range i) (turn_place i p)) (behind (list (list_place i p)) (list_place i p))
+    → place_after (iterate_code number i list p) p
+    ≡ place_after (back_code (is_iterated i.range) number (advances_code i.range i) (turn_place i p)) (place_after (list (list_place i p)) (list_place i p))
 iterate_ends number i list p =
     let q = list_place i p in
     let code = list q in
     let back = back_code (is_iterated i.range) number (advances_code i.range i) (turn_place i p) in
-    let out = behind back (behind code q) in
-    behind_both (start_code i ++ tests_code i out) (op.Step number ∷ (code ++ back)) p ∙ ap (behind (code ++ back)) (tests_end i out p) ∙ behind_both code back q
+    let out = place_after back (place_after code q) in
+    after_both (start_code i ++ tests_code i out) (op.Step number ∷ (code ++ back)) p ∙ ap (place_after (code ++ back)) (tests_end i out p) ∙ after_both code back q
 
 -- no statement begins in it
 guard_passed : (test : Option (List op.Instruction)) (target p m d : ℕ) → GuardSimple test → step_place (guarded test target) p m d ≡ d
 guard_passed None target p m d simple = refl
-guard_passed (Some test) target p m d simple = step_place_behind test (op.JumpUnless target ∷ []) p m d ∙ none_begins test p m d simple
+guard_passed (Some test) target p m d simple = step_place_after test (op.JumpUnless target ∷ []) p m d ∙ none_begins test p m d simple
 
 tests_passed : (i : Iteration) (target p m d : ℕ) → step_place (tests_code i target) p m d ≡ d
 tests_passed i target p m d =
-    step_place_behind (guarded (limit_test i) target) (guarded (while_test i.condition) target) p m d
+    step_place_after (guarded (limit_test i) target) (guarded (while_test i.condition) target) p m d
     ∙ guard_passed (limit_test i) target p m _ (limit_simple i) ∙ guard_passed (while_test i.condition) target _ m d (while_simple i.condition)
 
 back_passed : (iterated : Bool) (number : ℕ) (between : List op.Instruction) (turn p m d : ℕ) → AllSimple between
     → step_place (back_code iterated number between turn) p m d ≡ d
 back_passed false number between turn p m d simple = refl
 back_passed true number between turn p m d simple =
-    step_place_behind (op.Line number ∷ between) (op.Jump turn ∷ []) p m d ∙ none_begins between (suc p) m d simple
+    step_place_after (op.Line number ∷ between) (op.Jump turn ∷ []) p m d ∙ none_begins between (suc p) m d simple
 
 pub iterate_passed : (number : ℕ) (i : Iteration) (list : ℕ → List op.Instruction) (p m d : ℕ) → nat_eq number m ≡ false
     → step_place (iterate_code number i list p) p m d ≡ step_place (list (list_place i p)) (list_place i p) m d
@@ -129,16 +129,16 @@ iterate_passed number i list p m d other =
     let code = list q in
     let between = advances_code i.range i in
     let back = back_code (is_iterated i.range) number between (turn_place i p) in
-    let out = behind back (behind code q) in
+    let out = place_after back (place_after code q) in
     let start = start_code i in
     let tests = tests_code i out in
     let rest = op.Step number ∷ (code ++ back) in
-    let r = behind (start ++ tests) p in
-    step_place_behind (start ++ tests) rest p m d
-    ∙ step_place_behind start tests p m (step_place rest r m d)
+    let r = place_after (start ++ tests) p in
+    step_place_after (start ++ tests) rest p m d
+    ∙ step_place_after start tests p m (step_place rest r m d)
     ∙ none_begins start p m _ (start_simple i)
-    ∙ tests_passed i out (behind start p) m (step_place rest r m d)
+    ∙ tests_passed i out (place_after start p) m (step_place rest r m d)
     ∙ ap (λ b. if b then r else step_place (code ++ back) (suc r) m d) other
     ∙ ap (λ k. step_place (code ++ back) k m d) (tests_end i out p)
-    ∙ step_place_behind code back q m d
-    ∙ ap (step_place code q m) (back_passed (is_iterated i.range) number between (turn_place i p) (behind code q) m d (advances_simple i.range i))
+    ∙ step_place_after code back q m d
+    ∙ ap (step_place code q m) (back_passed (is_iterated i.range) number between (turn_place i p) (place_after code q) m d (advances_simple i.range i))

@@ -20,7 +20,7 @@ use Rattle.pli_type_tree.specs.Templates.{InitialScalar, Template}
 use Rattle.pli_type_tree.specs.TypedTree as typed
 use Rattle.pli_type_tree.specs.TypedTree.{TypedUnit}
 use Rattle.pli_code.specs.CodeFields as fields
-use Rattle.pli_gen_emit.specs.TreeTranslation.{BlockTree, behind, block_code}
+use Rattle.pli_gen_emit.specs.TreeTranslation.{BlockTree, place_after, block_code}
 use Rattle.pli_gen_emit.specs.Encoding.{NumberedTables, number_in, template_number, template_code, global_code, instruction_code, coded_blocks, coded_unit}
 use Rattle.pli_gen.specs.Limits.{is_over, member_count, has_many_members, one_has_many, has_many_types, has_many_slots, bytes_of, initial_bytes_of, initial_bytes, has_wide_number, is_too_long}
 use Rattle.pli_gen_emit.specs.answers.Instructions.{instruction_fits}
@@ -101,13 +101,13 @@ module _ (t : NumberedTables) where
 
   pub blocks_counted : (bs : List BlockTree) (p : ℕ) → length (coded_blocks t bs p) ≡ length bs
   blocks_counted [] p = refl
-  blocks_counted (b ∷ bs) p = ap suc (blocks_counted bs (behind (block_code b p) p))
+  blocks_counted (b ∷ bs) p = ap suc (blocks_counted bs (place_after (block_code b p) p))
 
   slots_counted : (bs : List BlockTree) (p : ℕ) → list_any has_many_slots (coded_blocks t bs p) ≡ list_any takes_many_slots bs
   slots_counted [] p = refl
   slots_counted (b ∷ bs) p =
-      ap (λ n. nat_lt 65535 (b.parameters + n) || list_any has_many_slots (coded_blocks t bs (behind (block_code b p) p))) (length-map b.head.variables (template_number t))
-      ∙ ap (λ c. takes_many_slots b || c) (slots_counted bs (behind (block_code b p) p))
+      ap (λ n. nat_lt 65535 (b.parameters + n) || list_any has_many_slots (coded_blocks t bs (place_after (block_code b p) p))) (length-map b.head.variables (template_number t))
+      ∙ ap (λ c. takes_many_slots b || c) (slots_counted bs (place_after (block_code b p) p))
 
 or_apart : (x y z : Bool) → (x || (y || z)) ≡ (x || y || z)
 or_apart true y z = refl

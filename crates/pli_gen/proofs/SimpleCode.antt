@@ -6,7 +6,7 @@ use Rattle.pli_type_tree.specs.TypedTree.{Callee, OfBlock, OfEntry}
 use Rattle.pli_type_tree.specs.TypedTree.{Root, InSlot, OfProgram, NewestOf, Located, TypedOperation, Fit, Operate, TypedExpression, Literal, Held, Calculated, Called, Generations, Address, AsPointer, AsOffset, Bounded, TypedReference, Whole, Part, ElementOf}
 use Rattle.pli_type_tree.specs.TypedTree.{Operands, NoOperand, OperandThen, Subscripts, NoSubscript, SubscriptThen, TypedArguments, NoArgument, ByPlace, ByDummy, ByString}
 use Rattle.pli_type_tree.specs.TypedTree.{Conversion, ByOperations, AsPointerIn, AsOffsetIn, ToPlace, FreedItem, FreesControlled, FreesBased}
-use Rattle.pli_gen_emit.specs.TreeTranslation.{argument_count, root_code, call_instruction, operation_code, value_code, place_code, operands_code, subscripts_code, dimensions_code, arguments_code, skip_code, items_code, operations_code, conversion_code, freeing_code, freeings_code, behind}
+use Rattle.pli_gen_emit.specs.TreeTranslation.{argument_count, root_code, call_instruction, operation_code, value_code, place_code, operands_code, subscripts_code, dimensions_code, arguments_code, skip_code, items_code, operations_code, conversion_code, freeing_code, freeings_code, place_after}
 use Rattle.pli_gen_emit.specs.answers.Instructions.{step_place}
 use Rattle.pli_gen.specs.answers.Pieces.{Fits}
 
@@ -139,12 +139,12 @@ none_begins (i ∷ is) p m d h = none_begins is (suc p) m d h.1
 pub none_in_value : (e : TypedExpression) (p m d : ℕ) → step_place (value_code e) p m d ≡ d
 none_in_value e p m d = none_begins (value_code e) p m d (value_simple e)
 
--- where a statement begins in code behind code
-pub step_place_behind : (xs ys : List op.Instruction) (p m d : ℕ) → step_place (xs ++ ys) p m d ≡ step_place xs p m (step_place ys (behind xs p) m d)
-step_place_behind [] ys p m d = refl
-step_place_behind (op.Step s ∷ xs) ys p m d = ap (λ k. if nat_eq s m then p else k) (step_place_behind xs ys (suc p) m d)
-step_place_behind (i ∷ xs) ys p m d = step_place_behind xs ys (suc p) m d
+-- where a statement begins in code after code
+pub step_place_after : (xs ys : List op.Instruction) (p m d : ℕ) → step_place (xs ++ ys) p m d ≡ step_place xs p m (step_place ys (place_after xs p) m d)
+step_place_after [] ys p m d = refl
+step_place_after (op.Step s ∷ xs) ys p m d = ap (λ k. if nat_eq s m then p else k) (step_place_after xs ys (suc p) m d)
+step_place_after (i ∷ xs) ys p m d = step_place_after xs ys (suc p) m d
 
-pub behind_both : (xs ys : List op.Instruction) (p : ℕ) → behind (xs ++ ys) p ≡ behind ys (behind xs p)
-behind_both [] ys p = refl
-behind_both (x ∷ xs) ys p = behind_both xs ys (suc p)
+pub after_both : (xs ys : List op.Instruction) (p : ℕ) → place_after (xs ++ ys) p ≡ place_after ys (place_after xs p)
+after_both [] ys p = refl
+after_both (x ∷ xs) ys p = after_both xs ys (suc p)

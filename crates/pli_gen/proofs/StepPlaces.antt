@@ -6,7 +6,7 @@ use Rattle.pli_code.specs.declared.instruction.Instruction.{Instruction}
 use Rattle.pli_code.specs.declared.instruction.Instruction.TheVariants as coded
 use Rattle.pli_type_tree.specs.TypedTree.{TypedExpression, TypedStatement, Statement, TypedStatements, NoStatement, StatementThen, NoElse, Else}
 use Rattle.pli_type_tree.specs.TypedTree.{Form, Null, Assign, AssignString, AssignAggregate, AssignArea, EmptyArea, Put, If, Begin, Group, While, Iterate, Call, Goto, Return, ReturnValue, Stop, On, Revert, Signal, Allocate, Free}
-use Rattle.pli_gen_emit.specs.TreeTranslation.{BlockTree, behind, value_code, statement_code, form_code, list_code, end_code, block_code, blocks_code}
+use Rattle.pli_gen_emit.specs.TreeTranslation.{BlockTree, place_after, value_code, statement_code, form_code, list_code, end_code, block_code, blocks_code}
 use Rattle.pli_gen_emit.specs.TreeTranslation.{places_in, places_in_form, places_among, places_of, statement_place, list_place}
 use Rattle.pli_gen_emit.specs.answers.Instructions.{step_place}
 use Rattle.pli_gen_emit.specs.Encoding.{NumberedTables}
@@ -14,7 +14,7 @@ use Rattle.pli_gen_emit.specs.answers.Emitting.{emitted}
 use Rattle.pli_gen.specs.answers.Pieces.{first_step}
 use Rattle.pli_gen.proofs.IterationCode.{iterate_passed}
 use Rattle.pli_gen.proofs.FormCode.{none_in_form}
-use Rattle.pli_gen.proofs.SimpleCode.{none_in_value, step_place_behind, behind_both}
+use Rattle.pli_gen.proofs.SimpleCode.{none_in_value, step_place_after, after_both}
 
 -- one instruction more
 first_then : (x : Instruction) (rest : List Instruction) (p n : ℕ) → first_step (x ∷ rest) p n 0 ≡ first_step (x ∷ []) p n (first_step rest (suc p) n 0)
@@ -42,7 +42,7 @@ step_emitted t i rest p n d = refl
 pub steps_emitted : (t : NumberedTables) (is : List op.Instruction) (p n d : ℕ) → first_step (map (emitted t) is) p n d ≡ step_place is p n d
 steps_emitted t [] p n d = refl
 steps_emitted t (i ∷ is) p n d =
-    step_emitted t i (map (emitted t) is) p n d ∙ ap (step_place (i ∷ []) p n) (steps_emitted t is (suc p) n d) ∙ sym (step_place_behind (i ∷ []) is p n d)
+    step_emitted t i (map (emitted t) is) p n d ∙ ap (step_place (i ∷ []) p n) (steps_emitted t is (suc p) n d) ∙ sym (step_place_after (i ∷ []) is p n d)
 
 -- the place of a statement among places; another one if it is not there
 abbrev place_or : List (ℕ × ℕ) → (number other : ℕ) → ℕ
@@ -53,14 +53,14 @@ place_or_is : (places : List (ℕ × ℕ)) (m : ℕ) → place_or places m 0 ≡
 place_or_is [] m = refl
 place_or_is ((s, p) ∷ more) m = ap (λ k. if nat_eq s m then p else k) (place_or_is more m)
 
-place_or_behind : (xs ys : List (ℕ × ℕ)) (m d : ℕ) → place_or (xs ++ ys) m d ≡ place_or xs m (place_or ys m d)
-place_or_behind [] ys m d = refl
-place_or_behind ((s, p) ∷ xs) ys m d = ap (λ k. if nat_eq s m then p else k) (place_or_behind xs ys m d)
+place_or_after : (xs ys : List (ℕ × ℕ)) (m d : ℕ) → place_or (xs ++ ys) m d ≡ place_or xs m (place_or ys m d)
+place_or_after [] ys m d = refl
+place_or_after ((s, p) ∷ xs) ys m d = ap (λ k. if nat_eq s m then p else k) (place_or_after xs ys m d)
 
 -- a test is passed over
-test_passed : (test : TypedExpression) (rest : List op.Instruction) (p m d : ℕ) → step_place (value_code test ++ rest) p m d ≡ step_place rest (behind (value_code test) p) m d
+test_passed : (test : TypedExpression) (rest : List op.Instruction) (p m d : ℕ) → step_place (value_code test ++ rest) p m d ≡ step_place rest (place_after (value_code test) p) m d
 test_passed test rest p m d =
-    step_place_behind (value_code test) rest p m d ∙ none_in_value test p m (step_place rest (behind (value_code test) p) m d)
+    step_place_after (value_code test) rest p m d ∙ none_in_value test p m (step_place rest (place_after (value_code test) p) m d)
 
 -- where a test fails, what is chosen is the other one
 other_one : (b : Bool) (x y : ℕ) → b ≡ false → (if b then x else y) ≡ y
@@ -73,11 +73,11 @@ unless false p x y h = h refl
 -- the step at each turn of a loop is not the first of its statement
 turn_passed : (number p r m d : ℕ) (test : TypedExpression) (code : List op.Instruction) → nat_eq number m ≡ false
     → step_place (op.Line number ∷ value_code test ++ op.JumpUnless r ∷ op.Step number ∷ code ++ op.Jump p ∷ []) p m d
-    ≡ step_place code (suc (suc (behind (value_code test) (suc p)))) m d
+    ≡ step_place code (suc (suc (place_after (value_code test) (suc p)))) m d
 turn_passed number p r m d test code e =
     let front = op.Line number ∷ value_code test ++ op.JumpUnless r ∷ op.Step number ∷ code in
-    let q = suc (behind (value_code test) (suc p)) in
-    step_place_behind front (op.Jump p ∷ []) p m d
+    let q = suc (place_after (value_code test) (suc p)) in
+    step_place_after front (op.Jump p ∷ []) p m d
     ∙ test_passed test (op.JumpUnless r ∷ op.Step number ∷ code) (suc p) m d
     ∙ other_one (nat_eq number m) q (step_place code (suc q) m d) e
 
@@ -87,23 +87,23 @@ mutual
 
   form_begins : (number : ℕ) (f : Form) (p m d : ℕ) → nat_eq number m ≡ false → step_place (form_code number f p) p m d ≡ place_or (places_in_form f p) m d
   form_begins number (If test part NoElse) p m d e =
-      let q = suc (behind (value_code test) p) in
-      test_passed test (op.JumpUnless (behind (statement_code part q) q) ∷ statement_code part q) p m d ∙ statement_begins part q m d
-      ∙ sym (place_or_behind (places_in part q) [] m d)
+      let q = suc (place_after (value_code test) p) in
+      test_passed test (op.JumpUnless (place_after (statement_code part q) q) ∷ statement_code part q) p m d ∙ statement_begins part q m d
+      ∙ sym (place_or_after (places_in part q) [] m d)
   form_begins number (If test part (Else other)) p m d e =
-      let q = suc (behind (value_code test) p) in
+      let q = suc (place_after (value_code test) p) in
       let code = statement_code part q in
-      let r = suc (behind code q) in
-      let rest = op.Jump (behind (statement_code other r) r) ∷ statement_code other r in
+      let r = suc (place_after code q) in
+      let rest = op.Jump (place_after (statement_code other r) r) ∷ statement_code other r in
       let front = value_code test ++ op.JumpUnless r ∷ code in
-      step_place_behind front rest p m d
-      ∙ test_passed test (op.JumpUnless r ∷ code) p m (step_place rest (behind front p) m d)
-      ∙ statement_begins part q m (step_place rest (behind front p) m d)
-      ∙ ap (place_or (places_in part q) m) (ap (λ k. step_place rest k m d) (behind_both (value_code test) (op.JumpUnless r ∷ code) p) ∙ statement_begins other r m d)
-      ∙ sym (place_or_behind (places_in part q) (places_in other r) m d)
+      step_place_after front rest p m d
+      ∙ test_passed test (op.JumpUnless r ∷ code) p m (step_place rest (place_after front p) m d)
+      ∙ statement_begins part q m (step_place rest (place_after front p) m d)
+      ∙ ap (place_or (places_in part q) m) (ap (λ k. step_place rest k m d) (after_both (value_code test) (op.JumpUnless r ∷ code) p) ∙ statement_begins other r m d)
+      ∙ sym (place_or_after (places_in part q) (places_in other r) m d)
   form_begins number (Group statements) p m d e = list_begins statements p m d
   form_begins number (While condition statements) p m d e =
-      let q = suc (suc (behind (value_code condition) (suc p))) in
+      let q = suc (suc (place_after (value_code condition) (suc p))) in
       turn_passed number p _ m d condition (list_code statements q) e ∙ list_begins statements q m d
   form_begins number (Iterate iteration statements) p m d e =
       iterate_passed number iteration (list_code statements) p m d e ∙ list_begins statements (list_place iteration p) m d
@@ -130,11 +130,11 @@ mutual
   list_begins NoStatement p m d = refl
   list_begins (StatementThen first more) p m d =
       let code = statement_code first p in
-      let q = behind code p in
-      step_place_behind code (list_code more q) p m d
+      let q = place_after code p in
+      step_place_after code (list_code more q) p m d
       ∙ statement_begins first p m _
       ∙ ap (place_or (places_in first p) m) (list_begins more q m d)
-      ∙ sym (place_or_behind (places_in first p) (places_among more q) m d)
+      ∙ sym (place_or_after (places_in first p) (places_among more q) m d)
 
 end_passed : (e : Option ℕ) (p m d : ℕ) → step_place (end_code e) p m d ≡ d
 end_passed None p m d = refl
@@ -144,13 +144,13 @@ blocks_begin : (bs : List BlockTree) (p m d : ℕ) → step_place (blocks_code b
 blocks_begin [] p m d = refl
 blocks_begin (b ∷ bs) p m d =
     let code = block_code b p in
-    let q = behind code p in
-    step_place_behind code (blocks_code bs q) p m d
-    ∙ step_place_behind (list_code b.statements p) (end_code b.function_end) p m _
+    let q = place_after code p in
+    step_place_after code (blocks_code bs q) p m d
+    ∙ step_place_after (list_code b.statements p) (end_code b.function_end) p m _
     ∙ ap (step_place (list_code b.statements p) p m) (end_passed b.function_end _ m _)
     ∙ list_begins b.statements p m _
     ∙ ap (place_or (places_among b.statements p) m) (blocks_begin bs q m d)
-    ∙ sym (place_or_behind (places_among b.statements p) (places_of bs q) m d)
+    ∙ sym (place_or_after (places_among b.statements p) (places_of bs q) m d)
 
 -- so a GOTO leads where its label's statement begins
 pub steps_are_places : (bs : List BlockTree) (m : ℕ) → step_place (blocks_code bs 0) 0 m 0 ≡ statement_place (places_of bs 0) m

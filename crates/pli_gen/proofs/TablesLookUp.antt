@@ -13,7 +13,7 @@ use Rattle.pli_type_tree.specs.Templates.{Template, variable_of}
 use Rattle.pli_type_tree.specs.TypedTree.{Global, OwnVariable, ExternalVariable, EntryPoint, TypedUnit}
 use Rattle.pli_code.specs.CodeTables.{Code, looked_up, template_at, variables_at, block_looked_up, program_of, there, naming, with_description, described, stated_at}
 use Rattle.pli_code.specs.CodeTables.{global_before, globals_linked}
-use Rattle.pli_gen_emit.specs.TreeTranslation.{BlockTree, blocks_of, blocks_at, block_at, block_code, behind, instructions_of, globals_code, unit_code}
+use Rattle.pli_gen_emit.specs.TreeTranslation.{BlockTree, blocks_of, blocks_at, block_at, block_code, place_after, instructions_of, globals_code, unit_code}
 use Rattle.pli_gen_emit.specs.Encoding.{NumberedTables, tables_for, descriptions_named, templates_named, values_named, dummy}
 use Rattle.pli_type_keys.specs.Same.{same_value, same_template}
 use Rattle.pli_gen_emit.specs.Encoding.{signature_descriptions, global_descriptions, global_templates, block_templates}
@@ -71,10 +71,10 @@ module _ (tables : NumberedTables) (u : TypedUnit) (bs : List BlockTree) (code :
   globals_there (EntryPoint name s ∷ gs) [] h = globals_there gs [] h
   globals_there (EntryPoint name s ∷ gs) (link ∷ links) h = ap (λ gs. op.EntryPoint link ∷ gs) (globals_there gs links h)
 
-  -- behind the last entry there is none
-  none_behind : {X : Type 0} (xs : List X) → slice_get xs (length xs) ≡ None
-  none_behind [] = refl
-  none_behind (x ∷ xs) = none_behind xs
+  -- after the last entry there is none
+  none_after : {X : Type 0} (xs : List X) → slice_get xs (length xs) ≡ None
+  none_after [] = refl
+  none_after (x ∷ xs) = none_after xs
 
   instruction_there : (i : op.Instruction) → AllByRecursion HasDescription (descriptions_named i) → AllByRecursion HasTemplate (templates_named i)
       → AllByRecursion (Has same_value value_decides tables.values) (values_named i) → looked_up c (instruction_code tables i) ≡ i
@@ -86,7 +86,7 @@ module _ (tables : NumberedTables) (u : TypedUnit) (bs : List BlockTree) (code :
   instruction_there (op.AllocateBased t) ds ts vs = ap (naming op.AllocateBased) (template_there t ts.0 ds.0)
   instruction_there (op.AllocateInArea t after) ds ts vs = ap (naming (λ t. op.AllocateInArea t after)) (template_there t ts.0 ds.0)
   instruction_there (op.FreeBased d) ds ts vs = ap (naming op.FreeBased) (description_there d ds.0)
-  instruction_there op.Nothing ds ts vs = ap (naming op.Constant) (none_behind tables.values)
+  instruction_there op.Nothing ds ts vs = ap (naming op.Constant) (none_after tables.values)
   instruction_there i ds ts vs = refl
 
   instructions_there : (is : List op.Instruction) → AllByRecursion HasDescription (flat_map descriptions_named is) → AllByRecursion HasTemplate (flat_map templates_named is)
@@ -105,7 +105,7 @@ module _ (tables : NumberedTables) (u : TypedUnit) (bs : List BlockTree) (code :
   blocks_there : (bs : List BlockTree) (p : ℕ) → AllByRecursion InTables (flat_map (λ b. b.head.variables) bs) → map (block_looked_up c) (coded_blocks tables bs p) ≡ blocks_at bs p
   blocks_there [] p h = refl
   blocks_there (b ∷ bs) p h =
-      let q = behind (block_code b p) p in
+      let q = place_after (block_code b p) p in
       let vs = b.head.variables in
       let more = flat_map (λ b. b.head.variables) bs in
       ap (λ vs. block_with b p vs ∷ map (block_looked_up c) (coded_blocks tables bs q)) (variables_there vs (all_front InTables vs more h))

@@ -16,7 +16,7 @@ use Rattle.pli_gen_emit.specs.declared.emitting.Emitted.{Emitted}
 use Rattle.pli_gen_emit.specs.views.BlockView.{block_trees}
 use Rattle.pli_gen_emit.specs.views.TableView.{tables_view}
 use Rattle.pli_gen_emit.proofs.EmitLemmas.{counted}
-use Rattle.pli_gen_emit.proofs.JumpLemmas.{behind_is}
+use Rattle.pli_gen_emit.proofs.JumpLemmas.{after_is}
 use Rattle.pli_gen_emit.proofs.KeyLemmas.{numbered_after, same_tables}
 use Rattle.pli_gen.specs.Limits.{is_too_long}
 use Rattle.pli_gen.specs.answers.Pieces.{first_step, gotos_landed, HaveDescriptions}
@@ -68,7 +68,7 @@ module _ (u : TypedUnit) (e : Emitted) (made : IsEmitted u e) where
   counts =
       let a : length e.emitter.code.items ≡ length (extended before code).code = ap (λ (s : Emission). length s.code) made.code in
       let b = counted before code in
-      let c = behind_is code 0 in
+      let c = after_is code 0 in
       omega (arith, a, b, c)
 
   not_not : (b : Bool) → not (not b) ≡ b

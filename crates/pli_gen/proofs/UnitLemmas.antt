@@ -11,7 +11,7 @@ use Rattle.pli_type_tree.specs.TypedTree.{Global, OwnVariable, ExternalVariable,
 use Rattle.pli_code.specs.CodeFields as fields
 use Rattle.pli_code.specs.CodeTables.{CodedTemplate, CodedBlock, CodedSignature, CodedGlobal, Code}
 use Rattle.pli_code.specs.declared.instruction.Instruction.{Instruction}
-use Rattle.pli_gen_emit.specs.TreeTranslation.{BlockTree, behind, block_code, blocks_code, blocks_of, places_of, statement_place, with_target, instructions_of}
+use Rattle.pli_gen_emit.specs.TreeTranslation.{BlockTree, place_after, block_code, blocks_code, blocks_of, places_of, statement_place, with_target, instructions_of}
 use Rattle.pli_gen_emit.specs.Encoding.{NumberedTables, tables_for, numbered, descriptions_named, templates_named, values_named}
 use Rattle.pli_type_keys.specs.Same.{same_template, same_value}
 use Rattle.pli_gen_emit.specs.Encoding.{signature_descriptions, global_descriptions, global_templates, block_templates}
@@ -125,7 +125,7 @@ coded s ds ts vs gs bs is = record { signature = s; descriptions = ds; templates
 module _ (t : NumberedTables) where
   blocks_placed : (bs : List BlockTree) (p : ℕ) → blocks_with_entries t bs (entries_of bs p) ≡ coded_blocks t bs p
   blocks_placed [] p = refl
-  blocks_placed (b ∷ bs) p = ap (λ cs. coded_block t b p ∷ cs) (blocks_placed bs (behind (block_code b p) p))
+  blocks_placed (b ∷ bs) p = ap (λ cs. coded_block t b p ∷ cs) (blocks_placed bs (place_after (block_code b p) p))
 
   -- a unit's code, part by part
   pub unit_coded : (u : TypedUnit) (bs : List BlockTree) (code : List op.Instruction) (entries : List ℕ)

@@ -75,7 +75,7 @@ abbrev mutual
   HaveRoom n NoStatement = Unit {0}
   HaveRoom n (StatementThen first more) = HasRoom n first × HaveRoom n more
 
--- the temporary behind those of an iteration
+-- the temporary after those of an iteration
 abbrev pub next_temporary : Iteration → ℕ
 next_temporary i = i.temporary + temporaries_of i.range
 
@@ -126,13 +126,13 @@ pub record IsOnUnitIn (bs : List BlockTree) (block number : ℕ) : Type 0 where
 
 abbrev mutual
   -- each ON in a statement of a block names an ON-unit there
-  pub NamesUnits : (bs : List BlockTree) (block : ℕ) → TypedStatement → Type 0
-  NamesUnits bs block (Statement number form) = NamesUnitsForm bs block form
+  pub NamesOnUnits : (bs : List BlockTree) (block : ℕ) → TypedStatement → Type 0
+  NamesOnUnits bs block (Statement number form) = NamesUnitsForm bs block form
 
   -- the same of a form
   pub NamesUnitsForm : (bs : List BlockTree) (block : ℕ) → Form → Type 0
   NamesUnitsForm bs block (If condition consequence alternative) =
-      NamesUnits bs block consequence × NamesUnitsElse bs block alternative
+      NamesOnUnits bs block consequence × NamesUnitsElse bs block alternative
   NamesUnitsForm bs block (Group statements) = NameUnits bs block statements
   NamesUnitsForm bs block (While condition statements) = NameUnits bs block statements
   NamesUnitsForm bs block (Iterate iteration statements) = NameUnits bs block statements
@@ -142,12 +142,12 @@ abbrev mutual
   -- of an ELSE
   pub NamesUnitsElse : (bs : List BlockTree) (block : ℕ) → OtherWise → Type 0
   NamesUnitsElse bs block NoElse = Unit {0}
-  NamesUnitsElse bs block (Else statement) = NamesUnits bs block statement
+  NamesUnitsElse bs block (Else statement) = NamesOnUnits bs block statement
 
   -- of each statement of a list
   pub NameUnits : (bs : List BlockTree) (block : ℕ) → TypedStatements → Type 0
   NameUnits bs block NoStatement = Unit {0}
-  NameUnits bs block (StatementThen first more) = NamesUnits bs block first × NameUnits bs block more
+  NameUnits bs block (StatementThen first more) = NamesOnUnits bs block first × NameUnits bs block more
 
 -- the blocks of a unit are numbered from 0, each once; its statements have different numbers; loops nest less
 -- than 64 deep in each block; an iteration's temporaries, and those of ALLOCATE's items, are apart from those

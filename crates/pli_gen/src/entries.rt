@@ -1,5 +1,5 @@
 //! The entries of a unit's tables, copied, with the numbers of what they name. Each function appends to a list of its
-//! caller's, so that none has a list to let go of where memory runs out.
+//! caller's, so that none has a list to drop where memory runs out.
 ghost use Rattle.std.specs.Prelude.{◌≡◌, ◌++◌, map, replicate, IfOk, OnOk};
 ghost use Rattle.pli_map.specs.views.ParameterView.{type_view};
 ghost use Rattle.pli_value.specs.Value.{value_view};

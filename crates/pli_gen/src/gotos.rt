@@ -27,7 +27,7 @@ fn note_step(
     Ok(())
 }
 
-/// The places at which the statements of code begin. A loop's statement has a step at each turn, behind the first.
+/// The places at which the statements of code begin. A loop's statement has a step at each turn, after the first.
 fn step_places(alloc: Global, code: &[Instruction]) -> Result<HashMap<u32, usize>, AllocError>
     ensures { IfOk result (λ places. (n : ℕ) →
         unwrap_or (get nat_eq places n) 0 ≡ first_step code.now 0 n 0) }

@@ -62,17 +62,17 @@ block_put blocks i d before after lt read was is =
     ∙ ap (λ t. take i trees ++ t ∷ []) (get_or-map block_tree blocks i d (block_tree d) lt ∙ ap block_tree (sym read)) in
     is ∙ ap (λ b. set b k (get_or b k [] ++ block_tree d ∷ [])) was ∙ put 0 n k (take i trees) (block_tree d) (zero-add k) ∙ ap (lists 0 n) (sym more)
 
--- lists, one behind the other
+-- lists, one after the other
 pub all_flat : (f : ℕ → List BlockTree) (ns : List ℕ) → flat_map (λ trees. trees) (map f ns) ≡ flat_map f ns
 all_flat f [] = refl
 all_flat f (n ∷ ns) = ap (λ bs. f n ++ bs) (all_flat f ns)
 
--- a block behind those of one list
-pub put_behind : (all : List (Vec BlockSource Global)) (n : ℕ) (old new : Vec BlockSource Global) (b : BlockSource) → n < length all → old ≡ get_or all n old
+-- a block after those of one list
+pub put_after : (all : List (Vec BlockSource Global)) (n : ℕ) (old new : Vec BlockSource Global) (b : BlockSource) → n < length all → old ≡ get_or all n old
     → new.items ≡ old.items ++ b ∷ []
     → map (λ list. block_trees list.items) (set all n new)
     ≡ set (map (λ list. block_trees list.items) all) n (get_or (map (λ list. block_trees list.items) all) n [] ++ block_tree b ∷ [])
-put_behind all n old new b lt read more =
+put_after all n old new b lt read more =
     let trees : Vec BlockSource Global → List BlockTree = λ list. block_trees list.items in
     map-set trees all n new
     ∙ ap (set (map trees all) n)

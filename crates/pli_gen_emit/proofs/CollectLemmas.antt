@@ -10,7 +10,7 @@ use Rattle.pli_gen_emit.specs.views.BlockView.{block_trees}
 pub collects_as : (old new : Collected) (more all : List BlockTree) → Collects old new more → more ≡ all → Collects old new all
 collects_as old new more all e is = (e.0, λ h. e.1 h ∙ ap (λ bs. block_trees old.blocks.items ++ bs) is)
 
--- some behind others
+-- some after others
 pub then_collects : (old mid new : Collected) (first second all : List BlockTree) → Collects old mid first → Collects mid new second → first ++ second ≡ all → Collects old new all
 then_collects old mid new first second all e f is =
     collects_as old new (first ++ second) all

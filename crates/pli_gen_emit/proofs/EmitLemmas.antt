@@ -2,11 +2,11 @@
 use Rattle.std.proofs.Common.{◌≡◌, ◌<◌, ◌+◌, ◌++◌, ◌∷◌, [], ℕ, suc, List, false, length, drop, get_or, refl, ap, ◌∙◌, sym, add-one}
 use Rattle.std.proofs.lemmas.List.{at_drop_more, length-append}
 use Rattle.pli_program.specs.Program.{Instruction}
-use Rattle.pli_gen_emit.specs.TreeTranslation.{behind}
+use Rattle.pli_gen_emit.specs.TreeTranslation.{place_after}
 use Rattle.pli_gen_emit.specs.answers.Emitting.{Emission, emission, emitted, with_instruction, extended, Emits}
 use Rattle.pli_gen_emit.specs.declared.emitter.Emitter.{Emitter}
 
--- one part behind the other
+-- one part after the other
 pub extended_both : (e : Emission) (xs ys : List Instruction) → extended e (xs ++ ys) ≡ extended (extended e xs) ys
 extended_both e [] ys = refl
 extended_both e (x ∷ xs) ys = extended_both (with_instruction e x) xs ys
@@ -16,11 +16,11 @@ pub one_longer : (e : Emission) (i : Instruction) → length (with_instruction e
 unfolding with_instruction
 one_longer e i = length-append e.code (emitted e.tables i ∷ []) ∙ add-one (length e.code)
 
-pub counted : (e : Emission) (is : List Instruction) → length (extended e is).code ≡ behind is (length e.code)
+pub counted : (e : Emission) (is : List Instruction) → length (extended e is).code ≡ place_after is (length e.code)
 counted e [] = refl
-counted e (i ∷ is) = counted (with_instruction e i) is ∙ ap (behind is) (one_longer e i)
+counted e (i ∷ is) = counted (with_instruction e i) is ∙ ap (place_after is) (one_longer e i)
 
-pub longer : (old new : Emission) (part : List Instruction) → new ≡ extended old part → length new.code ≡ behind part (length old.code)
+pub longer : (old new : Emission) (part : List Instruction) → new ≡ extended old part → length new.code ≡ place_after part (length old.code)
 longer old new part is = ap (λ (e : Emission). length e.code) is ∙ counted old part
 
 -- the same instructions in other words

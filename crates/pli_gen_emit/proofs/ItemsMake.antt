@@ -24,7 +24,7 @@ use Rattle.pli_gen_emit.specs.Translation as items
 use Rattle.pli_gen_emit.specs.Coding.{description_in, template_in, value_in, tables_of, entry_number, instructions_from, blocks_from, unit_of}
 use Rattle.pli_gen_emit.specs.Coding as by_items
 use Rattle.pli_gen_emit.specs.TreeTranslation as emitted
-use Rattle.pli_gen_emit.specs.TreeTranslation.{behind, statement_place, with_target}
+use Rattle.pli_gen_emit.specs.TreeTranslation.{place_after, statement_place, with_target}
 use Rattle.pli_gen_emit.specs.Encoding as encoded
 use Rattle.pli_gen_emit.specs.Encoding.{descriptions_named, templates_named, values_named, instruction_code, tables_for, coded_blocks, coded_unit}
 use Rattle.pli_gen_emit.specs.CodingLaws.{CodesAlike}
@@ -38,11 +38,11 @@ Agree all places = (s : ℕ) → label_place s 0 all ≡ statement_place places 
 
 -- items are this code from a place on, with statements at these places
 record Codes (p : ℕ) (xs : List Item) (is : List op.Instruction) (ps : Places) : Type 0 where
-  long : behind is p ≡ p + size xs
+  long : place_after is p ≡ p + size xs
   descriptions : flat_map description_in xs ≡ flat_map descriptions_named is
   templates : flat_map template_in xs ≡ flat_map templates_named is
   values : flat_map value_in xs ≡ flat_map values_named is
-  labels : (s : ℕ) (ys : List Item) (qs : Places) → label_place s (behind is p) ys ≡ statement_place qs s → label_place s p (xs ++ ys) ≡ statement_place (ps ++ qs) s
+  labels : (s : ℕ) (ys : List Item) (qs : Places) → label_place s (place_after is p) ys ≡ statement_place qs s → label_place s p (xs ++ ys) ≡ statement_place (ps ++ qs) s
   made : (tables : NumberedTables) (all : List Item) (places : Places) → Agree all places
       → instructions_from tables all p xs ≡ map (instruction_code tables) (map (with_target places) is)
 
@@ -56,9 +56,9 @@ record Makes (p : ℕ) (x : Entry) (t : Target) (with : ℕ → ℕ → Instruct
 
 -- ---- code of its parts
 
-behind-append : (is js : List op.Instruction) (p : ℕ) → behind (is ++ js) p ≡ behind js (behind is p)
-behind-append [] js p = refl
-behind-append (i ∷ is) js p = behind-append is js (suc p)
+place_after-append : (is js : List op.Instruction) (p : ℕ) → place_after (is ++ js) p ≡ place_after js (place_after is p)
+place_after-append [] js p = refl
+place_after-append (i ∷ is) js p = place_after-append is js (suc p)
 
 size-append : (xs ys : List Item) → size (xs ++ ys) ≡ size xs + size ys
 size-append [] ys = omega arith
@@ -109,11 +109,11 @@ labelled_more p n xs is ps r = record {
   made = r.made;
 }
 
--- one part behind another
-made_both : (p : ℕ) (xs ys : List Item) (is js : List op.Instruction) (ps qs : Places) → Codes p xs is ps → Codes (behind is p) ys js qs → Codes p (xs ++ ys) (is ++ js) (ps ++ qs)
+-- one part after another
+made_both : (p : ℕ) (xs ys : List Item) (is js : List op.Instruction) (ps qs : Places) → Codes p xs is ps → Codes (place_after is p) ys js qs → Codes p (xs ++ ys) (is ++ js) (ps ++ qs)
 made_both p xs ys is js ps qs f g = record {
   long =
-      let a = behind-append is js p in
+      let a = place_after-append is js p in
       let b = size-append xs ys in
       let l = f.long in
       let r = g.long in
@@ -128,7 +128,7 @@ made_both p xs ys is js ps qs f g = record {
       flat_map-append value_in xs ys ∙ ap (λ d. d ++ flat_map value_in ys) f.values ∙ ap (λ d. flat_map values_named is ++ d) g.values ∙ sym (flat_map-append values_named is js);
   labels = λ s zs rs h.
       ap (label_place s p) (append_assoc xs ys zs)
-      ∙ f.labels s (ys ++ zs) (qs ++ rs) (g.labels s zs rs (ap (λ q. label_place s q zs) (sym (behind-append is js p)) ∙ h))
+      ∙ f.labels s (ys ++ zs) (qs ++ rs) (g.labels s zs rs (ap (λ q. label_place s q zs) (sym (place_after-append is js p)) ∙ h))
       ∙ ap (λ k. statement_place k s) (sym (append_assoc ps qs rs));
   made = λ tables all places agree.
       let code : List op.Instruction → List Instruction = λ ks. map (instruction_code tables) (map (with_target places) ks) in
@@ -144,7 +144,7 @@ more : {p : ℕ} {x : Entry} {t : Target} {with : ℕ → ℕ → Instruction} {
 more h r = made_more _ _ _ _ _ _ _ _ h r
 
 infixr 40 ◌⊳◌
-◌⊳◌ : {p : ℕ} {xs ys : List Item} {is js : List op.Instruction} {ps qs : Places} → Codes p xs is ps → Codes (behind is p) ys js qs → Codes p (xs ++ ys) (is ++ js) (ps ++ qs)
+◌⊳◌ : {p : ℕ} {xs ys : List Item} {is js : List op.Instruction} {ps qs : Places} → Codes p xs is ps → Codes (place_after is p) ys js qs → Codes p (xs ++ ys) (is ++ js) (ps ++ qs)
 f ⊳ g = made_both _ _ _ _ _ _ _ f g
 
 ended : {p : ℕ} {xs : List Item} {is : List op.Instruction} {ps : Places} → Codes p xs is (ps ++ []) → Codes p xs is ps
@@ -313,7 +313,7 @@ allocation_codes (tree.AllocatesInArea area template temporary target conversion
     let there = place_codes area p in
     let l = there.long in
     there
-    ⊳ more (area_makes (behind (emitted.place_code area) p) (size (items.place_code area)) p template (omega (arith, l)))
+    ⊳ more (area_makes (place_after (emitted.place_code area) p) (size (items.place_code area)) p template (omega (arith, l)))
     (step (op.SetTemporary temporary) refl
     (place_codes target _ ⊳ step (op.TakeTemporary temporary) refl (conversion_codes conversion _ ⊳ step op.Store refl no_code)))
 
@@ -333,35 +333,35 @@ freeings_codes (f ∷ fs) p = freeing_codes f p ⊳ freeings_codes fs _
 
 module _ (p : ℕ) (t : List Item) (t' : List op.Instruction) (tested : Codes p t t' []) where
   abbrev first_place : ℕ
-  first_place = suc (behind t' p)
+  first_place = suc (place_after t' p)
 
   one_way_codes : (part : List Item) (f : ℕ → List op.Instruction) (ps : Places) → Codes first_place part (f first_place) ps → Codes p (items.one_way t part) (emitted.one_way t' f p) ps
   one_way_codes part f ps h =
       let l = h.long in
-      tested ⊳ more (jump_unless (behind t' p) (size part) (behind (f first_place) first_place) (omega (arith, l))) h
+      tested ⊳ more (jump_unless (place_after t' p) (size part) (place_after (f first_place) first_place) (omega (arith, l))) h
 
   two_ways_codes : (part other : List Item) (f g : ℕ → List op.Instruction) (ps qs : Places) → Codes first_place part (f first_place) ps
-      → (let r = suc (behind (f first_place) first_place) in Codes r other (g r) qs) → Codes p (items.two_ways t part other) (emitted.two_ways t' f g p) (ps ++ qs)
+      → (let r = suc (place_after (f first_place) first_place) in Codes r other (g r) qs) → Codes p (items.two_ways t part other) (emitted.two_ways t' f g p) (ps ++ qs)
   two_ways_codes part other f g ps qs h k =
       let l = h.long in
       let m = k.long in
-      let r = suc (behind (f first_place) first_place) in
+      let r = suc (place_after (f first_place) first_place) in
       tested
-      ⊳ more (jump_unless (behind t' p) (suc (size part)) r (omega (arith, l)))
-      (h ⊳ more (jump_ahead (behind (f first_place) first_place) (size other) (behind (g r) r) (omega (arith, m))) k)
+      ⊳ more (jump_unless (place_after t' p) (suc (size part)) r (omega (arith, l)))
+      (h ⊳ more (jump_ahead (place_after (f first_place) first_place) (size other) (place_after (g r) r) (omega (arith, m))) k)
 
 turns_codes : (n p : ℕ) (t list : List Item) (t' : List op.Instruction) (f : ℕ → List op.Instruction) (ps : Places) → Codes (suc p) t t' []
-    → (let q = suc (suc (behind t' (suc p))) in Codes q list (f q) ps) → Codes p (items.turns_code n t list) (emitted.turns_code n t' f p) ps
+    → (let q = suc (suc (place_after t' (suc p))) in Codes q list (f q) ps) → Codes p (items.turns_code n t list) (emitted.turns_code n t' f p) ps
 turns_codes n p t list t' f ps tested h =
-    let q = suc (suc (behind t' (suc p))) in
+    let q = suc (suc (place_after t' (suc p))) in
     let l = h.long in
-    let leave = op.JumpUnless (suc (behind (f q) q)) in
+    let leave = op.JumpUnless (suc (place_after (f q) q)) in
     let turn =
     step (op.Line n) refl
-    (tested ⊳ more (jump_unless (behind t' (suc p)) (suc (suc (size list))) (suc (behind (f q) q)) (omega (arith, l))) (step (op.Step n) refl h)) in
+    (tested ⊳ more (jump_unless (place_after t' (suc p)) (suc (suc (size list))) (suc (place_after (f q) q)) (omega (arith, l))) (step (op.Step n) refl h)) in
     let m = turn.long in
     let passed = size (plain (coded.Line n) ∷ t ++ leading (Ahead (suc (suc (size list)))) coded.JumpUnless ∷ plain (coded.Step n) ∷ list) in
-    let back = jump_back (behind (op.Line n ∷ t' ++ leave ∷ op.Step n ∷ f q) p) passed p (omega (arith, m)) in
+    let back = jump_back (place_after (op.Line n ∷ t' ++ leave ∷ op.Step n ∷ f q) p) passed p (omega (arith, m)) in
     ended
     (subst (λ is. Codes p (items.turns_code n t list) (op.Line n ∷ is) (ps ++ [])) (append_assoc t' (leave ∷ op.Step n ∷ f q) (op.Jump p ∷ []))
     (turn ⊳ more back no_code))
@@ -399,19 +399,19 @@ TestsAre None (Some t') = ⊥
 TestsAre (Some t) None = ⊥
 TestsAre (Some t) (Some t') = (q : ℕ) → Codes q t t' []
 
-guarded_codes : (o : Option (List Item)) (o' : Option (List op.Instruction)) (p passed target : ℕ) → TestsAre o o' → behind (emitted.guarded o' target) p + passed ≡ target
+guarded_codes : (o : Option (List Item)) (o' : Option (List op.Instruction)) (p passed target : ℕ) → TestsAre o o' → place_after (emitted.guarded o' target) p + passed ≡ target
     → Codes p (items.guarded o passed) (emitted.guarded o' target) []
 guarded_codes None None p passed target h e = no_code
 guarded_codes None (Some t') p passed target h e = absurd h
 guarded_codes (Some t) None p passed target h e = absurd h
 guarded_codes (Some t) (Some t') p passed target h e =
-    let a = behind-append t' (op.JumpUnless target ∷ []) p in
-    h p ⊳ more (jump_unless (behind t' p) passed target (omega (arith, a, e))) no_code
+    let a = place_after-append t' (op.JumpUnless target ∷ []) p in
+    h p ⊳ more (jump_unless (place_after t' p) passed target (omega (arith, a, e))) no_code
 
 -- a jump is as long wherever it leads
-guarded_long : (o' : Option (List op.Instruction)) (a b p : ℕ) → behind (emitted.guarded o' a) p ≡ behind (emitted.guarded o' b) p
+guarded_long : (o' : Option (List op.Instruction)) (a b p : ℕ) → place_after (emitted.guarded o' a) p ≡ place_after (emitted.guarded o' b) p
 guarded_long None a b p = refl
-guarded_long (Some t') a b p = behind-append t' (op.JumpUnless a ∷ []) p ∙ sym (behind-append t' (op.JumpUnless b ∷ []) p)
+guarded_long (Some t') a b p = place_after-append t' (op.JumpUnless a ∷ []) p ∙ sym (place_after-append t' (op.JumpUnless b ∷ []) p)
 
 limits_are : (i : Iteration) (limit : Option ℕ) (k : ℕ) → TestsAre (items.test_against i limit k) (emitted.test_against i limit k)
 limits_are i None k = tt
@@ -423,38 +423,38 @@ conditions_are : (c : Option TypedExpression) → TestsAre (option_map items.val
 conditions_are None = tt
 conditions_are (Some e) = λ q. value_codes e q
 
-tests_long : (i : Iteration) (a b p : ℕ) → behind (emitted.tests_code i a) p ≡ behind (emitted.tests_code i b) p
+tests_long : (i : Iteration) (a b p : ℕ) → place_after (emitted.tests_code i a) p ≡ place_after (emitted.tests_code i b) p
 tests_long i a b p =
     let limit = emitted.limit_test i in
     let condition = emitted.while_test i.condition in
-    behind-append (emitted.guarded limit a) (emitted.guarded condition a) p ∙ ap (behind (emitted.guarded condition a)) (guarded_long limit a b p)
-    ∙ guarded_long condition a b (behind (emitted.guarded limit b) p) ∙ sym (behind-append (emitted.guarded limit b) (emitted.guarded condition b) p)
+    place_after-append (emitted.guarded limit a) (emitted.guarded condition a) p ∙ ap (place_after (emitted.guarded condition a)) (guarded_long limit a b p)
+    ∙ guarded_long condition a b (place_after (emitted.guarded limit b) p) ∙ sym (place_after-append (emitted.guarded limit b) (emitted.guarded condition b) p)
 
-tests_codes : (i : Iteration) (p passed target : ℕ) → behind (emitted.tests_code i target) p + passed ≡ target → Codes p (items.tests_code i passed) (emitted.tests_code i target) []
+tests_codes : (i : Iteration) (p passed target : ℕ) → place_after (emitted.tests_code i target) p + passed ≡ target → Codes p (items.tests_code i passed) (emitted.tests_code i target) []
 tests_codes i p passed target e =
     let limit = emitted.limit_test i in
     let condition = emitted.while_test i.condition in
-    let q = behind (emitted.guarded limit target) p in
-    let a = behind-append (emitted.guarded limit target) (emitted.guarded condition target) p in
+    let q = place_after (emitted.guarded limit target) p in
+    let a = place_after-append (emitted.guarded limit target) (emitted.guarded condition target) p in
     let second = guarded_codes (option_map items.value_code i.condition) condition q passed target (conditions_are i.condition) (omega (arith, a, e)) in
     let l = second.long in
     guarded_codes (items.test_against i (limit_number i.range) (step_number i.range)) limit p (size (items.guarded (option_map items.value_code i.condition) passed) + passed) target
     (limits_are i (limit_number i.range) (step_number i.range)) (omega (arith, a, e, l))
     ⊳ second
 
--- what comes between two turns, from a place behind so many instructions of the turn
+-- what comes between two turns, from a place after so many instructions of the turn
 module _ (n : ℕ) (between : List Item) (between' : List op.Instruction) (h : (q : ℕ) → Codes q between between' []) where
   back_codes : (iterated : Bool) (p passed turn : ℕ) → p ≡ turn + passed → Codes p (items.back_code iterated n between passed) (emitted.back_code iterated n between' turn) []
   back_codes false p passed turn e = no_code
   back_codes true p passed turn e =
       let l = (h (suc p)).long in
-      step (op.Line n) refl (h (suc p) ⊳ more (jump_back (behind between' (suc p)) (suc (passed + size between)) turn (omega (arith, l, e))) no_code)
+      step (op.Line n) refl (h (suc p) ⊳ more (jump_back (place_after between' (suc p)) (suc (passed + size between)) turn (omega (arith, l, e))) no_code)
 
-  back_end : (iterated : Bool) (p turn : ℕ) → behind (emitted.back_code iterated n between' turn) p ≡ p + size (items.back_code iterated n between 0)
+  back_end : (iterated : Bool) (p turn : ℕ) → place_after (emitted.back_code iterated n between' turn) p ≡ p + size (items.back_code iterated n between 0)
   back_end false p turn = omega arith
   back_end true p turn =
       let l = (h (suc p)).long in
-      let a = behind-append between' (op.Jump turn ∷ []) (suc p) in
+      let a = place_after-append between' (op.Jump turn ∷ []) (suc p) in
       let b = size-append between (Make NoEntry (Back (suc (0 + size between))) (λ entry target. coded.Jump target) ∷ []) in
       omega (arith, l, a, b)
 
@@ -468,13 +468,13 @@ iterate_codes n p i list f ps h =
     let turn_at = emitted.turn_place i p in
     let q = emitted.list_place i p in
     let back' = emitted.back_code iterated n between' turn_at in
-    let target = behind back' (behind (f q) q) in
+    let target = place_after back' (place_after (f q) q) in
     let passed = suc (size list + size (items.back_code iterated n between 0)) in
     let same = tests_long i 0 target turn_at in
     let l = h.long in
-    let end = back_end n between between' advances iterated (behind (f q) q) turn_at in
+    let end = back_end n between between' advances iterated (place_after (f q) q) turn_at in
     let tests = tests_codes i turn_at passed target (omega (arith, same, l, end)) in
-    let listed : Codes (suc (behind (emitted.tests_code i target) turn_at)) list (f q) ps = subst (λ k. Codes (suc k) list (f q) ps) same h in
+    let listed : Codes (suc (place_after (emitted.tests_code i target) turn_at)) list (f q) ps = subst (λ k. Codes (suc k) list (f q) ps) same h in
     let turn = tests ⊳ step (op.Step n) refl listed in
     let back = back_codes n between between' advances iterated _ _ turn_at turn.long in
     ended
@@ -516,18 +516,18 @@ mutual
 
   if_codes : (alternative : OtherWise) (condition : TypedExpression) (part : List Item) (part' : ℕ → List op.Instruction) (places : ℕ → Places)
       → ((q : ℕ) → Codes q part (part' q) (places q)) → (p : ℕ)
-      → (let q = suc (behind (emitted.value_code condition) p) in
+      → (let q = suc (place_after (emitted.value_code condition) p) in
       Codes p (items.if_code (items.value_code condition) part alternative) (emitted.if_code (emitted.value_code condition) part' alternative p)
-      (places q ++ emitted.places_in_else alternative (suc (behind (part' q) q))))
+      (places q ++ emitted.places_in_else alternative (suc (place_after (part' q) q))))
   if_codes tree.NoElse condition part part' places h p =
       let test' = emitted.value_code condition in
-      let q = suc (behind test' p) in
+      let q = suc (place_after test' p) in
       subst (Codes p (items.one_way (items.value_code condition) part) (emitted.one_way test' part' p)) (sym (append-nil (places q)))
       (one_way_codes p (items.value_code condition) test' (value_codes condition p) part part' (places q) (h q))
   if_codes (tree.Else statement) condition part part' places h p =
       let test' = emitted.value_code condition in
-      let q = suc (behind test' p) in
-      let r = suc (behind (part' q) q) in
+      let q = suc (place_after test' p) in
+      let r = suc (place_after (part' q) q) in
       two_ways_codes p (items.value_code condition) test' (value_codes condition p) part (items.statement_code statement) part' (emitted.statement_code statement) (places q)
       (emitted.places_in statement r) (h q) (statement_codes statement r)
 
@@ -552,7 +552,7 @@ blocks_made : (tables : NumberedTables) (bs : List BlockTree) (p : ℕ) → bloc
 blocks_made tables [] p = refl
 blocks_made tables (b ∷ bs) p =
     ap (λ xs. coded_block tables b p ∷ xs)
-    (ap (blocks_from tables bs) (sym (block_codes b p).long) ∙ blocks_made tables bs (behind (emitted.block_code b p) p))
+    (ap (blocks_from tables bs) (sym (block_codes b p).long) ∙ blocks_made tables bs (place_after (emitted.block_code b p) p))
 
 -- ---- units
 

@@ -4,7 +4,7 @@ use Rattle.std.proofs.lemmas.List.{at_drop_more, append_assoc}
 use Rattle.pli_program.specs.Program as op
 use Rattle.pli_code.specs.declared.instruction.Instruction.{Instruction}
 use Rattle.pli_code.specs.declared.instruction.Instruction.TheVariants as coded
-use Rattle.pli_gen_emit.specs.TreeTranslation.{BlockTree, behind, one_way, two_ways, turns_code, block_code, blocks_code}
+use Rattle.pli_gen_emit.specs.TreeTranslation.{BlockTree, place_after, one_way, two_ways, turns_code, block_code, blocks_code}
 use Rattle.pli_gen_emit.specs.answers.Emitting.{Emission, emitted, tables_with, gotos_with, with_instruction, extended, landed}
 use Rattle.pli_gen_emit.specs.answers.Pieces.{entries_of}
 use Rattle.pli_gen_emit.specs.views.BlockView.{block_tree, block_trees}
@@ -12,10 +12,10 @@ use Rattle.pli_gen_emit.specs.declared.block.BlockSource.{BlockSource}
 use Rattle.pli_gen_emit.proofs.EmitLemmas.{extended_both, one_longer, longer, counted}
 use Rattle.pli_gen_emit.proofs.PlacedLemmas.{more_placed}
 
--- the place behind code is so many further
-pub behind_is : (is : List op.Instruction) (p : ℕ) → behind is p ≡ p + length is
-behind_is [] p = omega arith
-behind_is (i ∷ is) p = let e = behind_is is (suc p) in omega (arith, e)
+-- the place after code is so many further
+pub after_is : (is : List op.Instruction) (p : ℕ) → place_after is p ≡ p + length is
+after_is [] p = omega arith
+after_is (i ∷ is) p = let e = after_is is (suc p) in omega (arith, e)
 
 -- a list with one element changed
 pub set_between : {X : Type 0} (xs ys : List X) (x y : X) → slice_set (xs ++ x ∷ ys) (length xs) y ≡ xs ++ y ∷ ys
@@ -32,7 +32,7 @@ length_set [] i y = refl
 length_set (x ∷ xs) zero y = refl
 length_set (x ∷ xs) (suc i) y = ap suc (length_set xs i y)
 
--- what is put in before code is put in behind it as well
+-- what is put in before code is put in after it as well
 module _ (p : ℕ) (x : Instruction) where
   lands_one : (e : Emission) (i : op.Instruction) → p < length e.code → landed p x (with_instruction e i) ≡ with_instruction (landed p x e) i
   unfolding with_instruction landed
@@ -56,7 +56,7 @@ module _ (p : ℕ) (x : Instruction) where
   unfolding landed
   landed_length e = length_set e.code p x
 
--- a jump lands, whatever stands behind it
+-- a jump lands, whatever stands after it
 module _ (e : Emission) (from to : ℕ) where
   abbrev with_code : List Instruction → Emission
   with_code code = record { tables = e.tables; code = code; gotos = e.gotos; is_wide = e.is_wide || false }
@@ -87,10 +87,10 @@ pub one_way_made : (old tested jumping done all : Emission) (test : List op.Inst
     → all ≡ landed (length tested.code) (coded.JumpUnless (min (length done.code) 65535)) done
     → all ≡ extended old (one_way test part (length old.code))
 one_way_made old tested jumping done all test part t j d a =
-    let q = suc (behind test (length old.code)) in
+    let q = suc (place_after test (length old.code)) in
     let at : length jumping.code ≡ q = longer tested jumping (op.JumpUnless 0 ∷ []) j ∙ ap suc (longer old tested test t) in
-    let end : length done.code ≡ behind (part q) q = longer jumping done (part (length jumping.code)) d ∙ ap (λ n. behind (part n) n) at in
-    let to = behind (part q) q in
+    let end : length done.code ≡ place_after (part q) q = longer jumping done (part (length jumping.code)) d ∙ ap (λ n. place_after (part n) n) at in
+    let to = place_after (part q) q in
     a ∙ ap (λ n. landed (length tested.code) (coded.JumpUnless (min n 65535)) done) end
     ∙ ap (landed (length tested.code) (coded.JumpUnless (min to 65535))) (d ∙ ap (λ n. extended jumping (part n)) at ∙ ap (λ s. extended s (part q)) j)
     ∙ test_lands tested 0 to (part q)
@@ -105,19 +105,19 @@ pub two_ways_made : (old tested jumping done over put last all : Emission) (test
     → last ≡ extended put (other (length put.code)) → all ≡ landed (length done.code) (coded.Jump (min (length last.code) 65535)) last
     → all ≡ extended old (two_ways test part other (length old.code))
 two_ways_made old tested jumping done over put last all test part other t j d o p l a =
-    let q = suc (behind test (length old.code)) in
+    let q = suc (place_after test (length old.code)) in
     let at : length jumping.code ≡ q = longer tested jumping (op.JumpUnless 0 ∷ []) j ∙ ap suc (longer old tested test t) in
-    let end : length done.code ≡ behind (part q) q = longer jumping done (part (length jumping.code)) d ∙ ap (λ n. behind (part n) n) at in
-    let r = suc (behind (part q) q) in
+    let end : length done.code ≡ place_after (part q) q = longer jumping done (part (length jumping.code)) d ∙ ap (λ n. place_after (part n) n) at in
+    let r = suc (place_after (part q) q) in
     let at2 : length over.code ≡ r = longer done over (op.Jump 0 ∷ []) o ∙ ap suc end in
     let at3 : length put.code ≡ r =
     ap (λ (s : Emission). length s.code) p ∙ landed_length (length tested.code) (coded.JumpUnless (min (length over.code) 65535)) over ∙ at2 in
-    let last_at = behind (other r) r in
-    let end2 : length last.code ≡ last_at = longer put last (other (length put.code)) l ∙ ap (λ n. behind (other n) n) at3 in
+    let last_at = place_after (other r) r in
+    let end2 : length last.code ≡ last_at = longer put last (other (length put.code)) l ∙ ap (λ n. place_after (other n) n) at3 in
     let front = op.JumpUnless r ∷ part q in
     let done2 = extended tested front in
     let same : length done.code ≡ length done2.code =
-    end ∙ sym (counted tested front ∙ ap (λ n. behind (part q) (suc n)) (longer old tested test t)) in
+    end ∙ sym (counted tested front ∙ ap (λ n. place_after (part q) (suc n)) (longer old tested test t)) in
     let over2 : over ≡ extended (with_instruction tested (op.JumpUnless 0)) (part q ++ op.Jump 0 ∷ []) =
     o ∙ ap (λ s. with_instruction s (op.Jump 0)) (d ∙ ap (λ n. extended jumping (part n)) at ∙ ap (λ s. extended s (part q)) j)
     ∙ sym (extended_both (with_instruction tested (op.JumpUnless 0)) (part q) (op.Jump 0 ∷ [])) in
@@ -143,12 +143,12 @@ pub turns_made : (old lined tested jumping stepping done back all : Emission) (n
     → all ≡ extended old (turns_code number test list (length old.code))
 turns_made old lined tested jumping stepping done back all number test list n t j s d b a =
     let p = length old.code in
-    let q = suc (suc (behind test (suc p))) in
+    let q = suc (suc (place_after test (suc p))) in
     let begun : tested ≡ extended old (op.Line number ∷ test) = t ∙ ap (λ s. extended s test) n in
     let at : length stepping.code ≡ q =
     longer jumping stepping (op.Step number ∷ []) s ∙ ap suc (longer tested jumping (op.JumpUnless 0 ∷ []) j ∙ ap suc (longer old tested (op.Line number ∷ test) begun)) in
-    let z = suc (behind (list q) q) in
-    let end : length back.code ≡ z = longer done back (op.Jump p ∷ []) b ∙ ap suc (longer stepping done (list (length stepping.code)) d ∙ ap (λ n. behind (list n) n) at) in
+    let z = suc (place_after (list q) q) in
+    let end : length back.code ≡ z = longer done back (op.Jump p ∷ []) b ∙ ap suc (longer stepping done (list (length stepping.code)) d ∙ ap (λ n. place_after (list n) n) at) in
     let body = op.Step number ∷ list q in
     let done2 : done ≡ extended (with_instruction tested (op.JumpUnless 0)) body =
     d ∙ ap (λ n. extended stepping (list n)) at ∙ ap (λ s. extended s (list q)) (s ∙ ap (λ s. with_instruction s (op.Step number)) j) in
@@ -179,7 +179,7 @@ module _ (bs : List BlockSource) (i : ℕ) (d : BlockSource) (old new : Emission
   pub more_entries : (before now whole : List ℕ) → now ≡ before ++ length old.code ∷ [] → before ++ entries_of (block_trees (drop i bs)) (length old.code) ≡ whole
       → now ++ entries_of rest (length new.code) ≡ whole
   more_entries before now whole put all =
-      let step : before ++ entries_of (block_trees (drop i bs)) (length old.code) ≡ before ++ length old.code ∷ entries_of rest (behind here (length old.code)) =
+      let step : before ++ entries_of (block_trees (drop i bs)) (length old.code) ≡ before ++ length old.code ∷ entries_of rest (place_after here (length old.code)) =
       at_drop_more (λ ys. before ++ entries_of (block_trees ys) (length old.code)) bs i d lt in
-      ap (λ n. now ++ entries_of rest n) (longer old new here added) ∙ ap (λ xs. xs ++ entries_of rest (behind here (length old.code))) put
-      ∙ append_assoc before (length old.code ∷ []) (entries_of rest (behind here (length old.code))) ∙ sym step ∙ all
+      ap (λ n. now ++ entries_of rest n) (longer old new here added) ∙ ap (λ xs. xs ++ entries_of rest (place_after here (length old.code))) put
+      ∙ append_assoc before (length old.code ∷ []) (entries_of rest (place_after here (length old.code))) ∙ sym step ∙ all

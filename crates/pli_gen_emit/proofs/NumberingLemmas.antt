@@ -10,7 +10,7 @@ use Rattle.pli_gen_emit.specs.declared.table.NumberedTables.{NumberedTables}
 use Rattle.pli_gen_emit.specs.views.TableView.{tables_view}
 use Rattle.pli_gen_emit.proofs.KeyLemmas.{numbered_more, numbered_after}
 
--- some behind others
+-- some after others
 pub numbers_both : (old mid new : NumberedTables) (ds ds2 : List ParameterType) (ts ts2 : List Template) (vs vs2 : List Value)
     → Numbers old mid ds ts vs → Numbers mid new ds2 ts2 vs2 → Numbers old new (ds ++ ds2) (ts ++ ts2) (vs ++ vs2)
 numbers_both old mid new ds ds2 ts ts2 vs vs2 a b = record {

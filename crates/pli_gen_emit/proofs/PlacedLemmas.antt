@@ -1,14 +1,14 @@
--- Code that depends on its place, one part behind the other.
+-- Code that depends on its place, one part after the other.
 use Rattle.std.proofs.Common.{◌≡◌, ◌<◌, ◌+◌, ◌++◌, ◌∷◌, ℕ, List, length, drop, get_or, ap, ◌∙◌, sym}
 use Rattle.std.proofs.lemmas.List.{at_drop_more}
 use Rattle.pli_program.specs.Program.{Instruction}
-use Rattle.pli_gen_emit.specs.TreeTranslation.{behind}
+use Rattle.pli_gen_emit.specs.TreeTranslation.{place_after}
 use Rattle.pli_gen_emit.specs.answers.Emitting.{Emission, emission, extended, Emits}
 use Rattle.pli_gen_emit.specs.declared.emitter.Emitter.{Emitter}
 use Rattle.pli_gen_emit.proofs.EmitLemmas.{extended_both, longer, IsAmid}
 
 module _ {X : Type 0} (all : List X → ℕ → List Instruction) (each : X → ℕ → List Instruction)
-    (splits : (x : X) (xs : List X) (p : ℕ) → all (x ∷ xs) p ≡ each x p ++ all xs (behind (each x p) p)) where
+    (splits : (x : X) (xs : List X) (p : ℕ) → all (x ∷ xs) p ≡ each x p ++ all xs (place_after (each x p) p)) where
   -- one part more
   pub more_placed : (xs : List X) (i : ℕ) (d : X) (old new whole : Emission) → i < length xs
       → new ≡ extended old (each (get_or xs i d) (length old.code))
@@ -19,7 +19,7 @@ module _ {X : Type 0} (all : List X → ℕ → List Instruction) (each : X → 
       let x = get_or xs i d in
       let here = each x p in
       let left = drop (i + 1) xs in
-      let rest = all left (behind here p) in
+      let rest = all left (place_after here p) in
       let step : extended old (all (drop i xs) p) ≡ extended old (all (x ∷ left) p) = at_drop_more (λ ys. extended old (all ys p)) xs i d lt in
       ap (λ n. extended new (all left n)) (longer old new here added) ∙ ap (λ s. extended s rest) added
       ∙ sym (extended_both old here rest) ∙ ap (extended old) (sym (splits x left p)) ∙ sym step ∙ was

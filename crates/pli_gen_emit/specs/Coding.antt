@@ -63,7 +63,7 @@ module _ (tables : NumberedTables) where
   instructions_from all p (Make x t with ∷ items) =
       with (entry_number x) (place_of all p t) ∷ instructions_from all (suc p) items
 
-  -- blocks whose code stands one behind the other, from a place on
+  -- blocks whose code stands one after the other, from a place on
   abbrev pub blocks_from : List BlockTree → (at : ℕ) → List CodedBlock
   blocks_from [] p = []
   blocks_from (b ∷ bs) p = coded_block tables b p ∷ blocks_from bs (p + size (block_code b))

@@ -15,7 +15,7 @@ pub use Rattle.pli_gen_emit.specs.Tables.{global_descriptions, global_templates,
 pub use Rattle.pli_gen_emit.specs.Tables.{NumberedTables, description_number, stated_number}
 pub use Rattle.pli_gen_emit.specs.Tables.{template_number, template_code, signature_code, global_code}
 pub use Rattle.pli_gen_emit.specs.Tables.{coded_block}
-use Rattle.pli_gen_emit.specs.TreeTranslation.{BlockTree, blocks_of, block_code, behind, instructions_of}
+use Rattle.pli_gen_emit.specs.TreeTranslation.{BlockTree, blocks_of, block_code, place_after, instructions_of}
 
 -- the descriptions that an instruction names, in which no `*` stands
 abbrev pub descriptions_named : op.Instruction → List ParameterType
@@ -106,10 +106,10 @@ module _ (tables : NumberedTables) where
   instruction_code op.FitToPlace = coded.FitToPlace
   instruction_code op.Nothing = coded.Constant (length tables.values)
 
-  -- blocks whose code stands one behind the other
+  -- blocks whose code stands one after the other
   abbrev pub coded_blocks : List BlockTree → (at : ℕ) → List CodedBlock
   coded_blocks [] p = []
-  coded_blocks (b ∷ bs) p = coded_block tables b p ∷ coded_blocks bs (behind (block_code b p) p)
+  coded_blocks (b ∷ bs) p = coded_block tables b p ∷ coded_blocks bs (place_after (block_code b p) p)
 
   -- a unit of these blocks and instructions
   abbrev pub coded_unit : TypedUnit → List BlockTree → List op.Instruction → Code

@@ -128,7 +128,7 @@ conversion_code (AsOffsetIn area) = place_code area ++ plain coded.ToOffset ∷ 
 conversion_code (ToPlace operations) = operations_code operations ++ plain coded.FitToPlace ∷ []
 
 -- an item of ALLOCATE; the pointer to a BASED variable's generation or block is kept till its target's place
--- is there. A block of an area is made behind the area's place, and leads to where the item begins
+-- is there. A block of an area is made after the area's place, and leads to where the item begins
 abbrev pub allocation_code : AllocatedItem → List Item
 allocation_code (AllocatesControlled number) = plain (coded.AllocateControlled number) ∷ []
 allocation_code (AllocatesBased template temporary target) =
@@ -152,7 +152,7 @@ freeing_code (FreesBased locator description) =
 abbrev pub one_way : (test part : List Item) → List Item
 one_way test part = test ++ leading (Ahead (size part)) coded.JumpUnless ∷ part
 
--- and with an ELSE part behind it, past which a jump leads
+-- and with an ELSE part after it, past which a jump leads
 abbrev pub two_ways : (test part other : List Item) → List Item
 two_ways test part other =
     test ++ leading (Ahead (suc (size part))) coded.JumpUnless
@@ -238,7 +238,7 @@ abbrev mutual
   pub statement_code : TypedStatement → List Item
   statement_code (Statement number form) = Label number ∷ plain (coded.Step number) ∷ form_code number form
 
-  -- the code of a form, of the statement of a number, behind its step
+  -- the code of a form, of the statement of a number, after its step
   pub form_code : (number : ℕ) → Form → List Item
   form_code number Null = []
   form_code number (Assign target value) = place_code target ++ value_code value ++ plain coded.Store ∷ []
@@ -273,7 +273,7 @@ abbrev mutual
   if_code test part NoElse = one_way test part
   if_code test part (Else statement) = two_ways test part (statement_code statement)
 
-  -- the code of statements, one behind the other
+  -- the code of statements, one after the other
   pub list_code : TypedStatements → List Item
   list_code NoStatement = []
   list_code (StatementThen first more) = statement_code first ++ list_code more

@@ -133,13 +133,13 @@ conversion_code (AsPointerIn area) = place_code area ++ op.ToPointer ∷ []
 conversion_code (AsOffsetIn area) = place_code area ++ op.ToOffset ∷ []
 conversion_code (ToPlace operations) = operations_code operations ++ FitToPlace ∷ []
 
--- the place behind code that begins at a place
-abbrev pub behind : List Instruction → ℕ → ℕ
-behind [] p = p
-behind (i ∷ is) p = behind is (suc p)
+-- the place after code that begins at a place
+abbrev pub place_after : List Instruction → ℕ → ℕ
+place_after [] p = p
+place_after (i ∷ is) p = place_after is (suc p)
 
 -- an item of ALLOCATE; the pointer to a BASED variable's generation or block is kept till its target's place
--- is there. A block of an area is made behind the area's place, and leads to where the item begins
+-- is there. A block of an area is made after the area's place, and leads to where the item begins
 abbrev pub allocation_code : AllocatedItem → (at : ℕ) → List Instruction
 allocation_code (AllocatesControlled number) p = op.AllocateControlled number ∷ []
 allocation_code (AllocatesBased template temporary target) p =
@@ -154,7 +154,7 @@ allocation_code (AllocatesInArea area template temporary target conversion) p =
 abbrev pub allocations_code : List AllocatedItem → (at : ℕ) → List Instruction
 allocations_code [] p = []
 allocations_code (item ∷ items) p =
-    let code = allocation_code item p in code ++ allocations_code items (behind code p)
+    let code = allocation_code item p in code ++ allocations_code items (place_after code p)
 
 -- an item of FREE
 abbrev pub freeing_code : FreedItem → List Instruction
@@ -171,26 +171,26 @@ freeings_code (item ∷ items) = freeing_code item ++ freeings_code items
 -- a test, a jump past the part that is executed where it holds, and that part
 abbrev pub one_way : (test : List Instruction) (part : ℕ → List Instruction) → ℕ → List Instruction
 one_way test part p =
-    let q = suc (behind test p) in
+    let q = suc (place_after test p) in
     let code = part q in
-    test ++ JumpUnless (behind code q) ∷ code
+    test ++ JumpUnless (place_after code q) ∷ code
 
--- and with an ELSE part behind it, past which a jump leads
+-- and with an ELSE part after it, past which a jump leads
 abbrev pub two_ways : (test : List Instruction) (part other : ℕ → List Instruction) → ℕ → List Instruction
 two_ways test part other p =
-    let q = suc (behind test p) in
+    let q = suc (place_after test p) in
     let code = part q in
-    let r = suc (behind code q) in
+    let r = suc (place_after code q) in
     let otherwise = other r in
-    test ++ JumpUnless r ∷ code ++ Jump (behind otherwise r) ∷ otherwise
+    test ++ JumpUnless r ∷ code ++ Jump (place_after otherwise r) ∷ otherwise
 
 -- turns of a loop: its statement, the test, a jump out of it, a step, the list, and the jump back
 abbrev pub turns_code : (number : ℕ) (test : List Instruction) (list : ℕ → List Instruction) → ℕ
     → List Instruction
 turns_code number test list p =
-    let q = suc (suc (behind test (suc p))) in
+    let q = suc (suc (place_after test (suc p))) in
     let code = list q in
-    Line number ∷ test ++ JumpUnless (suc (behind code q)) ∷ Step number ∷ code ++ Jump p ∷ []
+    Line number ∷ test ++ JumpUnless (suc (place_after code q)) ∷ Step number ∷ code ++ Jump p ∷ []
 
 -- iterations
 
@@ -257,11 +257,11 @@ back_code false number between turn = []
 
 -- where the tests of an iteration stand
 abbrev pub turn_place : Iteration → (at : ℕ) → ℕ
-turn_place i p = behind (start_code i) p
+turn_place i p = place_after (start_code i) p
 
 -- where the list of an iteration stands
 abbrev pub list_place : Iteration → (at : ℕ) → ℕ
-list_place i p = suc (behind (tests_code i 0) (turn_place i p))
+list_place i p = suc (place_after (tests_code i 0) (turn_place i p))
 
 -- the start, the tests, a step, the list, what comes between two turns, and the jump back
 abbrev pub iterate_code : (number : ℕ) → Iteration → (list : ℕ → List Instruction) → ℕ → List Instruction
@@ -269,14 +269,14 @@ iterate_code number i list p =
     let q = list_place i p in
     let code = list q in
     let back = back_code (is_iterated i.range) number (advances_code i.range i) (turn_place i p) in
-    start_code i ++ tests_code i (behind back (behind code q)) ++ Step number ∷ (code ++ back)
+    start_code i ++ tests_code i (place_after back (place_after code q)) ++ Step number ∷ (code ++ back)
 
 abbrev mutual
   -- a statement begins with its step
   pub statement_code : TypedStatement → (at : ℕ) → List Instruction
   statement_code (Statement number form) p = Step number ∷ form_code number form (suc p)
 
-  -- the code of a form, of the statement of a number, behind its step
+  -- the code of a form, of the statement of a number, after its step
   pub form_code : (number : ℕ) → Form → (at : ℕ) → List Instruction
   form_code number Null p = []
   form_code number (Assign target value) p = place_code target ++ value_code value ++ Store ∷ []
@@ -311,11 +311,11 @@ abbrev mutual
   if_code test part NoElse p = one_way test part p
   if_code test part (Else statement) p = two_ways test part (statement_code statement) p
 
-  -- the code of statements, one behind the other
+  -- the code of statements, one after the other
   pub list_code : TypedStatements → (at : ℕ) → List Instruction
   list_code NoStatement p = []
   list_code (StatementThen first more) p =
-      let code = statement_code first p in code ++ list_code more (behind code p)
+      let code = statement_code first p in code ++ list_code more (place_after code p)
 
 -- where statements begin: the number of each statement and its place, in the order of the code; those of a
 -- BEGIN block stand where the block's code does
@@ -328,11 +328,12 @@ abbrev mutual
   -- the places of those inside a form
   pub places_in_form : Form → (at : ℕ) → List (ℕ × ℕ)
   places_in_form (If condition consequence alternative) p =
-      let q = suc (behind (value_code condition) p) in
-      places_in consequence q ++ places_in_else alternative (suc (behind (statement_code consequence q) q))
+      let q = suc (place_after (value_code condition) p) in
+      places_in consequence q
+      ++ places_in_else alternative (suc (place_after (statement_code consequence q) q))
   places_in_form (Group statements) p = places_among statements p
   places_in_form (While condition statements) p =
-      places_among statements (suc (suc (behind (value_code condition) (suc p))))
+      places_among statements (suc (suc (place_after (value_code condition) (suc p))))
   places_in_form (Iterate iteration statements) p = places_among statements (list_place iteration p)
   places_in_form form p = []
 
@@ -345,7 +346,7 @@ abbrev mutual
   pub places_among : TypedStatements → (at : ℕ) → List (ℕ × ℕ)
   places_among NoStatement p = []
   places_among (StatementThen first more) p =
-      places_in first p ++ places_among more (behind (statement_code first p) p)
+      places_in first p ++ places_among more (place_after (statement_code first p) p)
 
 -- the place of a statement
 abbrev pub statement_place : List (ℕ × ℕ) → (number : ℕ) → ℕ
@@ -363,15 +364,15 @@ end_code (Some number) = Line number ∷ Raise NoReturnedValue ∷ []
 abbrev pub block_code : BlockTree → (at : ℕ) → List Instruction
 block_code b p = list_code b.statements p ++ end_code b.function_end
 
--- the code of blocks, one behind the other
+-- the code of blocks, one after the other
 abbrev pub blocks_code : List BlockTree → (at : ℕ) → List Instruction
 blocks_code [] p = []
-blocks_code (b ∷ bs) p = let code = block_code b p in code ++ blocks_code bs (behind code p)
+blocks_code (b ∷ bs) p = let code = block_code b p in code ++ blocks_code bs (place_after code p)
 
 -- the places of their statements
 abbrev pub places_of : List BlockTree → (at : ℕ) → List (ℕ × ℕ)
 places_of [] p = []
-places_of (b ∷ bs) p = places_among b.statements p ++ places_of bs (behind (block_code b p) p)
+places_of (b ∷ bs) p = places_among b.statements p ++ places_of bs (place_after (block_code b p) p)
 
 -- a block with its first instruction
 abbrev pub block_at : BlockTree → (entry : ℕ) → Block
@@ -385,10 +386,10 @@ block_at b p = record {
   statement = b.head.statement;
 }
 
--- blocks, each with its first instruction, their code standing one behind the other
+-- blocks, each with its first instruction, their code standing one after the other
 abbrev pub blocks_at : List BlockTree → (at : ℕ) → List Block
 blocks_at [] p = []
-blocks_at (b ∷ bs) p = block_at b p ∷ blocks_at bs (behind (block_code b p) p)
+blocks_at (b ∷ bs) p = block_at b p ∷ blocks_at bs (place_after (block_code b p) p)
 
 -- units
 

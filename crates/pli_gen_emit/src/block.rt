@@ -162,7 +162,7 @@ fn no_blocks<'a>(alloc: Global, count: usize) -> Result<Vec<Vec<BlockSource<'a>>
     Ok(lists)
 }
 
-/// A block behind those of its number. A number that is none has no list.
+/// A block after those of its number. A number that is none has no list.
 fn put_by_number<'a>(
     lists: &mut Vec<Vec<BlockSource<'a>>>,
     block: BlockSource<'a>,
@@ -180,7 +180,7 @@ fn put_by_number<'a>(
     Ok(())
 }
 
-/// The blocks of lists, one list behind the other.
+/// The blocks of lists, one list after the other.
 fn flattened<'a>(
     alloc: Global,
     lists: &[Vec<BlockSource<'a>>],

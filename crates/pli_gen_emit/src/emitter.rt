@@ -74,7 +74,7 @@ impl<'a> Emitter<'a> {
         self.put(true, Instruction::Jump { target });
     }
 
-    /// Appends a jump behind a test.
+    /// Appends a jump after a test.
     pub(crate) fn jump_unless(&mut self, target: usize)
         ensures { Emits self.old self.new (op.JumpUnless target ∷ []) }
     {
@@ -228,7 +228,7 @@ impl<'a> Emitter<'a> {
         self.put(true, Instruction::AllocateBased { template });
     }
 
-    /// Appends what makes a block of an area for a BASED variable. Behind a unit of the AREA condition the code at this
+    /// Appends what makes a block of an area for a BASED variable. After a unit of the AREA condition the code at this
     /// place goes on.
     pub(crate) fn allocate_in_area(&mut self, template: &'a Template, after: usize)
         ensures { Emits self.old self.new (op.AllocateInArea (template_view template.now) after ∷ []) }
@@ -334,21 +334,21 @@ impl<'a> Emitter<'a> {
         self.emit(Instruction::Operate(operation));
     }
 
-    /// Appends what keeps a value as the temporary so many behind the first one of a group.
-    pub(crate) fn set_temporary(&mut self, first: usize, behind: u8)
-        ensures { Emits self.old self.new (op.SetTemporary (first + behind) ∷ []) }
+    /// Appends what keeps a value as the temporary so many after the first one of a group.
+    pub(crate) fn set_temporary(&mut self, first: usize, after: u8)
+        ensures { Emits self.old self.new (op.SetTemporary (first + after) ∷ []) }
     {
-        let fits = temporary_fits(first, behind);
-        let number = temporary(first, behind);
+        let fits = temporary_fits(first, after);
+        let number = temporary(first, after);
         self.put(fits, Instruction::SetTemporary { number });
     }
 
-    /// Appends the value of the temporary so many behind the first one of a group.
-    pub(crate) fn take_temporary(&mut self, first: usize, behind: u8)
-        ensures { Emits self.old self.new (op.TakeTemporary (first + behind) ∷ []) }
+    /// Appends the value of the temporary so many after the first one of a group.
+    pub(crate) fn take_temporary(&mut self, first: usize, after: u8)
+        ensures { Emits self.old self.new (op.TakeTemporary (first + after) ∷ []) }
     {
-        let fits = temporary_fits(first, behind);
-        let number = temporary(first, behind);
+        let fits = temporary_fits(first, after);
+        let number = temporary(first, after);
         self.put(fits, Instruction::TakeTemporary { number });
     }
 
@@ -376,7 +376,7 @@ impl<'a> Emitter<'a> {
         self.replace(jump, Instruction::Jump { target });
     }
 
-    /// The jump there, behind a test, leads to a target.
+    /// The jump there, after a test, leads to a target.
     pub(crate) fn land_test(&mut self, test: usize, target: usize)
         ensures { Lands self.old self.new test (coded.JumpUnless (min target 65535)) }
     {

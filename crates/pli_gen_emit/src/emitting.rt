@@ -13,7 +13,7 @@ use pli_type_tree::TypedUnit;
 use std::alloc::{AllocError, Global};
 
 /// The blocks of a unit by their numbers, the places of their first instructions, counted from 0, and their code, one
-/// behind the other, with its tables.
+/// after the other, with its tables.
 #[derive(Drop)]
 pub struct Emitted<'a> {
     pub blocks: Vec<BlockSource<'a>>,

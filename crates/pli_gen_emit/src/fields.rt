@@ -22,16 +22,16 @@ pub fn short(number: usize) -> u16
     number.min(SHORT_LIMIT) as u16
 }
 
-/// Whether the number of a temporary so many behind another is within its field.
-pub(crate) fn temporary_fits(first: usize, behind: u8) -> bool
-    ensures { result ≡ is_short (first + behind) }
+/// Whether the number of a temporary so many after another is within its field.
+pub(crate) fn temporary_fits(first: usize, after: u8) -> bool
+    ensures { result ≡ is_short (first + after) }
 {
-    first <= SHORT_LIMIT - usize::from(behind)
+    first <= SHORT_LIMIT - usize::from(after)
 }
 
-/// The number of a temporary so many behind another; the greatest of its field for every greater one.
-pub(crate) fn temporary(first: usize, behind: u8) -> u16
-    ensures { result ≡ min (first + behind) 65535 }
+/// The number of a temporary so many after another; the greatest of its field for every greater one.
+pub(crate) fn temporary(first: usize, after: u8) -> u16
+    ensures { result ≡ min (first + after) 65535 }
 {
-    short(first.min(SHORT_LIMIT) + usize::from(behind))
+    short(first.min(SHORT_LIMIT) + usize::from(after))
 }

@@ -18,7 +18,7 @@ use pli_code::Instruction;
 use pli_operation::Operation;
 use pli_type_tree::{Iteration, TypedRange};
 
-/// Where the tests before a turn stand, and the jumps out of the group behind the limit's and behind WHILE's.
+/// Where the tests before a turn stand, and the jumps out of the group after the limit's and after WHILE's.
 #[derive(Clone, Copy)]
 pub(crate) struct Turn {
     pub place: usize,
@@ -26,7 +26,7 @@ pub(crate) struct Turn {
     pub condition: Option<usize>,
 }
 
-/// Emits what keeps TO and BY, behind the temporary of the start.
+/// Emits what keeps TO and BY, after the temporary of the start.
 fn emit_kept<'a>(range: &'a TypedRange, first: usize, code: &mut Emitter<'a>)
     ensures { Emits code.old code.new (keeps_code (suc first) (kept_by (range_view range.now))) }
 {
@@ -204,11 +204,11 @@ pub(crate) fn emit_back<'a>(
     code.jump(turn);
 }
 
-/// The targets of the jumps behind the tests are the place behind the code so far.
+/// The targets of the jumps after the tests are the place after the code so far.
 pub(crate) fn land_tests(code: &mut Emitter<'_>, turn: Turn)
     ensures { LandsTurn code.old code.new turn (length code.old.code.items) }
 {
-    let behind = code.place();
-    code.land_guard(turn.limit, behind);
-    code.land_guard(turn.condition, behind);
+    let after = code.place();
+    code.land_guard(turn.limit, after);
+    code.land_guard(turn.condition, after);
 }

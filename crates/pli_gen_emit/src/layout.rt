@@ -1,4 +1,4 @@
-//! The code of a unit's blocks, one behind the other.
+//! The code of a unit's blocks, one after the other.
 #![tactic(auto, using(crate::proofs::EmitLemmas::extended_both))]
 
 ghost use Rattle.std.specs.Prelude.{◌≡◌, ◌++◌, false, length};

@@ -50,8 +50,8 @@ fn emit_form<'a>(number: u32, form: &'a Form, code: &mut Emitter<'a>)
             emit_statement(consequence, code);
             match alternative {
                 None => {
-                    let behind = code.place();
-                    code.land_test(test, behind);
+                    let after = code.place();
+                    code.land_test(test, after);
                 }
                 Some(other) => {
                     let over = code.place();
@@ -59,8 +59,8 @@ fn emit_form<'a>(number: u32, form: &'a Form, code: &mut Emitter<'a>)
                     let part = code.place();
                     code.land_test(test, part);
                     emit_statement(other, code);
-                    let behind = code.place();
-                    code.land_jump(over, behind);
+                    let after = code.place();
+                    code.land_jump(over, after);
                 }
             }
         }
@@ -77,8 +77,8 @@ fn emit_form<'a>(number: u32, form: &'a Form, code: &mut Emitter<'a>)
             code.emit(Instruction::Step { statement: number });
             emit_list(statements.as_slice(), code);
             code.jump(turn);
-            let behind = code.place();
-            code.land_test(test, behind);
+            let after = code.place();
+            code.land_test(test, after);
         }
         Form::Iterate {
             iteration,

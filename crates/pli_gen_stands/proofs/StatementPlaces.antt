@@ -8,7 +8,7 @@ use Rattle.std.proofs.lemmas.List.{map-append}
 use Rattle.pli_type_tree.specs.TypedTree.{TypedStatement, Statement, TypedStatements, NoStatement, StatementThen, OtherWise, NoElse, Else}
 use Rattle.pli_type_tree.specs.TypedTree.{Form, Null, Assign, AssignString, AssignAggregate, AssignArea, EmptyArea, Put, Allocate, Free, If, Begin, Group, While, Iterate, Call, Goto, Return, ReturnValue, Stop, On, Revert, Signal}
 use Rattle.pli_gen_emit.specs.TreeTranslation.{value_code, statement_code, places_in, places_in_form, places_in_else, places_among, list_place}
-use Rattle.pli_gen_emit.specs.TreeTranslation.{statement_place, behind, BlockTree, block_code, places_of}
+use Rattle.pli_gen_emit.specs.TreeTranslation.{statement_place, place_after, BlockTree, block_code, places_of}
 use Rattle.pli_gen.specs.WellNumbered.{AreDistinct, numbers_in, numbers_in_form, numbers_in_else, numbers_among, numbers_of}
 
 -- a place that another number does not hide
@@ -40,11 +40,11 @@ mutual
 
   numbered_in_form : (f : Form) (p : ℕ) → map (λ e. e.0) (places_in_form f p) ≡ numbers_in_form f
   numbered_in_form (If e consequence alternative) p =
-      let q = suc (behind (value_code e) p) in
-      let r = suc (behind (statement_code consequence q) q) in
+      let q = suc (place_after (value_code e) p) in
+      let r = suc (place_after (statement_code consequence q) q) in
       both_numbered (places_in consequence q) (places_in_else alternative r) (numbers_in consequence) (numbers_in_else alternative) (numbered_in consequence q) (numbered_in_else alternative r)
   numbered_in_form (Group statements) p = numbered_among statements p
-  numbered_in_form (While e statements) p = numbered_among statements (suc (suc (behind (value_code e) (suc p))))
+  numbered_in_form (While e statements) p = numbered_among statements (suc (suc (place_after (value_code e) (suc p))))
   numbered_in_form (Iterate i statements) p = numbered_among statements (list_place i p)
   numbered_in_form Null p = refl
   numbered_in_form (Assign target e) p = refl
@@ -72,12 +72,12 @@ mutual
   numbered_among : (ss : TypedStatements) (p : ℕ) → map (λ e. e.0) (places_among ss p) ≡ numbers_among ss
   numbered_among NoStatement p = refl
   numbered_among (StatementThen s more) p =
-      let q = behind (statement_code s p) p in
+      let q = place_after (statement_code s p) p in
       both_numbered (places_in s p) (places_among more q) (numbers_in s) (numbers_among more) (numbered_in s p) (numbered_among more q)
 
 -- those of blocks
 pub numbered_blocks : (bs : List BlockTree) (p : ℕ) → map (λ e. e.0) (places_of bs p) ≡ numbers_of bs
 numbered_blocks [] p = refl
 numbered_blocks (b ∷ bs) p =
-    let q = behind (block_code b p) p in
+    let q = place_after (block_code b p) p in
     both_numbered (places_among b.statements p) (places_of bs q) (numbers_among b.statements) (numbers_of bs) (numbered_among b.statements p) (numbered_blocks bs q)

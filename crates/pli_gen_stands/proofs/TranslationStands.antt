@@ -1,4 +1,4 @@
--- The code that the translation makes of each form stands as the simulation asks.
+-- The code that the translation makes of each form matches the translation.
 use Rattle.std.specs.Prelude.{◌≡◌, ℕ, zero, suc, ◌+◌, ◌-◌, ◌≤◌, nat_eq, Bool, true, false, Option, Some, None, List, [], ◌∷◌, ◌++◌, map, slice_get, refl}
 use Rattle.std.specs.List.{flat_map, AllByRecursion}
 use Rattle.std.specs.Prelude.{◌&&◌}
@@ -16,14 +16,14 @@ use Rattle.pli_type_tree.specs.Iterations.{kept_by, limit_number, step_number, i
 use Rattle.pli_type_tree.specs.TypedTree.{Iteration, TypedRange, Once, ToBy, ByTo, Repeated, RepeatedString}
 use Rattle.pli_type_tree.specs.TypedTree.{Callee, OfBlock, OfEntry, Global, OwnVariable, ExternalVariable, EntryPoint}
 use Rattle.pli_type_tree.specs.TypedTree.{OtherWise, NoElse, Else, TypedStatements, NoStatement, StatementThen, TypedProcedure, TypedUnit}
-use Rattle.pli_gen_emit.specs.TreeTranslation.{argument_count, root_code, call_instruction, operation_code, value_code, place_code, operands_code, subscripts_code, dimensions_code, arguments_code, call_code, skip_code, items_code, operations_code, conversion_code, allocation_code, allocations_code, freeing_code, freeings_code, behind}
+use Rattle.pli_gen_emit.specs.TreeTranslation.{argument_count, root_code, call_instruction, operation_code, value_code, place_code, operands_code, subscripts_code, dimensions_code, arguments_code, call_code, skip_code, items_code, operations_code, conversion_code, allocation_code, allocations_code, freeing_code, freeings_code, place_after}
 use Rattle.pli_gen_emit.specs.TreeTranslation.{statement_code, form_code, list_code, places_in, places_in_form, places_in_else, places_among, statement_place, with_target, BlockTree, begin_block}
 use Rattle.pli_gen_emit.specs.TreeTranslation.{blocks_in, blocks_of_form, blocks_among, blocks_of_procedure, blocks_of, end_code, block_code, blocks_code, places_of, block_at, blocks_at, globals_code, unit_code}
 use Rattle.pli_gen_emit.specs.TreeTranslation.{keeps_code, sets_code, start_code, test_against, limit_test, while_test, guarded, tests_code, advances_code, back_code}
 use Rattle.pli_gen_emit.specs.TreeTranslation.{turn_place, list_place}
 use Rattle.pli_gen.proofs.IterationCode.{tests_length, iterate_ends}
 use Rattle.pli_gen.specs.laws.ListLaws.{all_front, all_back}
-use Rattle.pli_gen.specs.WellNumbered.{AreDistinct, HasTurns, HasRoom, HaveRoom, next_temporary, KeepsTemporary, KeepsApart, KeepApart, IsOnUnitIn, NamesUnits, NamesUnitsForm, NameUnits, IsWellNumbered}
+use Rattle.pli_gen.specs.WellNumbered.{AreDistinct, HasTurns, HasRoom, HaveRoom, next_temporary, KeepsTemporary, KeepsApart, KeepApart, IsOnUnitIn, NamesOnUnits, NamesUnitsForm, NameUnits, IsWellNumbered}
 use Rattle.pli_meaning_tree.specs.Effects.{Label}
 use Rattle.pli_meaning_tree.specs.TreeMeaning.{number_of}
 use Rattle.pli_meaning_simulation.specs.CodeStands as stand
@@ -36,13 +36,13 @@ abbrev or_else : {X : Type 0} → X → Option X → X
 or_else x None = x
 or_else x (Some y) = y
 
--- the place behind two parts
-behind_both : (xs ys : List Instruction) (p : ℕ) → behind (xs ++ ys) p ≡ behind ys (behind xs p)
-behind_both [] ys p = refl
-behind_both (x ∷ xs) ys p = behind_both xs ys (suc p)
+-- the place after two parts
+after_both : (xs ys : List Instruction) (p : ℕ) → place_after (xs ++ ys) p ≡ place_after ys (place_after xs p)
+after_both [] ys p = refl
+after_both (x ∷ xs) ys p = after_both xs ys (suc p)
 
-behind_three : (xs ys zs : List Instruction) (p : ℕ) → behind (xs ++ ys ++ zs) p ≡ behind zs (behind ys (behind xs p))
-behind_three xs ys zs p = behind_both (xs ++ ys) zs p ∙ ap (behind zs) (behind_both xs ys p)
+after_three : (xs ys zs : List Instruction) (p : ℕ) → place_after (xs ++ ys ++ zs) p ≡ place_after zs (place_after ys (place_after xs p))
+after_three xs ys zs p = after_both (xs ++ ys) zs p ∙ ap (place_after zs) (after_both xs ys p)
 
 -- the labels of the unit of this number lead to the places of its statements
 abbrev pub Lead : (at : Label → ℕ) → (unit : ℕ) → List (ℕ × ℕ) → Type 0
@@ -54,25 +54,25 @@ module _ (u : UnitCode) (places : List (ℕ × ℕ)) (unit : ℕ) (at : Label �
   Stand [] p = Unit {0}
   Stand (i ∷ is) p = (slice_get u.instructions p ≡ Some (with_target places i)) × Stand is (suc p)
 
-  split : (xs ys : List Instruction) (p : ℕ) → Stand (xs ++ ys) p → Stand xs p × Stand ys (behind xs p)
+  split : (xs ys : List Instruction) (p : ℕ) → Stand (xs ++ ys) p → Stand xs p × Stand ys (place_after xs p)
   split [] ys p h = (tt, h)
   split (x ∷ xs) ys p h = let r = split xs ys (suc p) h.1 in ((h.0, r.0), r.1)
 
   -- three parts
-  split_three : (xs ys zs : List Instruction) (p : ℕ) → Stand (xs ++ ys ++ zs) p → Stand xs p × (Stand ys (behind xs p) × Stand zs (behind ys (behind xs p)))
+  split_three : (xs ys zs : List Instruction) (p : ℕ) → Stand (xs ++ ys ++ zs) p → Stand xs p × (Stand ys (place_after xs p) × Stand zs (place_after ys (place_after xs p)))
   split_three xs ys zs p h =
       let r = split (xs ++ ys) zs p h in
       let s = split xs ys p r.0 in
-      (s.0, (s.1, subst (λ q. Stand zs q) (behind_both xs ys p) r.1))
+      (s.0, (s.1, subst (λ q. Stand zs q) (after_both xs ys p) r.1))
 
   abbrev Made : List Instruction → Span → Type 0
-  Made xs A = (p : ℕ) → Stand xs p → A p (behind xs p)
+  Made xs A = (p : ℕ) → Stand xs p → A p (place_after xs p)
 
-  -- one part and another behind it
+  -- one part and another after it
   joined : (xs ys : List Instruction) (A B : Span) → Made xs A → Made ys B → Made (xs ++ ys) (Then A B)
   joined xs ys A B a b p h =
       let r = split xs ys p h in
-      record { middle = behind xs p; fst = a p r.0; snd = subst (λ q. B (behind xs p) q) (sym (behind_both xs ys p)) (b (behind xs p) r.1) }
+      record { middle = place_after xs p; fst = a p r.0; snd = subst (λ q. B (place_after xs p) q) (sym (after_both xs ys p)) (b (place_after xs p) r.1) }
 
   -- one instruction, and one before a part
   one : (i : Instruction) → Made (i ∷ []) (stand.Is u (with_target places i))
@@ -86,9 +86,9 @@ module _ (u : UnitCode) (places : List (ℕ × ℕ)) (unit : ℕ) (at : Label �
   two_parts xs ys i A B a b p h =
       let r = split_three xs ys (i ∷ []) p h in
       record {
-        middle = behind xs p;
+        middle = place_after xs p;
         fst = a p r.0;
-        snd = record { middle = behind ys (behind xs p); fst = b (behind xs p) r.1.0; snd = record { here = r.1.1.0; ends = sym (behind_three xs ys (i ∷ []) p) } };
+        snd = record { middle = place_after ys (place_after xs p); fst = b (place_after xs p) r.1.0; snd = record { here = r.1.1.0; ends = sym (after_three xs ys (i ∷ []) p) } };
       }
 
   nothing : Made [] Empty
@@ -100,7 +100,7 @@ module _ (u : UnitCode) (places : List (ℕ × ℕ)) (unit : ℕ) (at : Label �
   counts (ByDummy d e more) = ap suc (counts more)
   counts (ByString form e more) = ap suc (counts more)
 
-  -- a call behind its arguments
+  -- a call after its arguments
   called : (callee : Callee) (args : TypedArguments) → Made (call_instruction callee (argument_count args) ∷ []) (stand.Is u (stand.call_of callee (arguments_in args)))
   called (OfBlock block) args p h = record { here = subst (λ n. slice_get u.instructions p ≡ Some (op.Call block n)) (counts args) h.0; ends = refl }
   called (OfEntry number) args p h = record { here = subst (λ n. slice_get u.instructions p ≡ Some (op.CallExternal number n)) (counts args) h.0; ends = refl }
@@ -180,11 +180,11 @@ module _ (u : UnitCode) (places : List (ℕ × ℕ)) (unit : ℕ) (at : Label �
         (λ p h. value_stands e p h) (before (op.MakeStringDummy form) (arguments_code more) (stand.ArgumentsStand u more) (λ p h. arguments_stand more p h)) p h
 
   -- a condition, whose jump leads to a place that is no earlier
-  test_stands : (e : TypedExpression) (target p : ℕ) → suc (behind (value_code e) p) ≤ target → Stand (value_code e) p
-      → slice_get u.instructions (behind (value_code e) p) ≡ Some (op.JumpUnless target)
-      → stand.ConditionStands u e target p (suc (behind (value_code e) p))
+  test_stands : (e : TypedExpression) (target p : ℕ) → suc (place_after (value_code e) p) ≤ target → Stand (value_code e) p
+      → slice_get u.instructions (place_after (value_code e) p) ≡ Some (op.JumpUnless target)
+      → stand.ConditionStands u e target p (suc (place_after (value_code e) p))
   test_stands e target p le test jump =
-      record { middle = behind (value_code e) p; fst = value_stands e p test; snd = record { is = record { here = jump; ends = refl }; on = le } }
+      record { middle = place_after (value_code e) p; fst = value_stands e p test; snd = record { is = record { here = jump; ends = refl }; on = le } }
 
   skip_stands : (skip : Bool) → Made (skip_code skip) (stand.SkipStands u skip)
   skip_stands true = one op.Skip
@@ -195,10 +195,10 @@ module _ (u : UnitCode) (places : List (ℕ × ℕ)) (unit : ℕ) (at : Label �
   items_stand (e ∷ es) p h =
       let r = split (value_code e) (op.Put ∷ items_code es) p h in
       record {
-        middle = suc (behind (value_code e) p);
-        fst = record { middle = behind (value_code e) p; fst = value_stands e p r.0; snd = record { here = r.1.0; ends = refl } };
-        snd = subst (λ q. stand.ItemsStand u es (suc (behind (value_code e) p)) q) (sym (behind_both (value_code e) (op.Put ∷ items_code es) p))
-            (items_stand es (suc (behind (value_code e) p)) r.1.1);
+        middle = suc (place_after (value_code e) p);
+        fst = record { middle = place_after (value_code e) p; fst = value_stands e p r.0; snd = record { here = r.1.0; ends = refl } };
+        snd = subst (λ q. stand.ItemsStand u es (suc (place_after (value_code e) p)) q) (sym (after_both (value_code e) (op.Put ∷ items_code es) p))
+            (items_stand es (suc (place_after (value_code e) p)) r.1.1);
       }
 
   operations_stand : (os : List TypedOperation) → Made (operations_code os) (stand.OperationsStand u os)
@@ -221,17 +221,17 @@ module _ (u : UnitCode) (places : List (ℕ × ℕ)) (unit : ℕ) (at : Label �
       let value = value_code e in
       let both = op.FitToPlace ∷ op.Store ∷ [] in
       let r = split_three place value both p h in
-      let m = behind value (behind place p) in
+      let m = place_after value (place_after place p) in
       record {
-        middle = behind place p;
+        middle = place_after place p;
         fst = place_stands target p r.0;
         snd = record {
           middle = m;
-          fst = value_stands e (behind place p) r.1.0;
+          fst = value_stands e (place_after place p) r.1.0;
           snd = record {
             middle = suc m;
             fst = record { here = r.1.1.0; ends = refl };
-            snd = record { here = r.1.1.1.0; ends = sym (behind_three place value both p) };
+            snd = record { here = r.1.1.1.0; ends = sym (after_three place value both p) };
           };
         };
       }
@@ -261,7 +261,7 @@ module _ (u : UnitCode) (places : List (ℕ × ℕ)) (unit : ℕ) (at : Label �
 
   -- an item of ALLOCATE, at its own place
   allocation_stands : (item : AllocatedItem) (c : Context) → KeepsTemporary c.depth c.size item
-      → (p : ℕ) → Stand (allocation_code item p) p → stand.AllocationStands u item c p (behind (allocation_code item p) p)
+      → (p : ℕ) → Stand (allocation_code item p) p → stand.AllocationStands u item c p (place_after (allocation_code item p) p)
   allocation_stands (AllocatesControlled number) c apart p h = one (op.AllocateControlled number) p h
   allocation_stands (AllocatesBased template temporary target) c apart p h =
       let take = op.TakeTemporary temporary in
@@ -282,16 +282,16 @@ module _ (u : UnitCode) (places : List (ℕ × ℕ)) (unit : ℕ) (at : Label �
       )
 
   allocations_stand : (items : List AllocatedItem) (c : Context) → AllByRecursion (KeepsTemporary c.depth c.size) items
-      → (p : ℕ) → Stand (allocations_code items p) p → stand.AllocationsStand u items c p (behind (allocations_code items p) p)
+      → (p : ℕ) → Stand (allocations_code items p) p → stand.AllocationsStand u items c p (place_after (allocations_code items p) p)
   allocations_stand [] c apart p h = refl
   allocations_stand (item ∷ items) c apart p h =
       let code = allocation_code item p in
-      let more = allocations_code items (behind code p) in
+      let more = allocations_code items (place_after code p) in
       let r = split code more p h in
       record {
-        middle = behind code p;
+        middle = place_after code p;
         fst = allocation_stands item c apart.0 p r.0;
-        snd = subst (λ q. stand.AllocationsStand u items c (behind code p) q) (sym (behind_both code more p)) (allocations_stand items c apart.1 (behind code p) r.1);
+        snd = subst (λ q. stand.AllocationsStand u items c (place_after code p) q) (sym (after_both code more p)) (allocations_stand items c apart.1 (place_after code p) r.1);
       }
 
   freeing_stands : (item : FreedItem) → Made (freeing_code item) (stand.FreeingStands u item)
@@ -319,7 +319,7 @@ module _ (u : UnitCode) (places : List (ℕ × ℕ)) (unit : ℕ) (at : Label �
     most : c.bound ≤ 64
     depth : c.depth ≤ c.size
 
-  later : (is : List Instruction) (p : ℕ) → p ≤ behind is p
+  later : (is : List Instruction) (p : ℕ) → p ≤ place_after is p
   later [] p = omega arith
   later (i ∷ is) p = let le = later is (suc p) in omega (arith, le)
 
@@ -336,10 +336,10 @@ module _ (u : UnitCode) (places : List (ℕ × ℕ)) (unit : ℕ) (at : Label �
   -- iterations
 
   -- a limit on where parts of code end
-  first_within : (xs ys : List Instruction) (p n : ℕ) → behind (xs ++ ys) p ≤ n → behind xs p ≤ n
+  first_within : (xs ys : List Instruction) (p n : ℕ) → place_after (xs ++ ys) p ≤ n → place_after xs p ≤ n
   first_within xs ys p n h =
-      let e = behind_both xs ys p in
-      let le = later ys (behind xs p) in
+      let e = after_both xs ys p in
+      let le = later ys (place_after xs p) in
       omega (arith, e, le, h)
 
   keeps_stand : (t : ℕ) (es : List TypedExpression) → Made (keeps_code t es) (stand.KeepsStand u t es)
@@ -374,8 +374,8 @@ module _ (u : UnitCode) (places : List (ℕ × ℕ)) (unit : ℕ) (at : Label �
   advances_stand (RepeatedString next) i = string_stands i.control next
 
   -- tests, whose jumps lead to a place that is no earlier
-  limit_stands : (i : Iteration) (limit : Option ℕ) (step target p : ℕ) → behind (guarded (test_against i limit step) target) p ≤ target
-      → Stand (guarded (test_against i limit step) target) p → stand.LimitStands u i limit step target p (behind (guarded (test_against i limit step) target) p)
+  limit_stands : (i : Iteration) (limit : Option ℕ) (step target p : ℕ) → place_after (guarded (test_against i limit step) target) p ≤ target
+      → Stand (guarded (test_against i limit step) target) p → stand.LimitStands u i limit step target p (place_after (guarded (test_against i limit step) target) p)
   limit_stands i None step target p le h = refl
   limit_stands i (Some limit) step target p le h =
       let place = place_code i.control in
@@ -383,8 +383,8 @@ module _ (u : UnitCode) (places : List (ℕ × ℕ)) (unit : ℕ) (at : Label �
       let jump = op.JumpUnless target ∷ [] in
       let r = split (place ++ four) jump p h in
       let s = split place four p r.0 in
-      let a = behind place p in
-      let e : behind (place ++ four) p ≡ suc (suc (suc (suc a))) = behind_both place four p in
+      let a = place_after place p in
+      let e : place_after (place ++ four) p ≡ suc (suc (suc (suc a))) = after_both place four p in
       record {
         middle = a;
         fst = place_stands i.control p s.0;
@@ -403,7 +403,7 @@ module _ (u : UnitCode) (places : List (ℕ × ℕ)) (unit : ℕ) (at : Label �
                 snd = record {
                   is = record {
                     here = subst (λ k. slice_get u.instructions k ≡ Some (op.JumpUnless target)) e r.1.0;
-                    ends = sym (behind_both (place ++ four) jump p ∙ ap suc e);
+                    ends = sym (after_both (place ++ four) jump p ∙ ap suc e);
                   };
                   on = le;
                 };
@@ -413,27 +413,27 @@ module _ (u : UnitCode) (places : List (ℕ × ℕ)) (unit : ℕ) (at : Label �
         };
       }
 
-  while_stands : (e : Option TypedExpression) (target p : ℕ) → behind (guarded (while_test e) target) p ≤ target
-      → Stand (guarded (while_test e) target) p → stand.WhileStands u e target p (behind (guarded (while_test e) target) p)
+  while_stands : (e : Option TypedExpression) (target p : ℕ) → place_after (guarded (while_test e) target) p ≤ target
+      → Stand (guarded (while_test e) target) p → stand.WhileStands u e target p (place_after (guarded (while_test e) target) p)
   while_stands None target p le h = refl
   while_stands (Some e) target p le h =
       let jump = op.JumpUnless target ∷ [] in
       let r = split (value_code e) jump p h in
-      let is = behind_both (value_code e) jump p in
+      let is = after_both (value_code e) jump p in
       subst (λ z. stand.ConditionStands u e target p z) (sym is) (test_stands e target p (subst (λ z. z ≤ target) is le) r.0 r.1.0)
 
-  tests_stand : (i : Iteration) (target p : ℕ) → behind (tests_code i target) p ≤ target → Stand (tests_code i target) p
-      → stand.TestStands u i target p (behind (tests_code i target) p)
+  tests_stand : (i : Iteration) (target p : ℕ) → place_after (tests_code i target) p ≤ target → Stand (tests_code i target) p
+      → stand.TestStands u i target p (place_after (tests_code i target) p)
   tests_stand i target p le h =
       let limit = guarded (limit_test i) target in
       let condition = guarded (while_test i.condition) target in
       let r = split limit condition p h in
-      let is = behind_both limit condition p in
+      let is = after_both limit condition p in
       record {
-        middle = behind limit p;
+        middle = place_after limit p;
         fst = limit_stands i (limit_number i.range) (step_number i.range) target p (first_within limit condition p target le) r.0;
-        snd = subst (λ q. stand.WhileStands u i.condition target (behind limit p) q) (sym is)
-            (while_stands i.condition target (behind limit p) (subst (λ z. z ≤ target) is le) r.1);
+        snd = subst (λ q. stand.WhileStands u i.condition target (place_after limit p) q) (sym is)
+            (while_stands i.condition target (place_after limit p) (subst (λ z. z ≤ target) is le) r.1);
       }
 
   -- the list of an iteration, with or without turns back
@@ -449,48 +449,48 @@ module _ (u : UnitCode) (places : List (ℕ × ℕ)) (unit : ℕ) (at : Label �
 
   -- the tests of an iteration, its list, and what leads back
   turns_stand : (iterated : Bool) (i : Iteration) (number : ℕ) (between : List Instruction) (B : Span) → Made between B → (list : Context → Span) (c : Context) (p q finish : ℕ)
-      → q ≤ finish → suc (behind (tests_code i (behind (back_code iterated number between p) finish)) p) ≡ q
-      → Stand (tests_code i (behind (back_code iterated number between p) finish)) p
-      → slice_get u.instructions (behind (tests_code i (behind (back_code iterated number between p) finish)) p) ≡ Some (op.Step number)
+      → q ≤ finish → suc (place_after (tests_code i (place_after (back_code iterated number between p) finish)) p) ≡ q
+      → Stand (tests_code i (place_after (back_code iterated number between p) finish)) p
+      → slice_get u.instructions (place_after (tests_code i (place_after (back_code iterated number between p) finish)) p) ≡ Some (op.Step number)
       → Turned iterated list c q finish → Stand (back_code iterated number between p) finish
       → stand.TurnsStand u iterated (stand.TestStands u i) (λ c. Then (stand.Is u (op.Step number)) (list c)) (Then (stand.Is u (op.Line number)) B) c
-      p (behind (back_code iterated number between p) finish)
+      p (place_after (back_code iterated number between p) finish)
   turns_stand true i number between B b list c p q finish le e tests step does back =
       let line = op.Line number ∷ between in
       let jump = op.Jump p ∷ [] in
-      let out = behind (line ++ jump) finish in
+      let out = place_after (line ++ jump) finish in
       let on = later (line ++ jump) finish in
       let r = split line jump finish back in (
         does.0,
         record {
-          start = behind (tests_code i out) p;
+          start = place_after (tests_code i out) p;
           finish = finish;
-          behind = behind line finish;
+          after = place_after line finish;
           holds = tests_stand i out p (omega (arith, le, e, on)) tests;
           does = record { middle = q; fst = record { here = step; ends = e }; snd = does.1 };
           does_between = before (op.Line number) between B b finish r.0;
-          back = record { here = r.1.0; ends = sym (behind_both line jump finish) };
+          back = record { here = r.1.0; ends = sym (after_both line jump finish) };
         },
       )
   turns_stand false i number between B b list c p q finish le e tests step does back =
       record {
-        start = behind (tests_code i finish) p;
+        start = place_after (tests_code i finish) p;
         holds = tests_stand i finish p (omega (arith, le, e)) tests;
         does = record { middle = q; fst = record { here = step; ends = e }; snd = does };
       }
 
   -- blocks
 
-  -- of blocks that stand one behind the other, each is found by its number
+  -- of blocks that stand one after the other, each is found by its number
   found : (bs : List BlockTree) (p : ℕ) (get : ℕ → Option Block) → Stand (blocks_code bs p) p → ((i : ℕ) → get i ≡ slice_get (blocks_at bs p) i)
       → Known (places_of bs p) → (i : ℕ) (b : BlockTree) → slice_get bs i ≡ Some b → Found (get i) b
   found [] p get h same known i b e = absurd (cc)
   found (x ∷ bs) p get h same known zero b e =
-      let r = split (block_code x p) (blocks_code bs (behind (block_code x p) p)) p h in
+      let r = split (block_code x p) (blocks_code bs (place_after (block_code x p) p)) p h in
       subst (λ b. Found (get 0) b) (ap (or_else x) e)
-      (record { entry = p; is = same 0; code = r.0; known = all_front (λ e. statement_place places e.0 ≡ e.1) (places_among x.statements p) (places_of bs (behind (block_code x p) p)) known })
+      (record { entry = p; is = same 0; code = r.0; known = all_front (λ e. statement_place places e.0 ≡ e.1) (places_among x.statements p) (places_of bs (place_after (block_code x p) p)) known })
   found (x ∷ bs) p get h same known (suc i) b e =
-      let q = behind (block_code x p) p in
+      let q = place_after (block_code x p) p in
       let r = split (block_code x p) (blocks_code bs q) p h in
       found bs q (λ i. get (suc i)) r.1 (λ i. same (suc i)) (all_back (λ e. statement_place places e.0 ≡ e.1) (places_among x.statements p) (places_of bs q) known) i b e
 
@@ -531,13 +531,13 @@ module _ (u : UnitCode) (places : List (ℕ × ℕ)) (unit : ℕ) (at : Label �
         }
 
     mutual
-      statement_stands : (s : TypedStatement) (block : ℕ) (c : Context) → Fits c → HasRoom c.bound s → KeepsApart c.depth c.size s → NamesUnits all block s → AllPlaced (blocks_in block s)
-          → (p : ℕ) → Known (places_in s p) → Stand (statement_code s p) p → stand.StatementStands u unit at block s c p (behind (statement_code s p) p)
+      statement_stands : (s : TypedStatement) (block : ℕ) (c : Context) → Fits c → HasRoom c.bound s → KeepsApart c.depth c.size s → NamesOnUnits all block s → AllPlaced (blocks_in block s)
+          → (p : ℕ) → Known (places_in s p) → Stand (statement_code s p) p → stand.StatementStands u unit at block s c p (place_after (statement_code s p) p)
       statement_stands (Statement number form) block c fits room apart units inner p known h =
           record { middle = suc p; fst = record { here = h.0; ends = refl }; snd = form_stands form number block c fits room apart units inner (suc p) known.1 h.1 }
 
       form_stands : (form : Form) (number block : ℕ) (c : Context) → Fits c → HasRoom c.bound (Statement number form) → KeepsApart c.depth c.size (Statement number form) → NamesUnitsForm all block form → AllPlaced (blocks_of_form block form)
-          → (p : ℕ) → Known (places_in_form form p) → Stand (form_code number form p) p → stand.FormStands u unit at block number form c p (behind (form_code number form p) p)
+          → (p : ℕ) → Known (places_in_form form p) → Stand (form_code number form p) p → stand.FormStands u unit at block number form c p (place_after (form_code number form p) p)
       form_stands Null number block c fits room apart units inner p known h = refl
       form_stands (Assign target e) number block c fits room apart units inner p known h =
           two_parts (place_code target) (value_code e) op.Store (stand.PlaceStands u target) (stand.ValueStands u e) (place_stands target) (value_stands e) p h
@@ -553,29 +553,29 @@ module _ (u : UnitCode) (places : List (ℕ × ℕ)) (unit : ℕ) (at : Label �
       form_stands (Allocate items) number block c fits room apart units inner p known h = allocations_stand items c apart p h
       form_stands (Free items) number block c fits room apart units inner p known h = freeings_stand items p h
       form_stands (If e consequence NoElse) number block c fits room apart units inner p known h =
-          let q = suc (behind (value_code e) p) in
+          let q = suc (place_after (value_code e) p) in
           let part = statement_code consequence q in
-          let r = split (value_code e) (op.JumpUnless (behind part q) ∷ part) p h in
+          let r = split (value_code e) (op.JumpUnless (place_after part q) ∷ part) p h in
           subst (λ z. stand.IfStands u unit at block (stand.ConditionStands u e) (stand.StatementStands u unit at block consequence c) NoElse c p z)
-          (sym (behind_both (value_code e) (op.JumpUnless (behind part q) ∷ part) p))
+          (sym (after_both (value_code e) (op.JumpUnless (place_after part q) ∷ part) p))
           (record {
             start = q;
-            holds = test_stands e (behind part q) p (later part q) r.0 r.1.0;
+            holds = test_stands e (place_after part q) p (later part q) r.0 r.1.0;
             does = statement_stands consequence block c fits room.0 apart.0 units.0 (all_front Placed (blocks_in block consequence) [] inner) q
                 (all_front (λ e. statement_place places e.0 ≡ e.1) (places_in consequence q) [] known) r.1.1;
           })
       form_stands (If e consequence (Else other)) number block c fits room apart units inner p known h =
-          let q = suc (behind (value_code e) p) in
+          let q = suc (place_after (value_code e) p) in
           let part = statement_code consequence q in
-          let t = suc (behind part q) in
+          let t = suc (place_after part q) in
           let code = statement_code other t in
-          let z = behind code t in
+          let z = place_after code t in
           let r = split_three (value_code e) (op.JumpUnless t ∷ part) (op.Jump z ∷ code) p h in
           subst (λ z. stand.IfStands u unit at block (stand.ConditionStands u e) (stand.StatementStands u unit at block consequence c) (Else other) c p z)
-          (sym (behind_three (value_code e) (op.JumpUnless t ∷ part) (op.Jump z ∷ code) p))
+          (sym (after_three (value_code e) (op.JumpUnless t ∷ part) (op.Jump z ∷ code) p))
           (record {
             start = q;
-            finish = behind part q;
+            finish = place_after part q;
             target = t;
             holds = test_stands e t p (let le = later part q in omega (arith, le)) r.0 r.1.0.0;
             does = statement_stands consequence block c fits room.0 apart.0 units.0 (all_front Placed (blocks_in block consequence) (blocks_in block other) inner) q
@@ -595,8 +595,8 @@ module _ (u : UnitCode) (places : List (ℕ × ℕ)) (unit : ℕ) (at : Label �
               there = f.is;
               bound = 64;
               some = omega arith;
-              finish = behind (list_code statements f.entry) f.entry;
-              behind = suc (behind (list_code statements f.entry) f.entry);
+              finish = place_after (list_code statements f.entry) f.entry;
+              after = suc (place_after (list_code statements f.entry) f.entry);
               does = list_stands statements head.number (record { size = head.temporaries; depth = 0; bound = 64 }) (record { most = omega arith; depth = omega arith })
                   inner.0.1.0 inner.0.1.1.0 inner.0.1.1.1 inner.1 f.entry f.known r.0;
               ends = record { here = r.1.0; ends = refl };
@@ -604,17 +604,17 @@ module _ (u : UnitCode) (places : List (ℕ × ℕ)) (unit : ℕ) (at : Label �
           }
       form_stands (Group statements) number block c fits room apart units inner p known h = list_stands statements block c fits room apart units inner p known h
       form_stands (While e statements) number block c fits room apart units inner p known h =
-          let q = suc (suc (behind (value_code e) (suc p))) in
+          let q = suc (suc (place_after (value_code e) (suc p))) in
           let code = list_code statements q in
-          let z = suc (behind code q) in
+          let z = suc (place_after code q) in
           let r = split_three (op.Line number ∷ value_code e) (op.JumpUnless z ∷ op.Step number ∷ code) (op.Jump p ∷ []) p h in
           subst (λ z. stand.FormStands u unit at block number (While e statements) c p z)
-          (sym (behind_three (op.Line number ∷ value_code e) (op.JumpUnless z ∷ op.Step number ∷ code) (op.Jump p ∷ []) p)) (
+          (sym (after_three (op.Line number ∷ value_code e) (op.JumpUnless z ∷ op.Step number ∷ code) (op.Jump p ∷ []) p)) (
             nests c fits room.0,
             record {
-              start = suc (behind (value_code e) (suc p));
-              finish = behind code q;
-              behind = behind code q;
+              start = suc (place_after (value_code e) (suc p));
+              finish = place_after code q;
+              after = place_after code q;
               holds = record {
                 middle = suc p;
                 fst = record { here = r.0.0; ends = refl };
@@ -635,28 +635,28 @@ module _ (u : UnitCode) (places : List (ℕ × ℕ)) (unit : ℕ) (at : Label �
           let code = list_code statements q in
           let between = advances_code i.range i in
           let back = back_code (is_iterated i.range) number between turn in
-          let out = behind back (behind code q) in
+          let out = place_after back (place_after code q) in
           let tests = tests_code i out in
           let keeps = keeps_code i.temporary (i.start ∷ kept_by i.range) in
           let sets = sets_code i (op.TakeTemporary i.temporary ∷ []) in
           let take = stand.Is u (op.TakeTemporary i.temporary) in
           let r = split_three (start_code i) tests (op.Step number ∷ (code ++ back)) p h in
           let s = split keeps sets p r.0 in
-          let e : suc (behind tests turn) ≡ q = ap suc (tests_length i out 0 turn) in
+          let e : suc (place_after tests turn) ≡ q = ap suc (tests_length i out 0 turn) in
           let l = split code back q (subst (λ k. Stand (code ++ back) k) e r.1.1.1) in
           let next = next_temporary i in
           subst (λ z. stand.FormStands u unit at block number (Iterate i statements) c p z) (sym (iterate_ends number i (list_code statements) p)) (
             record { free = apart.0; room = apart.1 },
             record {
-              middle = behind keeps p;
+              middle = place_after keeps p;
               fst = keeps_stand i.temporary (i.start ∷ kept_by i.range) p s.0;
               snd = record {
                 middle = turn;
-                fst = subst (λ z. stand.SetsStand u i take (behind keeps p) z) (sym (behind_both keeps sets p))
-                    (sets_stand i (op.TakeTemporary i.temporary ∷ []) take (one (op.TakeTemporary i.temporary)) (behind keeps p) s.1);
+                fst = subst (λ z. stand.SetsStand u i take (place_after keeps p) z) (sym (after_both keeps sets p))
+                    (sets_stand i (op.TakeTemporary i.temporary ∷ []) take (one (op.TakeTemporary i.temporary)) (place_after keeps p) s.1);
                 snd = turns_stand (is_iterated i.range) i number between (stand.AdvancesStand u i.range i) (advances_stand i.range i) (stand.ListStands u unit at block statements)
-                    (stand.using next c) turn q (behind code q) (later code q) e r.1.0 r.1.1.0
-                    (turned (is_iterated i.range) statements (stand.ListStands u unit at block statements) c.size next c.bound q (behind code q) fits.most room
+                    (stand.using next c) turn q (place_after code q) (later code q) e r.1.0 r.1.1.0
+                    (turned (is_iterated i.range) statements (stand.ListStands u unit at block statements) c.size next c.bound q (place_after code q) fits.most room
                     (λ n most space. list_stands statements block (record { size = c.size; depth = next; bound = n }) (record { most = most; depth = apart.1 }) space apart.2 units inner q known l.0))
                     l.1;
               };
@@ -674,18 +674,18 @@ module _ (u : UnitCode) (places : List (ℕ × ℕ)) (unit : ℕ) (at : Label �
       form_stands (Signal condition) number block c fits room apart units inner p known h = one (op.Signal condition) p h
 
       list_stands : (ss : TypedStatements) (block : ℕ) (c : Context) → Fits c → HaveRoom c.bound ss → KeepApart c.depth c.size ss → NameUnits all block ss → AllPlaced (blocks_among block ss)
-          → (p : ℕ) → Known (places_among ss p) → Stand (list_code ss p) p → stand.ListStands u unit at block ss c p (behind (list_code ss p) p)
+          → (p : ℕ) → Known (places_among ss p) → Stand (list_code ss p) p → stand.ListStands u unit at block ss c p (place_after (list_code ss p) p)
       list_stands NoStatement block c fits room apart units inner p known h = refl
       list_stands (StatementThen s more) block c fits room apart units inner p known h =
           let code = statement_code s p in
-          let q = behind code p in
+          let q = place_after code p in
           let r = split code (list_code more q) p h in (
             starts s p (all_front (λ e. statement_place places e.0 ≡ e.1) (places_in s p) (places_among more q) known),
             record {
               middle = q;
               fst = statement_stands s block c fits room.0 apart.0 units.0 (all_front Placed (blocks_in block s) (blocks_among block more) inner) p
                   (all_front (λ e. statement_place places e.0 ≡ e.1) (places_in s p) (places_among more q) known) r.0;
-              snd = subst (λ z. stand.ListStands u unit at block more c q z) (sym (behind_both code (list_code more q) p))
+              snd = subst (λ z. stand.ListStands u unit at block more c q z) (sym (after_both code (list_code more q) p))
                   (list_stands more block c fits room.1 apart.1 units.1 (all_back Placed (blocks_in block s) (blocks_among block more) inner) q
                   (all_back (λ e. statement_place places e.0 ≡ e.1) (places_in s p) (places_among more q) known) r.1);
             },
@@ -695,14 +695,14 @@ module _ (u : UnitCode) (places : List (ℕ × ℕ)) (unit : ℕ) (at : Label �
     procedure_stands f inner =
         let b = inner.0.0 in
         let r = split (list_code f.statements b.entry) (end_code f.function_end) b.entry b.code in
-        let finish = behind (list_code f.statements b.entry) b.entry in
+        let finish = place_after (list_code f.statements b.entry) b.entry in
         record {
           entry = b.entry;
           there = b.is;
           bound = 64;
           some = omega arith;
           finish = finish;
-          behind = behind (end_code f.function_end) finish;
+          after = place_after (end_code f.function_end) finish;
           does = list_stands f.statements f.head.number (record { size = f.head.temporaries; depth = 0; bound = 64 }) (record { most = omega arith; depth = omega arith }) inner.0.1.0 inner.0.1.1.0 inner.0.1.1.1 inner.1 b.entry b.known r.0;
           ends = end_stands f.function_end finish r.1;
         }

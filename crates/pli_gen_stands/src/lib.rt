@@ -1,9 +1,9 @@
-//! The code that the generator gives stands as the simulation asks, and so does what the program means.
+//! The code that the generator gives matches the translation, and so does what the program means.
 #![tactic(auto)]
 
 ghost use Rattle.pli_gen_stands.specs.Laws.{CodeStands, ProgramsRunAsMeant};
 
-/// The code of a program whose units are numbered well stands, form by form, as the simulation asks, and so do its
+/// The code of a program whose units are numbered well matches the translation, form by form, and so do its
 /// globals, where external variables have the numbers of their names, and entries those of the units that have their
 /// procedures.
 pub fn code_stands()

@@ -17,7 +17,7 @@ stay members more (p ∷ ps) of_runs =
     ap (λ m. record { member = m; line = p.line } ∷ map (origin_at (members ++ more)) ps) (get_or_append_left members more none p.run (of_runs 0 p (omega arith)))
     ∙ ap (λ os. origin_at members p ∷ os) (stay members more ps (All-tail (IsOfRun members) p ps of_runs))
 
--- a place whose run is of the origin's member has that origin, behind those that were
+-- a place whose run is of the origin's member has that origin, after those that were
 pub appended : (before after more : List Name) (ps qs : List Place) (p : Place) (o : Origin) → All (IsOfRun before) ps → after ≡ before ++ more → qs ≡ ps ++ p ∷ [] → slice_get after p.run ≡ Some o.member → p.line ≡ o.line
     → map (origin_at after) qs ≡ map (origin_at before) ps ++ o ∷ []
 appended before after more ps qs p o of_runs longer pushed run line =

@@ -21,7 +21,7 @@ few_lines s name lines (Some m) h e = let same : m.lines ≡ lines = cc in subst
 pub lines_are_few : (s : Store) (name : Name) (lines : List (List ℕ)) → IsKept s → Some lines ≡ lines_of s name → length lines ≤ 9999
 lines_are_few s name lines kept e = few_lines s name lines (member_of s name) (IfSome-lookup_from_All (IsKeptMember s.next) (is_named name) s.entries kept.members) (sym e)
 
--- what stands at a place stays, where more come behind
+-- what stands at a place stays, where more come after them
 pub stays : {A : Type 0} (xs ys : List A) (i : ℕ) (x : A) → slice_get xs i ≡ Some x → slice_get (xs ++ ys) i ≡ Some x
 stays [] ys i x e = let bad : ⊥ = cc in absurd bad
 stays (a ∷ xs) ys zero x e = e

@@ -31,7 +31,7 @@ name_in (Word name) = Some name
 name_in (Characters text) = name_of text
 name_in others = None
 
--- the member that a directive names, if these are the tokens behind its `%`
+-- the member that a directive names, if these are the tokens after its `%`
 abbrev pub named_by : (word named semicolon : TokenText) → Option Name
 named_by word named semicolon = if is_include word && is_semicolon semicolon then name_in named else None
 
@@ -46,11 +46,11 @@ begun percent (word ∷ named ∷ semicolon ∷ rest) =
     directive (named_by word.text named.text semicolon.text) percent word named semicolon
 begun percent others = Misplaced percent
 
--- the piece that a token begins, with these tokens behind it
+-- the piece that a token begins, with these tokens after it
 abbrev pub piece_at : Token → List Token → Piece
 piece_at t rest = if is_percent t.text then begun t rest else Plain t
 
--- how many tokens a piece has behind its first
+-- how many tokens a piece has after its first
 abbrev pub further : Piece → ℕ
 further (Directive percent word named semicolon name) = 3
 further others = 0

@@ -40,7 +40,7 @@ fn name_in(text: &TokenText) -> Option<Name>
     }
 }
 
-/// The member that a directive names, if these are the tokens behind its `%`.
+/// The member that a directive names, if these are the tokens after its `%`.
 pub fn named_by(word: &TokenText, named: &TokenText, semicolon: &TokenText) -> Option<Name>
     ensures { result ≡ named_by word.now named.now semicolon.now }
 {

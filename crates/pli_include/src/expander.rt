@@ -85,7 +85,7 @@ impl Expander {
     /// or the first fault: at a directive I4 BAD INCLUDE, I3 TOO MANY TOKENS, I2 RECURSIVE INCLUDE and I1 NO SUCH
     /// MEMBER in this order, and of a member that is entered its lexical fault (X3.74; the limit of 200,000 tokens is
     /// own). A unit that is no member is I1 at its line 1. Each member is lexed once, so the cost is linear in the
-    /// tokens that are read and the text of the members that are entered. Refused for want of memory alone.
+    /// tokens that are read and the text of the members that are entered. Refused only when out of memory.
     pub fn expand(&mut self, members: &Members, unit: Name) -> Result<Expansion, AllocError>
         ensures expansion { IfOk result (λ expansion. expansion ≡ expansion_of members.now unit) }
         ensures counted { OnOk result (self.new ≡ min (self.old + 1) (2 ^ 64 - 1)) }

@@ -76,7 +76,7 @@ impl Origins {
         Ok(())
     }
 
-    /// Lets go of the memory that no token takes.
+    /// Drops the memory that no token takes.
     pub(crate) fn shrink_to_fit(&mut self)
         ensures { self.new ≡ self.old }
     {

@@ -9,7 +9,7 @@ use crate::progress::Progress;
 use pli_base::{Code, Name, Origin, Token};
 use std::alloc::{AllocError, Global};
 
-/// A member that is to be included, the place of its directive's `%`, and that of the token behind its `;`.
+/// A member that is to be included, the place of its directive's `%`, and that of the token after its `;`.
 #[derive(Clone, Copy)]
 pub struct Request {
     pub name: Name,

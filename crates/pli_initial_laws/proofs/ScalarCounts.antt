@@ -5,7 +5,7 @@ use Rattle.std.specs.List.{AllByRecursion, flat_map}
 use Rattle.pli_map.specs.declared.description.Bounds.{Bounds}
 use Rattle.pli_map.specs.Description.{Description, FixedBinary, Character, Varying, Bit, Pointer, Offset, Area, Array, Structure, Members, NoMembers, MemberThen}
 use Rattle.pli_map.specs.Scalars.{scalars_in, scalars_among}
-use Rattle.pli_map.specs.Sizes.{count_of, alignment_of, size_of, stride_of, end_behind, number_bytes}
+use Rattle.pli_map.specs.Sizes.{count_of, alignment_of, size_of, stride_of, end_after, number_bytes}
 use Rattle.pli_map.proofs.Places.{fits_stride}
 use Rattle.pli_resolve.specs.laws.MemberLaws.{member_of, part_on}
 use Rattle.pli_deck_laws.specs.Limits.{IsDescribed, AreDescribed}
@@ -208,7 +208,7 @@ mutual
   scalars_take (suc n) (Structure (MemberThen d ds)) h =
       omega (arith, scalars_take n d h.0, members_take n (next_multiple_of 0 (alignment_of d) + size_of d) ds h.1)
 
-  members_take : (n at : ℕ) (ds : Members) → AreDescribed n ds → at + scalars_among ds ≤ end_behind at ds
+  members_take : (n at : ℕ) (ds : Members) → AreDescribed n ds → at + scalars_among ds ≤ end_after at ds
   members_take n at NoMembers h = omega arith
   members_take n at (MemberThen d ds) h =
       omega (arith, scalars_take n d h.0, members_take n (next_multiple_of at (alignment_of d) + size_of d) ds h.1)

@@ -2,7 +2,7 @@
 use Rattle.std.proofs.Common.{◌≡◌, ℕ, zero, suc, ◌<◌, Option, Some, None, List, [], ◌∷◌, ◌++◌, length, get_or, length-append, refl, sym, ap, ◌∙◌, arith}
 use Rattle.pli_base.specs.Name.{Name}
 use Rattle.pli_declare_tables.specs.Tables.{Entry, no_entry}
-use Rattle.pli_declare_tables.specs.answers.Answers.{AreBehindOwners}
+use Rattle.pli_declare_tables.specs.answers.Answers.{AreAfterOwners}
 use Rattle.pli_declare_variables.specs.Declarations.{declared_in, AreGood}
 use Rattle.pli_declare_variables.specs.Places.{members_of}
 use Rattle.pli_declare_variables.proofs.MembersFound.{before}
@@ -25,7 +25,7 @@ last_same (w ∷ xs) (z ∷ ys) x y e =
 not_empty : (xs : List ℕ) (x : ℕ) → [] ≡ xs ++ x ∷ [] → ⊥
 not_empty xs x e = omega (arith, ap length e, length-append xs (x ∷ []))
 
-module _ (es : List Entry) (ps : List Name) (owners : AreBehindOwners es) (items : OwnersAreItems es) (good : AreGood es ps) where
+module _ (es : List Entry) (ps : List Name) (owners : AreAfterOwners es) (items : OwnersAreItems es) (good : AreGood es ps) where
   abbrev ways : List Way
   ways = ways_of (declared_in es ps)
 

@@ -1,4 +1,4 @@
--- What a build leaves where it ends, or where it was refused: in the first pass, in the second, or behind both.
+-- What a build leaves where it ends, or where it was refused: in the first pass, in the second, or after both.
 use Rattle.std.proofs.Common.{◌≡◌, ℕ, zero, ◌⊎◌, inl, inr, Bool, true, false, ◌&&◌, not, List, [], ◌∷◌, ◌++◌, length, map, take, drop, Option, None, Some, nat_eq, refl, sym, ap, subst, ◌∙◌, arith}
 use Rattle.std.specs.Prelude.{All}
 use Rattle.std.specs.List.{AllByRecursion, IsDistinct, count_by}

@@ -1,4 +1,4 @@
--- What is kept fits the members behind an edit of them.
+-- What is kept fits the members after an edit of them.
 use Rattle.std.proofs.Common.{◌≡◌, ℕ, List, [], Option, None, Some, sym, ap, ◌∙◌, arith}
 use Rattle.std.specs.FinMap.{empty, get, get-empty}
 use Rattle.std.specs.Option.{option_map}

@@ -14,7 +14,7 @@ use Rattle.pli_meaning.specs.Scratch.{source_in, sources}
 use Rattle.pli_ledger.specs.Kept.{Kept, Units, kept_of, nothing_kept}
 use Rattle.pli_ledger.specs.answers.Aligning.{aligned}
 use Rattle.pli_ledger.proofs.NamesApart.{kept_first, kept_later, named_itself, named_same, not_named, on_test}
-use Rattle.pli_ledger.proofs.NamesInOrder.{all_weaker, other_way, sources_behind}
+use Rattle.pli_ledger.proofs.NamesInOrder.{all_weaker, other_way, sources_after}
 
 -- what is kept of other units stays where nothing is kept of one any more
 pub taken_others : (units : Units) (i : ℕ) (name : Name) (u : Name × Kept) → i < length units → u ≡ get_or units i u → u.0 ≡ name → (other : Name) → other ≢ name
@@ -28,7 +28,7 @@ taken_others (x ∷ xs) (suc i) name u low is named other differs =
     (λ at. kept_first other x (set xs i (name, nothing_kept)) at ∙ sym (kept_first other x xs at))
     (λ at. kept_later other x (set xs i (name, nothing_kept)) at ∙ taken_others xs i name u (omega arith) is named other differs ∙ sym (kept_later other x xs at))
 
--- a search from the front: the unit at the place is the one, or what is kept stands behind it, or there is none
+-- a search from the front: the unit at the place is the one, or what is kept stands after it, or there is none
 module _ (units : Units) (name : Name) (i : ℕ) (left : kept_of (drop i units) name ≡ kept_of units name) where
   pub found_here : (u : Name × Kept) → i < length units → u ≡ get_or units i u → u.0 ≡ name → u ≡ (name, kept_of units name)
   found_here u low is named =
@@ -54,15 +54,15 @@ pub aligned_same : (old new : Units) (names : List Name) → AllByRecursion (λ 
 aligned_same old new [] all = refl
 aligned_same old new (x ∷ xs) all = let first = all.0 in let others = aligned_same old new xs all.1 in λ i. (x, first i) ∷ others i
 
--- the sources behind a member keep what they have
-pub aligned_behind : (old new : Units) (es : List (Name × Member)) (i : ℕ) (e : Name × Member) → IsStrictlySortedBy name_order (keys_of es) → i < length es → e ≡ get_or es i e
+-- the sources after a member keep what they have
+pub aligned_after : (old new : Units) (es : List (Name × Member)) (i : ℕ) (e : Name × Member) → IsStrictlySortedBy name_order (keys_of es) → i < length es → e ≡ get_or es i e
     → ((other : Name) → other ≢ e.0 → kept_of new other ≡ kept_of old other) → aligned new (sources (drop (suc i) es)) ≡ aligned old (sources (drop (suc i) es))
-aligned_behind old new [] i e sorted low is others = absurd (omega arith)
-aligned_behind old new (x ∷ xs) zero e sorted low is others =
+aligned_after old new [] i e sorted low is others = absurd (omega arith)
+aligned_after old new (x ∷ xs) zero e sorted low is others =
     aligned_same old new (sources xs)
     (all_weaker (λ y. is_named x.0 y ≡ false) (λ y. kept_of new y ≡ kept_of old y)
-    (λ y apart. others y (λ same. absurd (true≢false (sym (named_same x.0 y (sym (same ∙ ap (λ (u : Name × Member). u.0) is))) ∙ apart)))) (sources xs) (sources_behind xs x sorted))
-aligned_behind old new (x ∷ xs) (suc i) e sorted low is others = aligned_behind old new xs i e (sorted_tail name_order x.0 (keys_of xs) sorted) (omega arith) is others
+    (λ y apart. others y (λ same. absurd (true≢false (sym (named_same x.0 y (sym (same ∙ ap (λ (u : Name × Member). u.0) is))) ∙ apart)))) (sources xs) (sources_after xs x sorted))
+aligned_after old new (x ∷ xs) (suc i) e sorted low is others = aligned_after old new xs i e (sorted_tail name_order x.0 (keys_of xs) sorted) (omega arith) is others
 
 -- one member more is moved
 pub moved_more : (kept next old new all : Units) (es : List (Name × Member)) (i : ℕ) (e : Name × Member) → IsStrictlySortedBy name_order (keys_of es) → i < length es → e ≡ get_or es i e
@@ -71,7 +71,7 @@ pub moved_more : (kept next old new all : Units) (es : List (Name × Member)) (i
 moved_more kept next old new all es i e sorted low is so_far moved others =
     let rest = sources (drop (i + 1) es) in
     let split : drop i es ≡ e ∷ drop (i + 1) es = drop_more es i e low ∙ ap (λ (x : Name × Member). x ∷ drop (i + 1) es) (sym is) in
-    let same = subst (λ (n : ℕ). aligned new (sources (drop n es)) ≡ aligned old (sources (drop n es))) (sym (add-one i)) (aligned_behind old new es i e sorted low is others) in
+    let same = subst (λ (n : ℕ). aligned new (sources (drop n es)) ≡ aligned old (sources (drop n es))) (sym (add-one i)) (aligned_after old new es i e sorted low is others) in
     ap (λ (us : Units). us ++ aligned new rest) moved
     ∙ ap (λ (us : Units). (kept ++ aligned old (source_in e.0 e.1.kind)) ++ us) same
     ∙ append_assoc kept (aligned old (source_in e.0 e.1.kind)) (aligned old rest)
@@ -79,7 +79,7 @@ moved_more kept next old new all es i e sorted low is so_far moved others =
     ∙ ap (λ (x : List (Name × Member)). kept ++ aligned old (sources x)) (sym split)
     ∙ so_far
 
--- a slice that is lent of a vector, as it is behind a call that keeps its length
+-- a slice that is lent of a vector, as it is after a call that keeps its length
 pub whole : (n : ℕ) (old new : Units) → length new ≡ length old → length old ≡ n → take n (new ++ drop (length new) old) ≡ new
 whole n old new same is =
     ap (λ (xs : Units). take n (new ++ xs)) (drop_all (length new) old (omega arith)) ∙ ap (take n) (append-nil new) ∙ take_all n new (omega arith)

@@ -61,7 +61,7 @@ all_sources P (e ∷ es) all = of_kind e.1.kind (all_sources P es all.1)
     of_kind Source others = (all.0, others)
     of_kind Include others = others
 
--- each source is another than those behind it
+-- each source is another than those after it
 pub sources_apart : (es : List (Name × Member)) → IsStrictlySortedBy name_order (keys_of es) → IsDistinct (eq_by_cmp name_order) (sources es)
 unfolding IsDistinct
 sources_apart [] sorted = tt
@@ -75,8 +75,8 @@ sources_apart (e ∷ es) sorted = of_kind e.1.kind (sources_apart es (sorted_tai
         others
     of_kind Include others = others
 
--- no source behind a member is of its name
-pub sources_behind : (es : List (Name × Member)) (e : Name × Member) → IsStrictlySortedBy name_order (keys_of (e ∷ es)) → AllByRecursion (λ y. is_named e.0 y ≡ false) (sources es)
-sources_behind es e sorted =
+-- no source after a member is of its name
+pub sources_after : (es : List (Name × Member)) (e : Name × Member) → IsStrictlySortedBy name_order (keys_of (e ∷ es)) → AllByRecursion (λ y. is_named e.0 y ≡ false) (sources es)
+sources_after es e sorted =
     all_sources (λ y. is_named e.0 y ≡ false) es
     (all_weaker (λ y. name_order e.0 y ≡ Less) (λ y. is_named e.0 y ≡ false) (λ y less. less_is_other e.0 y less) (keys_of es) (sorted_head name_order e.0 (keys_of es) sorted))

@@ -42,16 +42,16 @@ counted_staged needs f (suc n) (x ∷ xs) =
     ∙ sym (sum_by-cons (λ (name : Name). cond (needs (name, f name)) 1 0) x (take n xs))
 
 -- one unit more in front changes nothing for other names
-behind : (u : Name × Kept) (units : Units) (h : Name → Kept) (names : List Name) → AllByRecursion (λ y. is_named u.0 y ≡ false) names → AllByRecursion (λ y. kept_of units y ≡ h y) names
+after : (u : Name × Kept) (units : Units) (h : Name → Kept) (names : List Name) → AllByRecursion (λ y. is_named u.0 y ≡ false) names → AllByRecursion (λ y. kept_of units y ≡ h y) names
     → AllByRecursion (λ y. kept_of (u ∷ units) y ≡ h y) names
-behind u units h names apart all =
+after u units h names apart all =
     all_both (λ y. is_named u.0 y ≡ false) (λ y. kept_of units y ≡ h y) (λ y. kept_of (u ∷ units) y ≡ h y) (λ y differs is. kept_later y u units (other_way u.0 y differs) ∙ is) names apart all
 
 pub kept_staged : (f : Name → Kept) (names : List Name) → IsDistinct (eq_by_cmp name_order) names → AllByRecursion (λ name. kept_of (staged f names) name ≡ f name) names
 kept_staged f [] apart = tt
 kept_staged f (x ∷ xs) apart = (
   kept_first x (x, f x) (staged f xs) (named_itself x),
-  behind (x, f x) (staged f xs) f xs (IsDistinct-head (eq_by_cmp name_order) x xs apart) (kept_staged f xs (IsDistinct-tail (eq_by_cmp name_order) x xs apart)),
+  after (x, f x) (staged f xs) f xs (IsDistinct-head (eq_by_cmp name_order) x xs apart) (kept_staged f xs (IsDistinct-tail (eq_by_cmp name_order) x xs apart)),
 )
 
 -- the first n names are at the one stage
@@ -60,7 +60,7 @@ kept_at_front f g zero names apart = tt
 kept_at_front f g (suc n) [] apart = tt
 kept_at_front f g (suc n) (x ∷ xs) apart = (
   kept_first x (x, f x) (mixed f g n xs) (named_itself x),
-  behind (x, f x) (mixed f g n xs) f (take n xs) (all_taken (λ y. is_named x y ≡ false) n xs (IsDistinct-head (eq_by_cmp name_order) x xs apart)) (kept_at_front f g n xs (IsDistinct-tail (eq_by_cmp name_order) x xs apart)),
+  after (x, f x) (mixed f g n xs) f (take n xs) (all_taken (λ y. is_named x y ≡ false) n xs (IsDistinct-head (eq_by_cmp name_order) x xs apart)) (kept_at_front f g n xs (IsDistinct-tail (eq_by_cmp name_order) x xs apart)),
 )
 
 -- the others at the other
@@ -68,7 +68,7 @@ pub kept_at_back : (f g : Name → Kept) (n : ℕ) (names : List Name) → IsDis
 kept_at_back f g zero names apart = kept_staged g names apart
 kept_at_back f g (suc n) [] apart = tt
 kept_at_back f g (suc n) (x ∷ xs) apart =
-    behind (x, f x) (mixed f g n xs) g (drop n xs)
+    after (x, f x) (mixed f g n xs) g (drop n xs)
     (all_dropped (λ y. is_named x y ≡ false) n xs (IsDistinct-head (eq_by_cmp name_order) x xs apart))
     (kept_at_back f g n xs (IsDistinct-tail (eq_by_cmp name_order) x xs apart))
 

@@ -48,7 +48,7 @@ pub result_put : {R : Type 0} (last : Option Expanded) (before : Option Tokens) 
 result_put None before r h = cc
 result_put (Some e) before r h = put_for e.fault e.texts before h
 
--- an expansion of the same texts is let go of
+-- an expansion of the same texts is dropped
 pub same_forgotten : {R : Type 0} (e : Expanded) (before : Option Expanded) (r : Option R) → is_compiled e.texts (texts_of (Some e) before r) ≡ true → texts_of (Some e) None r ≡ texts_of (Some e) before r
 same_forgotten e before None h = refl
 same_forgotten e None (Some r) h = refl

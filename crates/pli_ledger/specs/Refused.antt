@@ -1,4 +1,4 @@
--- What a build leaves that was refused for want of memory (own): each thing as before or as after the build,
+-- What a build leaves that ran out of memory (own): each thing as before or as after the build,
 -- and what was done before it was refused is kept.
 use Rattle.std.specs.Prelude.{◌≡◌, ℕ, ◌+◌, ◌<◌, ◌^◌, ◌⊎◌, ◌&&◌, not}
 use Rattle.std.specs.List.{count_by}

@@ -53,16 +53,16 @@ fn move_kept(from: &mut [KeptUnit], to: &mut Vec<KeptUnit>, entry: &NamedMember)
     }
 }
 
-/// What is left of units behind that of a member, if it is a source: none, where the first unit is another one.
-fn behind_source<'a>(left: &'a [KeptUnit], entry: &NamedMember) -> Option<&'a [KeptUnit]>
-    ensures { IfSome (option_copied result) (λ behind. map unit_name left.now
-        ≡ source_in entry.now.0 entry.now.1.kind ++ map unit_name behind) }
+/// What is left of units after that of a member, if it is a source: none, where the first unit is another one.
+fn after_source<'a>(left: &'a [KeptUnit], entry: &NamedMember) -> Option<&'a [KeptUnit]>
+    ensures { IfSome (option_copied result) (λ after. map unit_name left.now
+        ≡ source_in entry.now.0 entry.now.1.kind ++ map unit_name after) }
 {
     match entry.kind() {
         MemberKind::Source => {
-            let (unit, behind) = left.split_first()?;
+            let (unit, after) = left.split_first()?;
             if unit.name() == entry.name() {
-                Some(behind)
+                Some(after)
             } else {
                 None
             }
@@ -77,10 +77,10 @@ fn are_sources(units: &[KeptUnit], entries: &[NamedMember]) -> bool
 {
     let mut left = units;
     for entry in entries {
-        let Some(behind) = behind_source(left, entry) else {
+        let Some(after) = after_source(left, entry) else {
             return false;
         };
-        left = behind;
+        left = after;
     }
     left.is_empty()
 }

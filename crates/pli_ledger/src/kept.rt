@@ -190,7 +190,7 @@ impl KeptUnit {
         self.before = None;
     }
 
-    /// Lets go of an expansion that was compiled, where the last one has the same texts.
+    /// Drops an expansion that was compiled, where the last one has the same texts.
     fn forget_same(&mut self)
         ensures { self.new ≡ self.old }
     {

@@ -4,7 +4,7 @@ ghost use Rattle.pli_ledger.specs.laws.Laws.{DeletionsKeepFits, NothingFits, Wha
 
 use pli_members::{deletion_keeps_others, deletion_takes, edit_gives_next, edit_keeps_others};
 
-/// Laws: what is kept fits the members, also behind an edit of them, since an edit gives a version that was never given
+/// Laws: what is kept fits the members, also after an edit of them, since an edit gives a version that was never given
 /// before.
 pub fn edits_keep_fits()
     ensures nothing { NothingFits }

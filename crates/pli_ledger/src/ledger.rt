@@ -49,7 +49,7 @@ impl Ledger {
 
     /// Builds all source members: those that are due are expanded, those that are stale are compiled, and what is kept
     /// serves for the others. It answers what a build from scratch of the members gives, and keeps what was expanded
-    /// and compiled. A module of the members that stands still is answered as it is. Refused for want of memory alone;
+    /// and compiled. A module of the members that stands still is answered as it is. Refused only when out of memory;
     /// then what was done before is kept, so that the next build does not do it again.
     pub fn build(
         &mut self,

@@ -11,10 +11,10 @@ use Rattle.pli_lex.specs.Reading.{string_from}
 abbrev pub SoFar : List ℕ → List ℕ → ℕ → Type 0
 SoFar text characters i = string_from false text ≡ option_map (λ string. (characters ++ string.0, string.1 + i)) (string_from false (drop i text))
 
-abbrev behind : List ℕ → ℕ → Option (List ℕ × ℕ) → Option (List ℕ × ℕ)
-behind characters i found = option_map (λ string. (characters ++ string.0, string.1 + i)) found
+abbrev after : List ℕ → ℕ → Option (List ℕ × ℕ) → Option (List ℕ × ℕ)
+after characters i found = option_map (λ string. (characters ++ string.0, string.1 + i)) found
 
-pushed : (characters : List ℕ) (c i n k : ℕ) (found : Option (List ℕ × ℕ)) → n + i ≡ k → behind characters i (option_map (λ string. (c ∷ string.0, string.1 + n)) found) ≡ behind (characters ++ c ∷ []) k found
+pushed : (characters : List ℕ) (c i n k : ℕ) (found : Option (List ℕ × ℕ)) → n + i ≡ k → after characters i (option_map (λ string. (c ∷ string.0, string.1 + n)) found) ≡ after (characters ++ c ∷ []) k found
 pushed characters c i n k None e = refl
 pushed characters c i n k (Some string) e =
     let place : string.1 + n + i ≡ string.1 + k = omega (arith, e) in
@@ -46,8 +46,8 @@ goes_over text characters i lt other byte so_far =
     let c = get_or text i 0 in
     let no_quote : is_quote c ≡ false = grind (arith, nat_tests) in
     let no_end : is_line_end c ≡ false = grind (arith, nat_tests) in
-    so_far ∙ ap (λ (l : List ℕ). behind characters i (string_from false l)) (drop_more text i 0 lt)
-    ∙ ap (behind characters i) (another c (drop (i + 1) text) no_quote no_end) ∙ pushed characters c i 1 (i + 1) (string_from false (drop (i + 1) text)) (omega arith)
+    so_far ∙ ap (λ (l : List ℕ). after characters i (string_from false l)) (drop_more text i 0 lt)
+    ∙ ap (after characters i) (another c (drop (i + 1) text) no_quote no_end) ∙ pushed characters c i 1 (i + 1) (string_from false (drop (i + 1) text)) (omega arith)
 
 -- two quotes at a place
 pub goes_over_two : (text characters : List ℕ) (i : ℕ) → i + 1 < length text → get_or text i 0 ≡ 39 → get_or text (i + 1) 0 ≡ 39 → SoFar text characters i → SoFar text (characters ++ get_or text i 0 ∷ []) (i + 2)
@@ -55,9 +55,9 @@ goes_over_two text characters i lt first second so_far =
     let here : drop i text ≡ 39 ∷ drop (i + 1) text = drop_more text i 0 (omega arith) ∙ ap (λ (c : ℕ). c ∷ drop (i + 1) text) first in
     let two : i + 1 + 1 ≡ i + 2 = omega arith in
     let next : drop (i + 1) text ≡ 39 ∷ drop (i + 2) text = drop_more text (i + 1) 0 lt ∙ ap (λ (c : ℕ). c ∷ drop (i + 1 + 1) text) second ∙ ap (λ (n : ℕ). 39 ∷ drop n text) two in
-    so_far ∙ ap (λ (l : List ℕ). behind characters i (string_from false l)) (here ∙ ap (λ (l : List ℕ). 39 ∷ l) next)
-    ∙ ap (behind characters i) (two_quotes (drop (i + 2) text)) ∙ pushed characters 39 i 2 (i + 2) (string_from false (drop (i + 2) text)) (omega arith)
-    ∙ ap (λ (c : ℕ). behind (characters ++ c ∷ []) (i + 2) (string_from false (drop (i + 2) text))) (sym first)
+    so_far ∙ ap (λ (l : List ℕ). after characters i (string_from false l)) (here ∙ ap (λ (l : List ℕ). 39 ∷ l) next)
+    ∙ ap (after characters i) (two_quotes (drop (i + 2) text)) ∙ pushed characters 39 i 2 (i + 2) (string_from false (drop (i + 2) text)) (omega arith)
+    ∙ ap (λ (c : ℕ). after (characters ++ c ∷ []) (i + 2) (string_from false (drop (i + 2) text))) (sym first)
 
 no_second : (text : List ℕ) (i : ℕ) → (i < length text → get_or text i 0 ≢ 39) → begins_with is_quote (drop i text) ≡ false
 no_second text i other = elim (cases_lt i (length text)) [
@@ -72,9 +72,9 @@ pub closes_string : (text characters : List ℕ) (i : ℕ) → i < length text �
 closes_string text characters i lt quote other so_far =
     let here : drop i text ≡ 39 ∷ drop (i + 1) text = drop_more text i 0 lt ∙ ap (λ (c : ℕ). c ∷ drop (i + 1) text) quote in
     let place : 1 + i ≡ i + 1 = omega arith in
-    so_far ∙ ap (λ (l : List ℕ). behind characters i (string_from false l)) here ∙ ap (behind characters i) (last_quote (drop (i + 1) text) (no_second text (i + 1) other))
+    so_far ∙ ap (λ (l : List ℕ). after characters i (string_from false l)) here ∙ ap (after characters i) (last_quote (drop (i + 1) text) (no_second text (i + 1) other))
     ∙ ap (λ (l : List ℕ). Some (l, 1 + i)) (append-nil characters) ∙ ap (λ (n : ℕ). Some (characters, n)) place
 
 pub no_string : (text characters : List ℕ) (i : ℕ) → length text ≤ i → SoFar text characters i → string_from false text ≡ None
 unfolding string_from
-no_string text characters i past so_far = so_far ∙ ap (λ (l : List ℕ). behind characters i (string_from false l)) (drop_all i text past)
+no_string text characters i past so_far = so_far ∙ ap (λ (l : List ℕ). after characters i (string_from false l)) (drop_all i text past)

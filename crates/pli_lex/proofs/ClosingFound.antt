@@ -18,14 +18,14 @@ pub closes_here : (text : List ℕ) (i : ℕ) → i + 1 < length text → get_or
 unfolding closing_width
 closes_here text i lt star slash so_far = so_far ∙ rw (two_more text i lt, star, slash) (ap (λ (k : ℕ). Some k) (omega arith))
 
-pub closes_behind : (text : List ℕ) (i : ℕ) → i + 1 < length text → (eqb (get_or text i 0) 42 && eqb (get_or text (i + 1) 0) 47) ≡ false
+pub closes_after : (text : List ℕ) (i : ℕ) → i + 1 < length text → (eqb (get_or text i 0) 42 && eqb (get_or text (i + 1) 0) 47) ≡ false
     → closing_width text ≡ option_map (λ width. width + i) (closing_width (drop i text)) → closing_width text ≡ option_map (λ width. width + (i + 1)) (closing_width (drop (i + 1) text))
 unfolding closing_width
-closes_behind text i lt not_here so_far =
-    let behind : drop (i + 1) text ≡ get_or text (i + 1) 0 ∷ drop (i + 1 + 1) text = drop_more text (i + 1) 0 lt in
+closes_after text i lt not_here so_far =
+    let after : drop (i + 1) text ≡ get_or text (i + 1) 0 ∷ drop (i + 1 + 1) text = drop_more text (i + 1) 0 lt in
     so_far ∙ ap (λ (l : List ℕ). option_map (λ width. width + i) (closing_width l)) (two_more text i lt)
     ∙ rw not_here (shifted (closing_width (get_or text (i + 1) 0 ∷ drop (i + 1 + 1) text)) i)
-    ∙ ap (λ (l : List ℕ). option_map (λ width. width + (i + 1)) (closing_width l)) (sym behind)
+    ∙ ap (λ (l : List ℕ). option_map (λ width. width + (i + 1)) (closing_width l)) (sym after)
 
 short : (text : List ℕ) → length text ≤ 1 → closing_width text ≡ None
 unfolding closing_width

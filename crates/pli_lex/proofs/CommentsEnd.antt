@@ -17,7 +17,7 @@ nothing_ends : NeverEnds []
 nothing_ends [] after e = absurd cc
 nothing_ends (x ∷ before) after e = absurd cc
 
--- `*/` does not stand at the front, and not behind it
+-- `*/` does not stand at the front, and not after it
 never_from : (c : ℕ) (body rest : List ℕ) → (eqb c 42 && begins_with is_slash (body ++ 42 ∷ rest)) ≡ false → NeverEnds body → NeverEnds (c ∷ body)
 never_from c body rest fails never [] after e =
     let star : c ≡ 42 = same_head c 42 body (47 ∷ after) e in
@@ -33,8 +33,8 @@ closes (c ∷ cs) width h = elim (chosen (eqb c 42 && begins_with is_slash cs) _
       let parts = and_parts (eqb c 42) (begins_with is_slash cs) is.0 in
       let slash = begins_split is_slash cs parts.1 in
       let star : c ≡ 42 = eqb-true c 42 parts.0 in
-      let behind : slash.0 ≡ 47 = eqb-true slash.0 47 slash.3 in
-      let whole : c ∷ cs ≡ 42 ∷ 47 ∷ slash.1 = cc (star, slash.2, behind) in
+      let beyond : slash.0 ≡ 47 = eqb-true slash.0 47 slash.3 in
+      let whole : c ∷ cs ≡ 42 ∷ 47 ∷ slash.1 = cc (star, slash.2, beyond) in
       ([], slash.1, whole, nothing_ends, sym (some_is 2 width is.1))
   | inr is ↦
       let m = mapped (λ (n : ℕ). n + 1) (closing_width cs) width is.1 in
@@ -61,9 +61,9 @@ pub closes_again : (body rest : List ℕ) → NeverEnds body → closing_width (
 unfolding closing_width
 closes_again [] rest never = refl
 closes_again (c ∷ body) rest never =
-    let behind : NeverEnds body = λ before after e. never (c ∷ before) after (ap (λ (l : List ℕ). c ∷ l) e) in
+    let beyond : NeverEnds body = λ before after e. never (c ∷ before) after (ap (λ (l : List ℕ). c ∷ l) e) in
     let more : length body + 2 + 1 ≡ length (c ∷ body) + 2 = omega arith in
-    rw (not_yet c body (47 ∷ rest) never, closes_again body rest behind) (ap (λ (n : ℕ). Some n) more)
+    rw (not_yet c body (47 ∷ rest) never, closes_again body rest beyond) (ap (λ (n : ℕ). Some n) more)
 
 -- what closes on a line closes in the text
 pub closes_on_line : (text more : List ℕ) (width : ℕ) → closing_width text ≡ Some width → closing_width (text ++ line_end ∷ more) ≡ Some width
@@ -80,8 +80,8 @@ closes_later (c ∷ cs) more h = elim (chosen (eqb c 42 && begins_with is_slash 
   | inl is ↦ absurd (let e : Some 2 ≡ None = is.1 in cc)
   | inr is ↦
       let here : (eqb c 42 && begins_with is_slash (cs ++ line_end ∷ more)) ≡ false = ap (λ (b : Bool). eqb c 42 && b) (begins_on_line is_slash cs more refl) ∙ is.0 in
-      let behind = closes_later cs more (not_mapped (λ (n : ℕ). n + 1) (closing_width cs) is.1) in
-      rw (here, behind) (wider (closing_width more) (length cs + 1) (length (c ∷ cs) + 1) (omega arith))
+      let beyond = closes_later cs more (not_mapped (λ (n : ℕ). n + 1) (closing_width cs) is.1) in
+      rw (here, beyond) (wider (closing_width more) (length cs + 1) (length (c ∷ cs) + 1) (omega arith))
 ] where
   wider : (o : Option ℕ) (n m : ℕ) → n + 1 ≡ m → option_map (λ width. width + 1) (option_map (λ width. width + n) o) ≡ option_map (λ width. width + m) o
   wider None n m e = refl

@@ -78,21 +78,21 @@ neither : (rest : List ℕ) → begins_with is_quote rest ≡ false → begins_w
 neither [] quote b = refl
 neither (c ∷ cs) quote b = rw (quote, b) refl
 
--- a `B` with the digit behind it
+-- a `B` with the digit after it
 suffix_long : (b : ℕ) (rest : List ℕ) → length (take (suffix_width (b ∷ rest)) (b ∷ rest)) ≡ suffix_width (b ∷ rest)
 suffix_long b [] = refl
 suffix_long b (d ∷ rest) = elim (cases_Bool (is_width_digit d)) [ inl is ↦ rw is refl | inr is ↦ rw is refl ]
 
-bits_stand : (o : Option ℕ) (digits behind rest : List ℕ) (taken : ℕ) (found : Found) → width_of behind ≡ o → taken ≡ length (quoted digits ++ behind) → bits o digits rest taken ≡ Ok found → StandsAt (quoted digits ++ (behind ++ rest)) found
-bits_stand None digits behind rest taken found width long e = absurd (let e : Err BadBits ≡ Ok found = e in cc)
-bits_stand (Some n) digits behind rest taken found width long e =
+bits_stand : (o : Option ℕ) (digits after rest : List ℕ) (taken : ℕ) (found : Found) → width_of after ≡ o → taken ≡ length (quoted digits ++ after) → bits o digits rest taken ≡ Ok found → StandsAt (quoted digits ++ (after ++ rest)) found
+bits_stand None digits after rest taken found width long e = absurd (let e : Err BadBits ≡ Ok found = e in cc)
+bits_stand (Some n) digits after rest taken found width long e =
     let test = are_digits n digits && not (begins_with is_name_character rest) in
     let there : Found = (texts.Bits (bits_in n digits), taken) in
     elim (chosen test (Ok there) (Err BadBits) (Ok found) e) [
       | inl is ↦
           let parts = and_parts (are_digits n digits) (not (begins_with is_name_character rest)) is.0 in
-          subst (StandsAt (quoted digits ++ (behind ++ rest))) (ok_is there found is.1)
-          (quoted digits ++ behind, rest, sym (append_assoc (quoted digits) behind rest), long, (digits, behind, n, refl, width, parts.0, refl), not-true _ parts.1)
+          subst (StandsAt (quoted digits ++ (after ++ rest))) (ok_is there found is.1)
+          (quoted digits ++ after, rest, sym (append_assoc (quoted digits) after rest), long, (digits, after, n, refl, width, parts.0, refl), not-true _ parts.1)
       | inr is ↦ absurd (let e : Err BadBits ≡ Ok found = is.1 in cc)
     ]
 
@@ -125,8 +125,8 @@ found_stands cs (Some there) found is e =
     let rest = closes.0 in
     let long : there.1 + 1 ≡ length (quoted characters) = omega (arith, closes.4, quoted_long characters) in
     let whole : 39 ∷ cs ≡ quoted characters ++ rest = ap (λ (l : List ℕ). 39 ∷ l) closes.1 ∙ sym (quoted_before characters rest) in
-    let behind : drop (there.1 + 1) (39 ∷ cs) ≡ rest = ap (drop (there.1 + 1)) whole ∙ drop_at (quoted characters) rest (there.1 + 1) (sym long) in
-    let string_is : string characters (length (quoted characters)) rest ≡ Ok found = ap (λ (n : ℕ). string characters n rest) (sym long) ∙ ap (string characters (there.1 + 1)) (sym behind) ∙ e in
+    let after : drop (there.1 + 1) (39 ∷ cs) ≡ rest = ap (drop (there.1 + 1)) whole ∙ drop_at (quoted characters) rest (there.1 + 1) (sym long) in
+    let string_is : string characters (length (quoted characters)) rest ≡ Ok found = ap (λ (n : ℕ). string characters n rest) (sym long) ∙ ap (string characters (there.1 + 1)) (sym after) ∙ e in
     subst (λ (l : List ℕ). StandsAt l found) (sym whole) (string_stands_before characters rest found closes.2 closes.3 string_is)
 
 -- ---- signs

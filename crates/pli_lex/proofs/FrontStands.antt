@@ -146,8 +146,8 @@ quote_code : (cs : List ℕ) (o : Option (List ℕ × ℕ)) (e : Code) → strin
 quote_code cs None e is h = subst (IsCodeOf (39 ∷ cs)) (error_is UnendedString e h) (refl, open_string) where
   open_string : IsQuoted (39 ∷ cs) → ⊥
   open_string q =
-      let behind : cs ≡ doubled q.0 ++ 39 ∷ q.1 = same_tail 39 39 cs (doubled q.0 ++ 39 ∷ q.1) (q.2 ∙ quoted_before q.0 q.1) in
-      none_some (q.0, length (doubled q.0) + 1) (sym is ∙ ap (string_from false) behind ∙ string_again q.0 q.1 q.3 q.4)
+      let after : cs ≡ doubled q.0 ++ 39 ∷ q.1 = same_tail 39 39 cs (doubled q.0 ++ 39 ∷ q.1) (q.2 ∙ quoted_before q.0 q.1) in
+      none_some (q.0, length (doubled q.0) + 1) (sym is ∙ ap (string_from false) after ∙ string_again q.0 q.1 q.3 q.4)
 quote_code cs (Some found) e is h =
     let closes = string_closes false cs found is (λ e. absurd cc) in
     let whole : 39 ∷ cs ≡ quoted found.0 ++ closes.0 = ap (λ (l : List ℕ). 39 ∷ l) closes.1 ∙ sym (quoted_before found.0 closes.0) in

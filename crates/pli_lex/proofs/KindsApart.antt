@@ -62,7 +62,7 @@ single_passes p (entry ∷ entries) c s all found =
     let parts = and_parts (p entry.0) (list_all (λ entry. p entry.0) entries) all in
     elim (chosen (eqb c entry.0) (Some entry.1) (single_in entries c) (Some s) found) [
       | inl here ↦ ap p (eqb-true c entry.0 here.0) ∙ parts.0
-      | inr behind ↦ single_passes p entries c s parts.1 behind.1
+      | inr after ↦ single_passes p entries c s parts.1 after.1
     ]
 
 double_passes : (p : ℕ → Bool) (entries : List (ℕ × ℕ × Sign)) (c d : ℕ) (s : Sign) → list_all (λ entry. p entry.0) entries ≡ true → double_in entries c d ≡ Some s → p c ≡ true
@@ -71,7 +71,7 @@ double_passes p (entry ∷ entries) c d s all found =
     let parts = and_parts (p entry.0) (list_all (λ entry. p entry.0) entries) all in
     elim (chosen (eqb d entry.1 && eqb c entry.0) (Some entry.2) (double_in entries c d) (Some s) found) [
       | inl here ↦ ap p (eqb-true c entry.0 (and_parts (eqb d entry.1) (eqb c entry.0) here.0).1) ∙ parts.0
-      | inr behind ↦ double_passes p entries c d s parts.1 behind.1
+      | inr after ↦ double_passes p entries c d s parts.1 after.1
     ]
 
 -- a character that begins neither a separator nor another token than a sign

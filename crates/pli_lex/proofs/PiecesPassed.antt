@@ -30,7 +30,7 @@ bytes_on_line [] bytes = refl
 bytes_on_line (c ∷ cs) bytes =
     let first : c < 256 = bytes 0 (omega arith) in
     let here : line_ends (c ∷ []) ≡ 0 = no_end c first in
-    let behind = bytes_on_line cs (λ i lt. bytes (suc i) (omega arith)) in
+    let beyond = bytes_on_line cs (λ i lt. bytes (suc i) (omega arith)) in
     omega (arith, line_ends-append (c ∷ []) cs)
 
 front_on_line : (n : ℕ) (text : List ℕ) → line_ends text ≡ 0 → line_ends (take n text) ≡ 0
@@ -38,7 +38,7 @@ front_on_line n text none =
     let both : line_ends text ≡ line_ends (take n text) + line_ends (drop n text) = ap line_ends (sym (take-append-drop n text)) ∙ line_ends-append (take n text) (drop n text) in
     omega arith
 
--- a text of a line that is cut, with what comes behind the line
+-- a text of a line that is cut, with what comes after the line
 cut : (n : ℕ) (text tail : List ℕ) → text ++ tail ≡ take n text ++ (drop n text ++ tail)
 cut n text tail = ap (λ (l : List ℕ). l ++ tail) (sym (take-append-drop n text)) ∙ append_assoc (take n text) (drop n text) tail
 
@@ -146,14 +146,14 @@ front_fails : (front : List Token) (read : Result (List Token) LexFault) (fault 
 front_fails front (Ok others) fault e = absurd cc
 front_fails front (Err other) fault e = cc
 
--- what fails behind some tokens fails where they were read
+-- what fails after some tokens fails where they were read
 pub fails_so_far : (e : Failure LexFault) (now before : List Token) (read total : Result (List Token) LexFault) → with_front now read ≡ with_front before total → Fails e read → Fails e total
 fails_so_far errors.OutOfMemory now before read total so_far fails = tt
 fails_so_far (errors.Fault fault) now before read total so_far fails = front_fails before total fault (sym so_far ∙ ap (with_front now) fails)
 
 -- ---- for the step of the loop over a line
 
--- what a line has at its front is passed, so that these tokens were read behind those
+-- what a line has at its front is passed, so that these tokens were read after those
 abbrev Steps : List Token → List Token → Option ℕ → Option ℕ → ℕ → ℕ → List ℕ → Type 0
 Steps before after began left number width text =
     (more : List ℕ) → with_front before (reads began number (text ++ line_end ∷ more)) ≡ with_front after (reads left number (drop width text ++ line_end ∷ more))

@@ -109,10 +109,10 @@ string_split characters rest line stops =
     let cs = doubled characters ++ 39 ∷ rest in
     let width = length (doubled characters) + 1 in
     let long : width + 1 ≡ length (quoted characters) = sym (quoted_long characters) in
-    let behind : drop (width + 1) (39 ∷ cs) ≡ rest = ap (drop (width + 1)) (sym (quoted_before characters rest)) ∙ drop_at (quoted characters) rest (width + 1) (sym long) in
+    let after : drop (width + 1) (39 ∷ cs) ≡ rest = ap (drop (width + 1)) (sym (quoted_before characters rest)) ∙ drop_at (quoted characters) rest (width + 1) (sym long) in
     ap token_at (quoted_before characters rest) ∙ string_first cs
     ∙ ap (string_found (39 ∷ cs)) (string_again characters rest line stops)
-    ∙ ap (string characters (width + 1)) behind ∙ ap (λ (n : ℕ). string characters n rest) long
+    ∙ ap (string characters (width + 1)) after ∙ ap (λ (n : ℕ). string characters n rest) long
 
 either : (c : ℕ) → is_b c ≡ true → (is_quote c || is_b c) ≡ true
 either c h = elim (cases_Bool (is_quote c)) [ inl q ↦ rw q refl | inr q ↦ rw (q, h) refl ]
@@ -136,7 +136,7 @@ digit_on_line width c narrow digit = elim (cases_Bool (is_line_end c)) [
 digits_on_line : (width : ℕ) (digits : List ℕ) → width ≤ 4 → are_digits width digits ≡ true → on_one_line digits ≡ true
 digits_on_line width digits narrow all = all_within (λ digit. ltb (digit_value digit) (2 ^ width)) (λ c. not (is_line_end c)) digits (λ c h. digit_on_line width c narrow h) all
 
-width_narrow : (behind : List ℕ) (width : ℕ) → width_of behind ≡ Some width → width ≤ 4
+width_narrow : (after : List ℕ) (width : ℕ) → width_of after ≡ Some width → width ≤ 4
 width_narrow [] width h = absurd (none_some width h)
 width_narrow (b ∷ []) width h = elim (chosen (is_b b) _ _ (Some width) h) [
   | inl is ↦ let one : 1 ≡ width = some_is 1 width is.1 in omega arith
@@ -156,8 +156,8 @@ width_digit_in_name : (c : ℕ) → is_width_digit c ≡ true → is_name_charac
 width_digit_in_name c h = grind (arith, nat_tests)
 
 -- digits that are bits, before what says how many bits each has
-suffix_found : (digits behind rest : List ℕ) (width taken : ℕ) → width_of behind ≡ Some width → begins_with is_name_character rest ≡ false
-    → (begins_with is_b (behind ++ rest) ≡ true) × (string digits taken (behind ++ rest) ≡ bits (Some width) digits rest (taken + length behind))
+suffix_found : (digits after rest : List ℕ) (width taken : ℕ) → width_of after ≡ Some width → begins_with is_name_character rest ≡ false
+    → (begins_with is_b (after ++ rest) ≡ true) × (string digits taken (after ++ rest) ≡ bits (Some width) digits rest (taken + length after))
 suffix_found digits [] rest width taken is ends = absurd (none_some width is)
 suffix_found digits (b ∷ []) rest width taken is ends = elim (chosen (is_b b) _ _ (Some width) is) [
   | inl h ↦
@@ -173,14 +173,14 @@ suffix_found digits (b ∷ d ∷ []) rest width taken is ends = elim (chosen (is
 ]
 suffix_found digits (b ∷ d ∷ e ∷ cs) rest width taken is ends = absurd (none_some width is)
 
-bits_found : (digits behind rest : List ℕ) (width : ℕ) → width_of behind ≡ Some width → are_digits width digits ≡ true → begins_with is_name_character rest ≡ false
-    → token_at ((quoted digits ++ behind) ++ rest) ≡ Ok (texts.Bits (bits_in width digits), length (quoted digits ++ behind))
-bits_found digits behind rest width is all ends =
-    let line = digits_on_line width digits (width_narrow behind width is) all in
-    let suffix = suffix_found digits behind rest width (length (quoted digits)) is ends in
-    let no_quote = begun_otherwise is_b is_quote (behind ++ rest) b_no_quote suffix.0 in
-    ap token_at (append_assoc (quoted digits) behind rest) ∙ string_split digits (behind ++ rest) line no_quote ∙ suffix.1
-    ∙ rw (all, ends) (ap (λ (n : ℕ). Ok (texts.Bits (bits_in width digits), n)) (sym (length-append (quoted digits) behind)))
+bits_found : (digits after rest : List ℕ) (width : ℕ) → width_of after ≡ Some width → are_digits width digits ≡ true → begins_with is_name_character rest ≡ false
+    → token_at ((quoted digits ++ after) ++ rest) ≡ Ok (texts.Bits (bits_in width digits), length (quoted digits ++ after))
+bits_found digits after rest width is all ends =
+    let line = digits_on_line width digits (width_narrow after width is) all in
+    let suffix = suffix_found digits after rest width (length (quoted digits)) is ends in
+    let no_quote = begun_otherwise is_b is_quote (after ++ rest) b_no_quote suffix.0 in
+    ap token_at (append_assoc (quoted digits) after rest) ∙ string_split digits (after ++ rest) line no_quote ∙ suffix.1
+    ∙ rw (all, ends) (ap (λ (n : ℕ). Ok (texts.Bits (bits_in width digits), n)) (sym (length-append (quoted digits) after)))
 
 -- ---- signs
 
@@ -228,13 +228,13 @@ token_begins run (texts.Sign s) is = sign_solid run (sign_begins run s is)
 -- ---- the longest token
 
 -- what ends before a text ends before the front of it
-ends_before : (run : List ℕ) (t : TokenText) (c : ℕ) (more behind : List ℕ) → EndsAt run t (c ∷ (more ++ behind)) → EndsAt run t (c ∷ more)
-ends_before run (texts.Word name) c more behind ends = ends
-ends_before run (texts.Decimal value digits) c more behind ends = ends
-ends_before run (texts.Binary value digits) c more behind ends = ends
-ends_before run (texts.Characters characters) c more behind ends = ends
-ends_before run (texts.Bits bits) c more behind ends = ends
-ends_before run (texts.Sign s) c more behind ends = ends
+ends_before : (run : List ℕ) (t : TokenText) (c : ℕ) (more after : List ℕ) → EndsAt run t (c ∷ (more ++ after)) → EndsAt run t (c ∷ more)
+ends_before run (texts.Word name) c more after ends = ends
+ends_before run (texts.Decimal value digits) c more after ends = ends
+ends_before run (texts.Binary value digits) c more after ends = ends
+ends_before run (texts.Characters characters) c more after ends = ends
+ends_before run (texts.Bits bits) c more after ends = ends
+ends_before run (texts.Sign s) c more after ends = ends
 
 ends_at_end : (run : List ℕ) (t : TokenText) → EndsAt run t []
 ends_at_end run (texts.Word name) = refl
@@ -248,10 +248,10 @@ same_width : (first second : Found) → done {E = Code} first ≡ done second �
 same_width first second e = ap (λ (found : Found). found.1) (ok_is first second e)
 
 -- where a token ends, no longer run is a token
-pub longest : (run rest : List ℕ) (t : TokenText) → IsToken run t → EndsAt run t rest → (more behind : List ℕ) (other : TokenText) → rest ≡ more ++ behind → more ≢ [] → IsToken (run ++ more) other → ⊥
-longest run rest t is ends [] behind other whole some longer = some refl
-longest run rest t is ends (c ∷ more) behind other whole some longer =
-    let stops : EndsAt run t (c ∷ more) = ends_before run t c more behind (subst (EndsAt run t) whole ends) in
+pub longest : (run rest : List ℕ) (t : TokenText) → IsToken run t → EndsAt run t rest → (more after : List ℕ) (other : TokenText) → rest ≡ more ++ after → more ≢ [] → IsToken (run ++ more) other → ⊥
+longest run rest t is ends [] after other whole some longer = some refl
+longest run rest t is ends (c ∷ more) after other whole some longer =
+    let stops : EndsAt run t (c ∷ more) = ends_before run t c more after (subst (EndsAt run t) whole ends) in
     let short = token_found run (c ∷ more) t is stops in
     let long = token_found (run ++ c ∷ more) [] other longer (ends_at_end (run ++ c ∷ more) other) in
     let same = same_width (t, length run) (other, length (run ++ c ∷ more)) (sym short ∙ ap token_at (sym (append-nil (run ++ c ∷ more))) ∙ long) in

@@ -17,7 +17,7 @@ Closes second text string =
     (rest : List ℕ) × (text ≡ second_quote second ++ (doubled string.0 ++ 39 ∷ rest)) × (on_one_line string.0 ≡ true) × (begins_with is_quote rest ≡ false)
     × (string.1 ≡ length (second_quote second) + (length (doubled string.0) + 1))
 
--- behind the first quote of two, or behind another character
+-- after the first quote of two, or after another character
 string_goes_on : (c : ℕ) (cs : List ℕ) (string : List ℕ × ℕ) → is_line_end c ≡ false → (is_quote c && not (begins_with is_quote cs)) ≡ false
     → Closes (is_quote c && begins_with is_quote cs) cs string → Closes false (c ∷ cs) (c ∷ string.0, string.1 + 1)
 string_goes_on c cs string no_end goes_on closes = elim (cases_Bool (is_quote c)) [
@@ -69,15 +69,15 @@ string_again [] rest line stops = rw stops refl
 string_again (c ∷ cs) rest line stops =
     let parts = and_parts (not (is_line_end c)) (on_one_line cs) line in
     let no_end : is_line_end c ≡ false = not-true _ parts.0 in
-    let behind = string_again cs rest parts.1 stops in
+    let after = string_again cs rest parts.1 stops in
     elim (cases_Bool (is_quote c)) [
       | inl quote ↦
           let c_is : c ≡ 39 = eqb-true c 39 quote in
           let long : length (doubled cs) + 1 + 1 + 1 ≡ length (39 ∷ 39 ∷ doubled cs) + 1 = omega arith in
-          rw (c_is, behind) (ap (λ (n : ℕ). Some (39 ∷ cs, n)) long)
+          rw (c_is, after) (ap (λ (n : ℕ). Some (39 ∷ cs, n)) long)
       | inr other ↦
           let long : length (doubled cs) + 1 + 1 ≡ length (c ∷ doubled cs) + 1 = omega arith in
-          rw (other, no_end, other, behind) (ap (λ (n : ℕ). Some (c ∷ cs, n)) long)
+          rw (other, no_end, other, after) (ap (λ (n : ℕ). Some (c ∷ cs, n)) long)
     ]
 
 -- a string ends on its line

@@ -61,7 +61,7 @@ pub begins_split : (p : ℕ → Bool) (text : List ℕ) → begins_with p text �
 begins_split p [] h = absurd cc
 begins_split p (c ∷ cs) h = (c, cs, refl, h)
 
--- behind a line comes its end, which is of no such kind
+-- after a line comes its end, which is of no such kind
 pub begins_on_line : (p : ℕ → Bool) (text more : List ℕ) → p line_end ≡ false → begins_with p (text ++ line_end ∷ more) ≡ begins_with p text
 begins_on_line p [] more h = h
 begins_on_line p (c ∷ cs) more h = refl

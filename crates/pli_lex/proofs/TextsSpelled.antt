@@ -30,8 +30,8 @@ Tells number text (Err fault) = (tokens : List Token) × (rest : List ℕ) × Sp
 separated : (number : ℕ) (run after : List ℕ) (tokens : List Token) (last : ℕ) (rest : List ℕ) → IsSeparator run → SpellsUpTo (number + line_ends run) after tokens last rest → SpellsUpTo number (run ++ after) tokens last rest
 separated number run after [] last rest is (gap, whole, (runs, joined, all), ends) =
     (run ++ gap, ap (λ (l : List ℕ). run ++ l) whole ∙ sym (append_assoc run gap rest), (run ∷ runs, ap (λ (l : List ℕ). run ++ l) joined, (is, all)), omega (arith, ends, line_ends-append run gap))
-separated number run after (t ∷ ts) last rest is (gap, token, behind, whole, (runs, joined, all), ends, says, stops, more) =
-    (run ++ gap, token, behind, ap (λ (l : List ℕ). run ++ l) whole ∙ sym (append_assoc run gap (token ++ behind)), (run ∷ runs, ap (λ (l : List ℕ). run ++ l) joined, (is, all)), omega (arith, ends, line_ends-append run gap), says, stops, more)
+separated number run after (t ∷ ts) last rest is (gap, token, beyond, whole, (runs, joined, all), ends, says, stops, more) =
+    (run ++ gap, token, beyond, ap (λ (l : List ℕ). run ++ l) whole ∙ sym (append_assoc run gap (token ++ beyond)), (run ∷ runs, ap (λ (l : List ℕ). run ++ l) joined, (is, all)), omega (arith, ends, line_ends-append run gap), says, stops, more)
 
 -- a piece before a text
 in_front : (number : ℕ) (text : List ℕ) (token : Option TokenText) (width : ℕ) (tokens : List Token) (last : ℕ) (rest : List ℕ) → PieceStands text (token, width)
@@ -39,13 +39,13 @@ in_front : (number : ℕ) (text : List ℕ) (token : Option TokenText) (width : 
 in_front number text None width tokens last rest (run, after, whole, long, is) spelled =
     let front : take width text ≡ run = ap (take width) whole ∙ take_at run after width (sym long) in
     let back : drop width text ≡ after = ap (drop width) whole ∙ drop_at run after width (sym long) in
-    let behind : SpellsUpTo (number + line_ends run) after tokens last rest = rw (front, back) at spelled in
-    subst (λ (l : List ℕ). SpellsUpTo number l tokens last rest) (sym whole) (separated number run after tokens last rest is behind)
+    let beyond : SpellsUpTo (number + line_ends run) after tokens last rest = rw (front, back) at spelled in
+    subst (λ (l : List ℕ). SpellsUpTo number l tokens last rest) (sym whole) (separated number run after tokens last rest is beyond)
 in_front number text (Some t) width tokens last rest (run, after, whole, long, is, ends) spelled =
     let front : take width text ≡ run = ap (take width) whole ∙ take_at run after width (sym long) in
     let back : drop width text ≡ after = ap (drop width) whole ∙ drop_at run after width (sym long) in
-    let behind : SpellsUpTo (number + line_ends run) after tokens last rest = rw (front, back) at spelled in
-    ([], run, after, whole, ([], refl, tt), omega arith, is, ends, behind)
+    let beyond : SpellsUpTo (number + line_ends run) after tokens last rest = rw (front, back) at spelled in
+    ([], run, after, whole, ([], refl, tt), omega arith, is, ends, beyond)
 
 front_tells : (number : ℕ) (text : List ℕ) (token : Option TokenText) (width : ℕ) (read : Result (List Token) LexFault) → PieceStands text (token, width)
     → Tells (number + line_ends (take width text)) (drop width text) read → Tells number text (with_front (tokens_in number token) read)
@@ -57,21 +57,21 @@ piece_some : (text : List ℕ) (token : Option TokenText) (width : ℕ) → Piec
 piece_some text None width (run, after, whole, long, is) = let some = separator_some run is in omega arith
 piece_some text (Some t) width (run, after, whole, long, is, ends) = let some = token_some run t is in omega arith
 
--- what is read behind a piece
-abbrev read_behind : ℕ → ℕ → List ℕ → ℕ → Result (List Token) LexFault
-read_behind number c cs width = tokens_after (width - 1) (number + line_ends (c ∷ [])) cs
+-- what is read after a piece
+abbrev read_after : ℕ → ℕ → List ℕ → ℕ → Result (List Token) LexFault
+read_after number c cs width = tokens_after (width - 1) (number + line_ends (c ∷ [])) cs
 
 first_tells : (number c : ℕ) (cs : List ℕ) (read : Result Piece Code) → piece_at (c ∷ cs) ≡ read
     → ((n : ℕ) → Tells (number + line_ends (c ∷ []) + line_ends (take n cs)) (drop n cs) (tokens_after n (number + line_ends (c ∷ [])) cs))
-    → Tells number (c ∷ cs) (at_line number read >>= λ piece. with_front (tokens_in number piece.0) (read_behind number c cs piece.1))
-first_tells number c cs (Err code) found behind = ([], c ∷ cs, ([], refl, ([], refl, tt), omega arith), nothing_stands (c ∷ cs) code found, piece_code c cs code found)
-first_tells number c cs (Ok (token, zero)) found behind = absurd (let some = piece_some (c ∷ cs) token zero (piece_stands (c ∷ cs) (token, zero) found) in omega arith)
-first_tells number c cs (Ok (token, suc n)) found behind =
+    → Tells number (c ∷ cs) (at_line number read >>= λ piece. with_front (tokens_in number piece.0) (read_after number c cs piece.1))
+first_tells number c cs (Err code) found beyond = ([], c ∷ cs, ([], refl, ([], refl, tt), omega arith), nothing_stands (c ∷ cs) code found, piece_code c cs code found)
+first_tells number c cs (Ok (token, zero)) found beyond = absurd (let some = piece_some (c ∷ cs) token zero (piece_stands (c ∷ cs) (token, zero) found) in omega arith)
+first_tells number c cs (Ok (token, suc n)) found beyond =
     let stands = piece_stands (c ∷ cs) (token, suc n) found in
     let less : n ≡ suc n - 1 = omega arith in
     let lines : number + line_ends (c ∷ []) + line_ends (take n cs) ≡ number + line_ends (take (suc n) (c ∷ cs)) = omega (arith, line_ends-append (c ∷ []) (take n cs)) in
-    let tells = subst (λ (m : ℕ). Tells m (drop n cs) (tokens_after n (number + line_ends (c ∷ [])) cs)) lines (behind n) in
-    front_tells number (c ∷ cs) token (suc n) (read_behind number c cs (suc n)) stands
+    let tells = subst (λ (m : ℕ). Tells m (drop n cs) (tokens_after n (number + line_ends (c ∷ [])) cs)) lines (beyond n) in
+    front_tells number (c ∷ cs) token (suc n) (read_after number c cs (suc n)) stands
     (subst (λ (m : ℕ). Tells (number + line_ends (take (suc n) (c ∷ cs))) (drop n cs) (tokens_after m (number + line_ends (c ∷ [])) cs)) less tells)
 
 nothing_told : (number : ℕ) → Tells number [] (Ok [])

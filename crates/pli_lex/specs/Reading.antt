@@ -35,7 +35,7 @@ abbrev pub word : Option Name → ℕ → Result Found Code
 word None width = Err NameTooLong
 word (Some name) width = Ok (texts.Word name, width)
 
--- behind a letter, the longest run of name characters
+-- after a letter, the longest run of name characters
 abbrev pub word_at : List ℕ → Result Found Code
 word_at text = let width = prefix_len is_name_character text in word (name_of (take width text)) width
 
@@ -53,18 +53,18 @@ binary run rest =
     then Ok (texts.Binary (value_in 2 run) (length run), length run + 1)
     else Err BadNumber
 
--- digits and what stands behind them: a `B` directly there makes them binary
+-- digits and what stands after them: a `B` directly there makes them binary
 abbrev pub number_of : List ℕ → List ℕ → Result Found Code
 number_of run rest = if begins_with is_b rest then binary run (drop 1 rest) else decimal run rest
 
--- behind a digit, the longest run of digits
+-- after a digit, the longest run of digits
 abbrev pub number_at : List ℕ → Result Found Code
 number_at text =
     let width = prefix_len is_digit text in
     number_of (take width text) (drop width text)
 
 -- One character more of a string, where `found` is what its rest gives: its characters, and how many the text
--- has up to the end of the closing quote. A quote with another directly behind it (`more`) is one character,
+-- has up to the end of the closing quote. A quote with another directly after it (`more`) is one character,
 -- and the other (`second`) is passed over.
 abbrev pub string_on : (second : Bool) → ℕ → (more : Bool) → Option (List ℕ × ℕ) → Option (List ℕ × ℕ)
 string_on second c more found =
@@ -73,14 +73,14 @@ string_on second c more found =
     else (if is_quote c && not more then Some ([], 1)
     else option_map (λ string. (c ∷ string.0, string.1 + 1)) found))
 
--- the string behind its opening quote; None where no quote closes it on the line
+-- the string after its opening quote; None where no quote closes it on the line
 unfoldable pub string_from : (second : Bool) → List ℕ → Option (List ℕ × ℕ)
 string_from second [] = None
 string_from second (c ∷ cs) =
     let more = begins_with is_quote cs in
     string_on second c more (string_from (not second && (is_quote c && more)) cs)
 
--- how many characters a `B` has with the digit behind it
+-- how many characters a `B` has with the digit after it
 abbrev pub suffix_width : List ℕ → ℕ
 suffix_width text = if begins_with is_width_digit (drop 1 text) then 2 else 1
 
@@ -92,7 +92,7 @@ bits (Some width) digits rest taken =
     then Ok (texts.Bits (bits_in width digits), taken)
     else Err BadBits
 
--- a string that takes so many characters, before this rest: with a `B` directly behind it, it is a bit
+-- a string that takes so many characters, before this rest: with a `B` directly after it, it is a bit
 -- constant
 abbrev pub string : List ℕ → ℕ → List ℕ → Result Found Code
 string characters taken rest =
@@ -106,7 +106,7 @@ abbrev pub string_found : List ℕ → Option (List ℕ × ℕ) → Result Found
 string_found text None = Err UnendedString
 string_found text (Some found) = string found.0 (found.1 + 1) (drop (found.1 + 1) text)
 
--- behind a quote, the string that it opens
+-- after a quote, the string that it opens
 abbrev pub string_at : List ℕ → Result Found Code
 string_at text = string_found text (string_from false (drop 1 text))
 
@@ -139,7 +139,7 @@ closing_width (c ∷ cs) =
     if nat_eq c 42 && begins_with (λ d. nat_eq d 47) cs then Some 2
     else option_map (λ width. width + 1) (closing_width cs)
 
--- a comment ends at the first `*/` behind its `/*`
+-- a comment ends at the first `*/` after its `/*`
 abbrev pub comment : Option ℕ → Result Piece Code
 comment None = Err UnendedComment
 comment (Some width) = Ok (None, width + 2)

@@ -31,7 +31,7 @@ abbrev pub AreSeparators : List (List ℕ) → Type 0
 AreSeparators [] = Unit {0}
 AreSeparators (run ∷ runs) = IsSeparator run × AreSeparators runs
 
--- separators one behind another, or none
+-- separators one after another, or none
 abbrev pub IsGap : List ℕ → Type 0
 IsGap gap = (runs : List (List ℕ)) × (gap ≡ concat runs) × AreSeparators runs
 
@@ -58,12 +58,12 @@ IsToken run (texts.Binary value digits) =
     × IsTrue (is_binary_constant front) × (value ≡ value_in 2 front) × (digits ≡ length front)
 IsToken run (texts.Characters characters) = (run ≡ quoted characters) × IsTrue (on_one_line characters)
 IsToken run (texts.Bits bits) =
-    (digits behind : List ℕ) × (width : ℕ) × (run ≡ quoted digits ++ behind) × (width_of behind ≡ Some width)
+    (digits after : List ℕ) × (width : ℕ) × (run ≡ quoted digits ++ after) × (width_of after ≡ Some width)
     × IsTrue (are_digits width digits) × (bits ≡ bits_in width digits)
 IsToken run (texts.Sign sign) = sign_of run ≡ Some sign
 
 -- the text after a token does not go on with it, so that the token is the longest that can stand there (a law
--- says so), and what must not stand directly behind a constant does not
+-- says so), and what must not stand directly after a constant does not
 abbrev pub EndsAt : List ℕ → TokenText → List ℕ → Type 0
 EndsAt run (texts.Word name) rest = IsFalse (begins_with is_name_character rest)
 EndsAt run (texts.Decimal value digits) rest = IsFalse (begins_with continues_number rest)

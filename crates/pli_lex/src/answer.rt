@@ -10,5 +10,5 @@ pub struct LexFault {
     pub line: u32,
 }
 
-/// Why lines have no tokens: the first place where no token can stand, or want of memory.
+/// Why lines have no tokens: the first place where no token can stand, or that memory was refused.
 pub type LexError = Failure<LexFault>;

@@ -64,7 +64,7 @@ pub fn lines_faults_are_met()
 /// A law: where a token ends, it is the longest that can stand there.
 pub fn tokens_are_longest()
     ensures { (run rest : List ℕ) (token : TokenText) → IsToken run token → EndsAt run token rest →
-        (more behind : List ℕ) (other : TokenText) → rest ≡ more ++ behind → more ≢ [] → IsToken (run ++ more) other →
+        (more after : List ℕ) (other : TokenText) → rest ≡ more ++ after → more ≢ [] → IsToken (run ++ more) other →
         ⊥ }
 {}
 

@@ -45,7 +45,7 @@ fn binary_value(digits: &[u8]) -> u64
     value
 }
 
-/// The decimal constant of these digits, where `rest` comes directly behind them.
+/// The decimal constant of these digits, where `rest` comes directly after them.
 fn decimal(digits: &[u8], rest: &[u8]) -> Result<(TokenText, usize), Code>
     requires some { 1 ≤ length digits.now }
     requires form { IsTrue (list_all is_digit digits.now) }
@@ -66,7 +66,7 @@ fn decimal(digits: &[u8], rest: &[u8]) -> Result<(TokenText, usize), Code>
     Ok((text, width))
 }
 
-/// The binary constant of these digits and a `B`, where `rest` comes directly behind them.
+/// The binary constant of these digits and a `B`, where `rest` comes directly after them.
 fn binary(digits: &[u8], rest: &[u8]) -> Result<(TokenText, usize), Code>
     requires { 1 ≤ length digits.now }
     ensures { result ≡ binary digits.now rest.now }

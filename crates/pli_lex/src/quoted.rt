@@ -13,7 +13,7 @@ use std::alloc::{AllocError, Global};
 /// The places of the bits of a digit.
 const PLACES: [u8; 4] = [8, 4, 2, 1];
 
-/// The characters of a string behind its opening quote, a doubled quote being one, and how many bytes these and the
+/// The characters of a string after its opening quote, a doubled quote being one, and how many bytes these and the
 /// closing quote take; None where no quote closes it.
 fn characters_of(alloc: Global, text: &[u8]) -> Result<Option<(Vec<u8>, usize)>, AllocError>
     ensures { IfOk result (λ found. option_map (λ string. (string.0.items, string.1)) found
@@ -81,7 +81,7 @@ fn bits_in(alloc: Global, width: u8, digits: &[u8]) -> Result<Option<Vec<bool>>,
     Ok(Some(bits))
 }
 
-/// The bit constant of these digits, where `rest`, which begins with `B`, comes directly behind the closing quote; it
+/// The bit constant of these digits, where `rest`, which begins with `B`, comes directly after the closing quote; it
 /// takes `taken` bytes up to there.
 fn bits(
     alloc: Global,

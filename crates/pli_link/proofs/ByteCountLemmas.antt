@@ -22,10 +22,10 @@ pub shown_values : (es : List (Name × KnownExternal)) → shown (values_of es) 
 shown_values [] = refl
 shown_values (e ∷ es) = ap (λ ts. shared_in (declaration_view e.1) ++ ts) (shown_values es)
 
--- some behind others
-pub counted_behind : (bytes : ℕ) (xs ys : List Template) → counted bytes (xs ++ ys) ≡ if_counted (counted bytes xs) (λ more. counted more ys)
-counted_behind bytes [] ys = refl
-counted_behind bytes (x ∷ xs) ys = by (counted_one bytes x.description) (λ more. counted_behind more xs ys)
+-- some after others
+pub counted_after : (bytes : ℕ) (xs ys : List Template) → counted bytes (xs ++ ys) ≡ if_counted (counted bytes xs) (λ more. counted more ys)
+counted_after bytes [] ys = refl
+counted_after bytes (x ∷ xs) ys = by (counted_one bytes x.description) (λ more. counted_after more xs ys)
   where
     by : (o : Option ℕ) → ((more : ℕ) → counted more (xs ++ ys) ≡ if_counted (counted more xs) (λ k. counted k ys))
         → if_counted o (λ more. counted more (xs ++ ys)) ≡ if_counted (if_counted o (λ more. counted more xs)) (λ k. counted k ys)

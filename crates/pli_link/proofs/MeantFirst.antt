@@ -11,9 +11,9 @@ use Rattle.pli_link.specs.Names.{with_first, firsts, meant, procedures_from, pro
 use Rattle.pli_link.specs.Units.{Compiled}
 use Rattle.pli_link.proofs.NameTables.{some_among}
 
-found_behind : {A : Type 0} (test : Name → Bool) (xs ys : List (Name × A)) → lookup test (xs ++ ys) ≡ option_or (lookup test xs) (lookup test ys)
-found_behind test [] ys = refl
-found_behind test (x ∷ xs) ys = by (test x.0) (found_behind test xs ys)
+found_after : {A : Type 0} (test : Name → Bool) (xs ys : List (Name × A)) → lookup test (xs ++ ys) ≡ option_or (lookup test xs) (lookup test ys)
+found_after test [] ys = refl
+found_after test (x ∷ xs) ys = by (test x.0) (found_after test xs ys)
   where
     by : (b : Bool) → lookup test (xs ++ ys) ≡ option_or (lookup test xs) (lookup test ys)
         → cond b (Some x.1) (lookup test (xs ++ ys)) ≡ option_or (cond b (Some x.1) (lookup test xs)) (lookup test ys)
@@ -24,9 +24,9 @@ none_more : {A : Type 0} (o : Option A) → o ≡ option_or o None
 none_more None = refl
 none_more (Some x) = refl
 
-or_behind : {A : Type 0} (a b c : Option A) → option_or (option_or a b) c ≡ option_or a (option_or b c)
-or_behind None b c = refl
-or_behind (Some x) b c = refl
+or_after : {A : Type 0} (a b c : Option A) → option_or (option_or a b) c ≡ option_or a (option_or b c)
+or_after None b c = refl
+or_after (Some x) b c = refl
 
 there_already : {A : Type 0} (o p : Option A) → is_some o ≡ true → o ≡ option_or o p
 there_already None p h = absurd (true≢false (sym h))
@@ -50,27 +50,27 @@ with_first_meant before x n = by (is_among x.0 (keys_of before)) refl
 
     by : (b : Bool) → is_among x.0 (keys_of before) ≡ b → meant (if b then before else before ++ x ∷ []) n ≡ option_or (meant before n) (meant (x ∷ []) n)
     by true is = kept (same_name n x.0) refl is
-    by false is = found_behind (same_name n) before (x ∷ [])
+    by false is = found_after (same_name n) before (x ∷ [])
 
 pub meant_first : {A : Type 0} (before xs : List (Name × A)) (n : Name) → meant (firsts before xs) n ≡ option_or (meant before n) (meant xs n)
 meant_first before [] n = none_more (meant before n)
 meant_first before (x ∷ xs) n =
     meant_first (with_first before x) xs n
     ∙ ap (λ o. option_or o (meant xs n)) (with_first_meant before x n)
-    ∙ or_behind (meant before n) (meant (x ∷ []) n) (meant xs n)
-    ∙ ap (option_or (meant before n)) (sym (found_behind (same_name n) (x ∷ []) xs))
+    ∙ or_after (meant before n) (meant (x ∷ []) n) (meant xs n)
+    ∙ ap (option_or (meant before n)) (sym (found_after (same_name n) (x ∷ []) xs))
 
 -- what holds of all things holds of the first ones
 all_with_first : {A : Type 0} (P : Name × A → Type 0) (before : List (Name × A)) (x : Name × A) → AllByRecursion P before → P x → AllByRecursion P (with_first before x)
 all_with_first P before x all one = by (is_among x.0 (keys_of before))
   where
-    behind : (xs : List (Name × _)) → AllByRecursion P xs → AllByRecursion P (xs ++ x ∷ [])
-    behind [] h = (one, tt)
-    behind (y ∷ ys) h = (h.0, behind ys h.1)
+    after : (xs : List (Name × _)) → AllByRecursion P xs → AllByRecursion P (xs ++ x ∷ [])
+    after [] h = (one, tt)
+    after (y ∷ ys) h = (h.0, after ys h.1)
 
     by : (b : Bool) → AllByRecursion P (if b then before else before ++ x ∷ [])
     by true = all
-    by false = behind before all
+    by false = after before all
 
 pub all_firsts : {A : Type 0} (P : Name × A → Type 0) (before xs : List (Name × A)) → AllByRecursion P before → AllByRecursion P xs → AllByRecursion P (firsts before xs)
 all_firsts P before [] all more = all

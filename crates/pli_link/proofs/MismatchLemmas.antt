@@ -36,7 +36,7 @@ one_global cs f code gs i g names new whole r within is told next all =
     ∙ ap (λ (x : CodedGlobal). each_once names (faulty_names cs f code (global_view x ∷ map global_view (drop (i + 1) gs)))) (sym is))
     ∙ all
 
--- nothing is left behind the last
+-- nothing is left after the last
 pub drop_past : {A : Type 0} (xs : List A) (i : ℕ) → length xs ≤ i → drop i xs ≡ []
 drop_past [] zero le = refl
 drop_past [] (suc i) le = refl

@@ -12,10 +12,10 @@ pub was_ok : {A B P : Type 0} (r : Result A B) → is_err r ≡ false → OnOk r
 was_ok (Ok x) e h = h
 was_ok (Err x) e h = absurd (true≢false e)
 
--- some behind others
-pub firsts_behind : {A : Type 0} (before xs ys : List (Name × A)) → firsts before (xs ++ ys) ≡ firsts (firsts before xs) ys
-firsts_behind before [] ys = refl
-firsts_behind before (x ∷ xs) ys = firsts_behind (with_first before x) xs ys
+-- some after others
+pub firsts_after : {A : Type 0} (before xs ys : List (Name × A)) → firsts before (xs ++ ys) ≡ firsts (firsts before xs) ys
+firsts_after before [] ys = refl
+firsts_after before (x ∷ xs) ys = firsts_after (with_first before x) xs ys
 
 pub some_among : {A : Type 0} (test : Name → Bool) (es : List (Name × A)) → is_some (lookup test es) ≡ list_any test (keys_of es)
 some_among test [] = refl
@@ -34,7 +34,7 @@ new_entry (e ∷ es) n x h = by (same_name n e.0) h (new_entry es n x)
     by true h more = absurd (true≢false h)
     by false h more = ap (λ l. e ∷ l) (more h)
 
--- a thing of a new name is put behind, and a thing of a name that is there is not
+-- a thing of a new name is put after the others, and a thing of a name that is there is not
 pub put_first : {A : Type 0} (es : List (Name × A)) (n : Name) (x : A) → is_some (lookup (same_name n) es) ≡ false → insert_entry same_name es n x ≡ with_first es (n, x)
 put_first es n x h =
     let e : is_among n (keys_of es) ≡ false = sym (some_among (same_name n) es) ∙ h in

@@ -22,7 +22,7 @@ meant_at [] n = refl
 meant_at (e ∷ es) n =
     ap (λ b. cond b (Some e.1) (lookup (is_at (order n)) es)) (sym (texts_ties n e.0)) ∙ ap (cond (same_name n e.0) (Some e.1)) (meant_at es n)
 
--- each name behind the one before it
+-- each name after the one before it
 abbrev pub Above : Option Name → Name → Type 0
 Above None n = Unit {0}
 Above (Some b) n = order b n ≡ Less
@@ -44,7 +44,7 @@ module _ {X : Type 0} (k : Name) (v : X) where
   abbrev pub put : List (Name × X) → List (Name × X)
   put es = insert_entry order es k v
 
-  -- what holds where an item is put in front, and stays behind an item in front of both
+  -- what holds where an item is put in front, and stays after an item in front of both
   pub put_by : (R : List (Name × X) → List (Name × X) → Type 0) → ((es : List (Name × X)) → R es ((k, v) ∷ es))
       → ((e : Name × X) (es fs : List (Name × X)) → R es fs → R (e ∷ es) (e ∷ fs))
       → (es : List (Name × X)) → is_some (meant es k) ≡ false → R es (put es)
@@ -96,10 +96,10 @@ pub all_declared : (P : Name × Declaration → Type 0) (es ds : List (Name × D
 all_declared P es [] h more = h
 all_declared P es (d ∷ ds) h more = all_declared P (with_declaration es d) ds (kept_with (AllByRecursion P) es d (λ none all. put_all d.0 d.1 P more.0 es none all) h) more.1
 
--- some behind others
-pub declared_behind : (before xs ys : List (Name × Declaration)) → first_declared before (xs ++ ys) ≡ first_declared (first_declared before xs) ys
-declared_behind before [] ys = refl
-declared_behind before (x ∷ xs) ys = declared_behind (with_declaration before x) xs ys
+-- some after others
+pub declared_after : (before xs ys : List (Name × Declaration)) → first_declared before (xs ++ ys) ≡ first_declared (first_declared before xs) ys
+declared_after before [] ys = refl
+declared_after before (x ∷ xs) ys = declared_after (with_declaration before x) xs ys
 
 -- ---- each name that is noted is found
 

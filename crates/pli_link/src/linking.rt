@@ -34,11 +34,11 @@ pub enum LinkFault {
     /// than the first variable of its name.
     Mismatch(LinkedName),
     /// N6, where the module has more than 1,000,000 instructions, 65,535 external variables, 65,535 units or 16,777,216
-    /// bytes of variables that are made before the program begins, or one of these has more than 1,000,000 bytes.
+    /// bytes of static variables, or one of these has more than 1,000,000 bytes.
     ModuleTooLarge,
 }
 
-/// Why units are not linked: all faults, by code, name and unit, or want of memory.
+/// Why units are not linked: all faults, by code, name and unit, or that memory was refused.
 pub type LinkError = Failure<Vec<LinkFault>>;
 
 /// The module of units, whose decks are lent and of the version in which modules are written, and which come in the

@@ -131,7 +131,7 @@ fn are_instructions_too_many(units: &[NamedUnit<'_>]) -> bool
     false
 }
 
-/// The bytes of the variables that are made before the program begins, unless they are too many.
+/// The bytes of the static variables, unless they are too many.
 fn bytes_made(names: &Names<'_, '_>) -> Option<u32>
     requires { AreNames names.now }
     ensures { result ≡ counted 0 (spec.variables_made (units_in names.now)) }
@@ -139,7 +139,7 @@ fn bytes_made(names: &Names<'_, '_>) -> Option<u32>
     with_externals(with_all_own(names.units)?, names.externals)
 }
 
-/// Whether the variables that are made before the program begins are too large.
+/// Whether the static variables are too large.
 fn are_variables_too_large(names: &Names<'_, '_>) -> bool
     requires { AreNames names.now }
     ensures { result ≡ spec.are_too_large (map (λ t. t.description) (spec.variables_made (units_in names.now))) }

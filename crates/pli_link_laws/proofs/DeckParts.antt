@@ -36,13 +36,13 @@ globals_fit d h =
     let gs = (list global).fits d.code.globals in
     let rest = (list block).fits d.code.blocks && (list (instruction_in v)).fits d.code.instructions in
     let tail = ds && (ts && (vs && (gs && rest))) in
-    let behind_name = second_of (name.fits d.name) (flag.fits d.is_main && (signature.fits d.code.signature && tail)) h in
-    let behind_flag = second_of (flag.fits d.is_main) (signature.fits d.code.signature && tail) behind_name in
-    let all = second_of (signature.fits d.code.signature) tail behind_flag in
-    let behind_descriptions = second_of ds (ts && (vs && (gs && rest))) all in
-    let behind_templates = second_of ts (vs && (gs && rest)) behind_descriptions in
-    let behind_values = second_of vs (gs && rest) behind_templates in
-    let parts = both_of (u2.fits (length d.code.globals)) (list_all global.fits d.code.globals) (both_of gs rest behind_values).0 in
+    let after_name = second_of (name.fits d.name) (flag.fits d.is_main && (signature.fits d.code.signature && tail)) h in
+    let after_flag = second_of (flag.fits d.is_main) (signature.fits d.code.signature && tail) after_name in
+    let all = second_of (signature.fits d.code.signature) tail after_flag in
+    let after_descriptions = second_of ds (ts && (vs && (gs && rest))) all in
+    let after_templates = second_of ts (vs && (gs && rest)) after_descriptions in
+    let after_values = second_of vs (gs && rest) after_templates in
+    let parts = both_of (u2.fits (length d.code.globals)) (list_all global.fits d.code.globals) (both_of gs rest after_values).0 in
     record { few = short_of (length d.code.globals) parts.0; each = parts.1 }
 
 pub name_fits : (n : Name) (kind : VariableKind) (t : ℕ) → global.fits (ExternalVariable n kind t) ≡ true → name.fits n ≡ true

@@ -13,7 +13,7 @@ use Rattle.pli_deck_write.specs.DeckFaults.{fault_of}
 use Rattle.pli_code.specs.Fields.{u1, u2, u4, from_to}
 use Rattle.pli_code.specs.Modules.{External, Member, Module}
 use Rattle.pli_code.specs.views.CodeView.{kind_number}
-use Rattle.pli_deck_write.specs.ModuleFields.{is_less, comes_after, external_behind, fit_behind, is_none, is_external, member, module_field}
+use Rattle.pli_deck_write.specs.ModuleFields.{is_less, comes_after, external_after, fit_after, is_none, is_external, member, module_field}
 use Rattle.pli_deck_write.specs.ModuleSpelling.{has_kind, global_at, are_good_links, links_stand, module_within_limits, module_bytes, SpellsModule}
 use Rattle.pli_deck_write.specs.Spelling.{deck_bytes}
 use Rattle.pli_code.specs.declared.fault.DeckFault.TheVariants.{BadNumber, OverLimit}
@@ -42,13 +42,13 @@ kind_fits Static = refl
 kind_fits Controlled = refl
 
 externals_fit : (members : List Member) (before : Option External) (ds : List (Name × Declaration)) → Rises (option_map (λ (e : External). e.name) before) ds → AllByRecursion (IsDeclared members) ds
-    → fit_behind external_behind before (map external_of ds) ≡ true
-unfolding external_behind
+    → fit_after external_after before (map external_of ds) ≡ true
+unfolding external_after
 externals_fit members before [] up all = refl
 externals_fit members before (d ∷ ds) up all =
     let place = u2.fits (short d.1.unit) && u2.fits (short d.1.global) in
     let kind = (from_to 2 3 u1).fits (kind_number d.1.kind) in
-    let rest = fit_behind external_behind (Some (external_of d)) (map external_of ds) in
+    let rest = fit_after external_after (Some (external_of d)) (map external_of ds) in
     both_hold ((name.fits d.0 && comes_after before d.0) && (kind && place)) rest
     (both_hold (name.fits d.0 && comes_after before d.0) (kind && place)
     (both_hold (name.fits d.0) (comes_after before d.0) all.0.named (after before d.0 up.0))
@@ -135,12 +135,12 @@ module _ (m : Module) (ds : List (Name × Declaration)) (h : HasParts m ds) wher
   unfolding module_field
   fits =
       let count = (from_to 1 999 u2).fits (length m.units) in
-      let externals = u2.fits (length m.externals) && fit_behind external_behind None m.externals in
+      let externals = u2.fits (length m.externals) && fit_after external_after None m.externals in
       both_hold (count && (u2.fits m.main && externals)) (nat_eq (length m.units) (length m.units) && list_all (member m.version).fits m.units)
       (both_hold count (u2.fits m.main && externals) (fits_range 1 999 (length m.units) (omega (arith, h.units)) (omega (arith, h.main)) h.units)
       (both_hold (u2.fits m.main) externals (fits_short m.main (omega (arith, h.main, h.units)))
-      (both_hold (u2.fits (length m.externals)) (fit_behind external_behind None m.externals) (fits_short (length m.externals) h.few)
-      (ap (fit_behind external_behind None) h.externals ∙ externals_fit m.units None ds h.rising h.declared))))
+      (both_hold (u2.fits (length m.externals)) (fit_after external_after None m.externals) (fits_short (length m.externals) h.few)
+      (ap (fit_after external_after None) h.externals ∙ externals_fit m.units None ds h.rising h.declared))))
       (both_hold (nat_eq (length m.units) (length m.units)) (list_all (member m.version).fits m.units) (eq-eqb (length m.units) (length m.units) refl) (units_fit m m.units h.said h.leads h.versions))
 
   stand : links_stand m ≡ true

@@ -8,12 +8,12 @@ abbrev pub total : {X : Type 0} → (X → ℕ) → List X → ℕ
 total f [] = 0
 total f (x ∷ xs) = f x + total f xs
 
-pub total_behind : {X : Type 0} (f : X → ℕ) (xs : List X) (n : ℕ) → fold (λ a x. a + f x) n xs ≡ n + total f xs
-total_behind f [] n = omega arith
-total_behind f (x ∷ xs) n = total_behind f xs (n + f x) ∙ omega arith
+pub total_after : {X : Type 0} (f : X → ℕ) (xs : List X) (n : ℕ) → fold (λ a x. a + f x) n xs ≡ n + total f xs
+total_after f [] n = omega arith
+total_after f (x ∷ xs) n = total_after f xs (n + f x) ∙ omega arith
 
 pub sum_is_total : {X : Type 0} (f : X → ℕ) (xs : List X) → sum_by f xs ≡ total f xs
-sum_is_total f xs = total_behind f xs 0 ∙ omega arith
+sum_is_total f xs = total_after f xs 0 ∙ omega arith
 
 pub total_joined : {X : Type 0} (f : X → ℕ) (xs ys : List X) → total f (xs ++ ys) ≡ total f xs + total f ys
 total_joined f [] ys = omega arith

@@ -24,14 +24,14 @@ stand_with from (c ∷ cs) b stand apart low even count =
         let high = stand.0 in
         elim apart.0 [
           | inl before ↦ (low, even, count, (omega (arith, before, high), stand.1, stand.2, stand.3))
-          | inr behind ↦ absurd (omega (arith, behind, less))
+          | inr after ↦ absurd (omega (arith, after, less))
         ]
     by false e rest =
         let less = ltb-false b.position c.position e in
         let high = stand.0 in
         elim apart.0 [
           | inl before ↦ absurd (omega (arith, before, less, high))
-          | inr behind ↦ (stand.0, stand.1, stand.2, rest (omega (arith, behind, low)))
+          | inr after ↦ (stand.0, stand.1, stand.2, rest (omega (arith, after, low)))
         ]
 
 end_with : (from capacity : ℕ) (bs : List area.Block) (b : area.Block) → area.end_from from bs ≤ capacity → area.end_of b ≤ capacity

@@ -7,7 +7,7 @@ use Rattle.pli_value.specs.declared.locator.Locator.TheVariants.{Pointer}
 use Rattle.pli_world.specs.Storage.{Based, generation_in}
 use Rattle.pli_world.specs.World.{World, Yields, Raises, made_of}
 use Rattle.pli_stacks.specs.laws.Operations.{HasEnded}
-use Rattle.pli_stacks.proofs.NumbersGiven.{ended_behind_making}
+use Rattle.pli_stacks.proofs.NumbersGiven.{ended_after_making}
 use Rattle.pli_stacks.proofs.YieldedAnswers.{yields_further, yields_guarded, yields_made}
 use Rattle.pli_world.specs.Locating.{located, based, based_allocated, is_allocated, ended, based_freed}
 use Rattle.pli_locators.specs.laws.Operations as law
@@ -44,15 +44,15 @@ freed_is_dead d e number w =
     (gone_is_dead t.place.generation t.place.position e (ended t.place v) (whole_ended t.place v.storage (sym (ap position_of_pointer i.pointer)))))
     tt)
 
-pub ended_behind_allocating : law.EndedBehindAllocating
+pub ended_after_allocating : law.EndedAfterAllocating
 unfolding based_allocated
-ended_behind_allocating v w number e =
+ended_after_allocating v w number e =
     yields_further (made_of v.description Based v.initial w) _ (λ _ u. HasEnded number u) _
-    (ended_behind_making v.description Based v.initial w number e) (λ p u h. h)
+    (ended_after_making v.description Based v.initial w number e) (λ p u h. h)
 
-pub ended_behind_freeing : law.EndedBehindFreeing
+pub ended_after_freeing : law.EndedAfterFreeing
 unfolding based_freed
-ended_behind_freeing d l w number e =
+ended_after_freeing d l w number e =
     yields_further (located d l w) _ (IsTarget l w) _ (yields_located d l w)
     (λ t v i. yields_guarded (is_allocated t.made) (Yields tt (ended t.place v)) (Raises DescriptionMismatch v) _
     (let h = subst (HasEnded number) (sym i.same) e in record { given = h.given; gone = whole_none t.place v.storage number h.gone }) tt)

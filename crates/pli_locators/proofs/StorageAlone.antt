@@ -15,7 +15,7 @@ use Rattle.pli_world.specs.World.{World, Answer, Yields, Raises, Wrong, further,
 use Rattle.pli_world.specs.Areas.{area_found, allocated_in, assigned, emptied, end_of_blocks, is_whole_area, is_within, offset_in, place_in, pointer_in, put_at, with_area, with_block}
 use Rattle.pli_world.specs.Targets.{Target, target_at}
 use Rattle.pli_stacks.specs.laws.Operations.{SameBeside, AnswerStays}
-use Rattle.pli_stacks.proofs.StorageAlone.{same_beside, Leaves, behind_leaves, making_stays, behind_made}
+use Rattle.pli_stacks.proofs.StorageAlone.{same_beside, Leaves, after_leaves, making_stays, after_made}
 use Rattle.pli_world.specs.Locating.{unless_other, located, is_allocated, is_whole_of, pointer_to, ended}
 use Rattle.pli_world.specs.Locating.{based, based_allocated, based_freed, addressed}
 use Rattle.pli_locators.specs.laws.AreaLaws as area
@@ -57,11 +57,11 @@ locating_stays d l w = leaves_stays w (located d l w) (located_leaves d l w)
 
 pub based_stays : law.BasedStays
 unfolding based
-based_stays d l w = behind_leaves w (located d l w) _ (located_leaves d l w) (λ t. same_beside w)
+based_stays d l w = after_leaves w (located d l w) _ (located_leaves d l w) (λ t. same_beside w)
 
 pub freeing_stays : law.FreeingStays
 unfolding based_freed
-freeing_stays d l w = behind_leaves w (located d l w) _ (located_leaves d l w) (λ t. by t (is_allocated t.made))
+freeing_stays d l w = after_leaves w (located d l w) _ (located_leaves d l w) (λ t. by t (is_allocated t.made))
   where
     by : (t : Target) (b : Bool) → AnswerStays w (if b then Yields (tt {0}) (ended t.place w) else Raises DescriptionMismatch w)
     by t true = record { statics = refl; activations = refl; output = refl; column = refl; steps = refl }
@@ -124,18 +124,18 @@ pub allocating_in_stays : area.AllocatingStays
 unfolding allocated_in
 allocating_in_stays p v w =
     stays_if w (are_held (scalars_of v.description) v.initial) (further (area_found p w) _) Wrong
-    (behind_leaves w (area_found p w) _ (found_leaves p w)
+    (after_leaves w (area_found p w) _ (found_leaves p w)
     (λ g. put_stays (place_in (size_of g.description) g.blocks (size_of v.description)) p v w)) tt
 
 pub emptying_stays : area.EmptyingStays
 unfolding emptied
-emptying_stays p w = behind_leaves w (area_found p w) _ (found_leaves p w) (λ g. area_changed p (λ bs. []) w)
+emptying_stays p w = after_leaves w (area_found p w) _ (found_leaves p w) (λ g. area_changed p (λ bs. []) w)
 
 pub assigning_stays : area.AssigningStays
 unfolding assigned
 assigning_stays source target w =
-    behind_leaves w (area_found source w) _ (found_leaves source w)
-    (λ g. behind_leaves w (area_found target w) _ (found_leaves target w)
+    after_leaves w (area_found source w) _ (found_leaves source w)
+    (λ g. after_leaves w (area_found target w) _ (found_leaves target w)
     (λ h. stays_if w (nat_le (end_of_blocks g.blocks) (size_of h.description)) (Yields tt (with_area target (λ bs. g.blocks) w)) (Raises error.Area w)
     (area_changed target (λ bs. g.blocks) w) refl))
 
@@ -166,4 +166,4 @@ pointer_stays p l w = leaves_stays w (pointer_in p l w) (pointer_leaves p l w)
 pub allocating_stays : law.AllocatingStays
 unfolding based_allocated
 allocating_stays v w =
-    behind_made w (made_of v.description Based v.initial w) _ (making_stays v.description Based v.initial w) (λ p u f. f)
+    after_made w (made_of v.description Based v.initial w) _ (making_stays v.description Based v.initial w) (λ p u f. f)

@@ -2,7 +2,7 @@
 ghost use Rattle.pli_locators.specs.laws.Operations.{LocatingStays, BasedStays, AllocatingStays, FreeingStays};
 ghost use Rattle.pli_locators.specs.laws.Operations.{AddressStays};
 ghost use Rattle.pli_locators.specs.laws.Operations.{NumberIsNew, EndedIsDead, FreedIsDead};
-ghost use Rattle.pli_locators.specs.laws.Operations.{EndedBehindAllocating, EndedBehindFreeing};
+ghost use Rattle.pli_locators.specs.laws.Operations.{EndedAfterAllocating, EndedAfterFreeing};
 ghost use Rattle.pli_locators.specs.laws.Operations.{BesideAllocated, BesideFreed, StacksBeside};
 ghost use Rattle.pli_locators.specs.laws.AreaLaws as area;
 ghost use Rattle.pli_locators.specs.laws.AreaLaws.{LeastIsTaken, BeginsApart, AllocatedApart, FreedApart};
@@ -34,8 +34,8 @@ pub fn numbers_stay_given()
     ensures new { NumberIsNew }
     ensures dead { EndedIsDead }
     ensures freed { FreedIsDead }
-    ensures allocating { EndedBehindAllocating }
-    ensures freeing { EndedBehindFreeing }
+    ensures allocating { EndedAfterAllocating }
+    ensures freeing { EndedAfterFreeing }
 {}
 
 /// A law: what lives beside stays as it is. ALLOCATE changes no generation that lives, FREE ends one alone, and the
@@ -71,7 +71,7 @@ pub fn other_blocks_stay()
     ensures areas { OtherAreasStay }
 {}
 
-/// A law: what was freed is dead, and so are all blocks of an area whose generation has ended; behind an assignment the
+/// A law: what was freed is dead, and so are all blocks of an area whose generation has ended; after an assignment the
 /// same blocks stand at the same positions of both areas.
 pub fn ends_are_final()
     ensures freed { FreedBlockIsDead }

@@ -4,7 +4,7 @@ ghost use Rattle.pli_code.specs.CodeTables as plain;
 ghost use Rattle.pli_code.specs.CodeTables.{block_looked_up};
 ghost use Rattle.pli_code.specs.Modules.{program_of};
 ghost use Rattle.pli_code.specs.views.CodeView.{block_view, code_view, kind_view, module_view};
-ghost use Rattle.pli_machine_step.specs.Machine.{Goes, establishes, raises, runs_block, runs_unit};
+ghost use Rattle.pli_machine_step.specs.Machine.{Goes, establishes, raises, runs_block, runs_on_unit};
 ghost use Rattle.pli_program.specs.Program.{is_on_unit};
 ghost use Rattle.pli_world.specs.Conditions.{condition_of, error_of, handler, reverted};
 ghost use Rattle.pli_machine_activations.specs.views.Image.{Image};
@@ -196,7 +196,7 @@ fn run_block<'m>(
 }
 
 /// Activates the block of an ON-unit of the program.
-fn run_unit<'m>(
+fn run_on_unit<'m>(
     alloc: Global,
     loaded: &Loaded<'m>,
     machine: &mut Machine<'m>,
@@ -204,7 +204,7 @@ fn run_unit<'m>(
     again: bool,
 ) -> Result<Option<Stop>, AllocError>
     ensures { IfOk result (λ stop. (image : Image) → Moves image
-        (λ here frames w. runs_unit (handler_view handler)
+        (λ here frames w. runs_on_unit (handler_view handler)
         (slice_get (program_of (module_view loaded.now.«module».now)).units handler.unit)
         (record here { again = again }) frames w)
         machine.old machine.new stop) }
@@ -221,7 +221,7 @@ fn run_unit<'m>(
     }
 }
 
-/// Raises a condition: the ON-unit that takes it runs, while the newest activation waits as it is, behind whose return
+/// Raises a condition: the ON-unit that takes it runs, while the newest activation waits as it is, after whose return
 /// that executes its next instruction again or goes on; without one the run ends by the condition's error.
 #[inline(never)]
 pub fn raise<'m>(
@@ -237,7 +237,7 @@ pub fn raise<'m>(
         machine.old machine.new) }
 {
     match find_handler(machine, condition) {
-        Some(handler) => run_unit(alloc, loaded, machine, handler, again),
+        Some(handler) => run_on_unit(alloc, loaded, machine, handler, again),
         None => Ok(Some(Stop::Raised(error_of(condition)))),
     }
 }

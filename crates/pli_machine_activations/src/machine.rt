@@ -47,7 +47,7 @@ pub struct Activation<'m> {
     pub stamp: u64,
     /// Its own ON-units.
     pub on_units: OnUnits,
-    /// Of one that waits, whether it waits for an ON-unit behind which it executes its next instruction again.
+    /// Of one that waits, whether it waits for an ON-unit after which it executes its next instruction again.
     pub again: bool,
 }
 

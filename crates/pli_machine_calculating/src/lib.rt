@@ -1,4 +1,4 @@
-//! What is made of numbers, bits and characters at hand, where it comes of them in every module.
+//! What is made of given numbers, bits and characters, where it comes of them in every module.
 #![tactic(auto)]
 
 mod bounds;

@@ -23,8 +23,8 @@ module _ {A : Type 0} (P : A → Type 0) (xs : List A) (n : ℕ) (x : A) (is : s
       → (k : ℕ) (y : A) → k < n + 1 → slice_get xs k ≡ Some y → P y
   one_further each k y within at = elim (cases_lt k n) [
     | inl before ↦ each k y before at
-    | inr behind ↦
-        let last : k ≡ n = omega (arith, behind, within) in
+    | inr after ↦
+        let last : k ≡ n = omega (arith, after, within) in
         subst P (same_Some x y (sym is ∙ ap (slice_get xs) (sym last) ∙ at)) one
   ]
 

@@ -22,11 +22,11 @@ use Rattle.pli_machine_loading.specs.declared.standing.Standing.{Standing as Cod
 use Rattle.pli_machine_loading.specs.declared.standing.Standing.TheVariants as code
 use Rattle.pli_machine_loading.specs.views.StandingView.{standing_view}
 use Rattle.pli_machine_activations.specs.answers.Making.{EndsAs}
-use Rattle.pli_machine_loading.specs.answers.MadeGlobals.{world_at, AreKnown, PlacedKnown, global_of, as_global, number_behind, NextLinked, Links, UnitLinked, LinksUnit, AllLinked, EndsEarlier}
+use Rattle.pli_machine_loading.specs.answers.MadeGlobals.{world_at, AreKnown, PlacedKnown, global_of, as_global, number_after, NextLinked, Links, UnitLinked, LinksUnit, AllLinked, EndsEarlier}
 use Rattle.pli_machine_activations.specs.views.TableView.{statics_from, all_statics, entry_in, entry_of}
 use Rattle.pli_machine_activations.proofs.MadeVariables.{further_ends}
 
--- one table behind another
+-- one table after another
 pub statics_more : (unit first : ℕ) (xs ys : List LinkedGlobal)
     → statics_from unit first (xs ++ ys) ≡ statics_from unit first xs ++ statics_from unit (first + length xs) ys
 statics_more unit first [] ys = ap (λ n. statics_from unit n ys) (omega arith)
@@ -128,7 +128,7 @@ module _ (c : Code) (unit number : ℕ) (statics : List Static) (externals : Lis
   }
   variable_links None (Err f) placed = absurd placed.placed
 
--- those so far among all globals of a unit, behind which some are left; the external variables that are made then
+-- those so far among all globals of a unit, after which some are left; the external variables that are made then
 pub record SoFar (unit : ℕ) (all left : List GlobalCode) (statics : List Static) (externals : List (ℕ × Standing)) (old now : Shared) (table : List LinkedGlobal) : Type 0 where
   pub after : List (ℕ × Standing)
   pub made :
@@ -146,7 +146,7 @@ none_so_far unit all statics externals old table none known = subst (SoFar unit 
   known = known;
 })
 
-length_there : (table : List LinkedGlobal) (g : Option LinkedGlobal) → number_behind (length table) g ≡ length (table ++ there g)
+length_there : (table : List LinkedGlobal) (g : Option LinkedGlobal) → number_after (length table) g ≡ length (table ++ there g)
 length_there table None = ap length (sym (append-nil table))
 length_there table (Some g) = omega (arith, length-append table (g ∷ []))
 
@@ -202,7 +202,7 @@ left_at f items xs i x same within is =
 pub none_left : {A B : Type 0} (f : A → B) (items xs : List A) (i : ℕ) → xs ≡ items → length xs ≤ i → drop i (map f items) ≡ []
 none_left f items xs i same past = drop_all i (map f items) (omega (arith, past, ap length same, length-map items f))
 
--- the globals of the unit of a number so far, behind which these are left
+-- the globals of the unit of a number so far, after which these are left
 abbrev pub GlobalsSoFar : rust.Member → (unit : ℕ) → (left : List CodedGlobal) → (taken : ℕ) → List Static → List (ℕ × Standing)
     → (old now : Shared) → List LinkedGlobal → Type 0
 GlobalsSoFar u unit left taken statics externals old now table =

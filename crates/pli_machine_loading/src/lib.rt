@@ -1,4 +1,4 @@
-//! Modules made ready to be run: the variables that are there before the program begins.
+//! Modules made ready to be run: the static variables.
 #![tactic(auto)]
 
 mod asking;

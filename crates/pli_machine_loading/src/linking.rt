@@ -1,4 +1,4 @@
-//! Globals of units, made before the program begins.
+//! Static globals of units.
 ghost use Rattle.std.specs.Prelude.{◌≡◌, ◌<◌, ◌∷◌, ◌++◌, ℕ, List, [], None, Some, map, drop, get_or, length};
 ghost use Rattle.std.specs.Prelude.{option_map, OnOk};
 ghost use Rattle.pli_base.specs.Name.{Name};
@@ -344,7 +344,7 @@ fn link_global<'m>(
     }
 }
 
-/// Puts a global behind the others, if it is one.
+/// Puts a global after the others, if it is one.
 fn add_global<'m>(
     table: &mut Vec<LinkedGlobal<'m>>,
     global: Option<LinkedGlobal<'m>>,
@@ -357,7 +357,7 @@ fn add_global<'m>(
     Ok(())
 }
 
-/// Makes the globals of a unit, one after another, behind those of the units before.
+/// Makes the globals of a unit, one after another, after those of the units before.
 fn link_unit<'m>(
     alloc: Global,
     unit: &'m Member,
@@ -380,7 +380,7 @@ fn link_unit<'m>(
     Ok(())
 }
 
-/// Puts the globals of a unit behind those of the others.
+/// Puts the globals of a unit after those of the others.
 fn add_table<'m>(
     tables: &mut Vec<Vec<LinkedGlobal<'m>>>,
     table: Vec<LinkedGlobal<'m>>,

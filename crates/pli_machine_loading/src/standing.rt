@@ -1,4 +1,4 @@
-//! Variables that are there before the program begins.
+//! Static variables.
 
 use pli_store::Place;
 

@@ -3,9 +3,9 @@ use Rattle.std.proofs.Common.{ℕ, zero, suc, ◌≤◌, nat_eq, Bool, true, fal
 use Rattle.std.proofs.lemmas.List.{length-map}
 use Rattle.std.specs.List.{starts_with}
 use Rattle.pli_value.specs.Conversions.{bit_character, bit_characters}
-use Rattle.pli_value.specs.Strings.{index_of, first_place, one_behind}
+use Rattle.pli_value.specs.Strings.{index_of, first_place, one_after}
 
-one_more : (b : Bool) (k n : ℕ) → k ≤ n → (if b then 1 else one_behind k) ≤ suc n
+one_more : (b : Bool) (k n : ℕ) → k ≤ n → (if b then 1 else one_after k) ≤ suc n
 one_more true k n h = omega arith
 one_more false zero n h = omega arith
 one_more false (suc k) n h = omega (arith, h)

@@ -375,7 +375,7 @@ fn of_bit_strings(
     }
 }
 
-/// One string of characters behind another, where they are short enough together. The first is extended.
+/// One string of characters after another, where they are short enough together. The first is extended.
 fn join(mut left: Vec<u8>, right: &Vec<u8>) -> Result<Calculation, AllocError>
     ensures { IfOk result (λ c. calculation_view c
         ≡ calculate.as_characters (concatenation left.items right.now.items)) }

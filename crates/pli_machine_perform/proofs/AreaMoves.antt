@@ -37,12 +37,12 @@ module _ (p : Place) (v : Variable) (w : World) where
   no_block area = rw area refl
 
 -- what makes a block answers as the operation by values
-pub located_answers : (r : Result Locator StoreFault) (before behind : World) (p : Place) (v : Variable) → is_area v.description ≡ false
-    → Answered (λ l. l) r before behind (allocated_in p v before) → Answered (λ l. Located l) r before behind (block_made p v before)
-located_answers (Ok l) before behind p v none is = block_by p v before none ∙ ap (λ a. further a (λ l w. Yields (Located l) w)) is
-located_answers (Err (fault.Raised e)) before behind p v none is = block_by p v before none ∙ ap (λ a. further a (λ l w. Yields (Located l) w)) is
-located_answers (Err fault.NoRule) before behind p v none is = block_by p v before none ∙ ap (λ a. further a (λ l w. Yields (Located l) w)) is
-located_answers (Err fault.OutOfMemory) before behind p v none is = tt
+pub located_answers : (r : Result Locator StoreFault) (before after : World) (p : Place) (v : Variable) → is_area v.description ≡ false
+    → Answered (λ l. l) r before after (allocated_in p v before) → Answered (λ l. Located l) r before after (block_made p v before)
+located_answers (Ok l) before after p v none is = block_by p v before none ∙ ap (λ a. further a (λ l w. Yields (Located l) w)) is
+located_answers (Err (fault.Raised e)) before after p v none is = block_by p v before none ∙ ap (λ a. further a (λ l w. Yields (Located l) w)) is
+located_answers (Err fault.NoRule) before after p v none is = block_by p v before none ∙ ap (λ a. further a (λ l w. Yields (Located l) w)) is
+located_answers (Err fault.OutOfMemory) before after p v none is = tt
 
 -- ---- where the newest operand is no locator, it is a fault
 

@@ -22,10 +22,10 @@ use Rattle.pli_machine_activations.specs.views.MachineView.{Finished, leads}
 use Rattle.pli_machine_perform.specs.declared.halting.Halt.{Halt}
 use Rattle.pli_machine_perform.specs.views.HaltView.{HaltsAs, DoesIn, halt_of, halted}
 
-pub same_with : (before behind : Storage) (w : World) → SameStorage before behind → with_storage before w ≡ with_storage behind w
-same_with before behind w same =
+pub same_with : (before after : Storage) (w : World) → SameStorage before after → with_storage before w ≡ with_storage after w
+same_with before after w same =
     sym
-    (ap (λ s. record w { storage = s; made = made_count behind }) same.storage
+    (ap (λ s. record w { storage = s; made = made_count after }) same.storage
     ∙ ap (λ n. record w { storage = storage_view before; made = n }) same.made)
 
 -- an answer that is a fault, where that may be a condition
@@ -35,19 +35,19 @@ module _ (p : Program) (wait : Frame → Frame) (here : Frame) (frames : List Fr
   erring_halts e None v = refl
   erring_halts e (Some c) v = refl
 
-  pub answer_halts : {T A : Type 0} (view : T → A) (f : StoreFault) (h : Halt) (before behind : Storage) (w other : World) (a : Answer A)
+  pub answer_halts : {T A : Type 0} (view : T → A) (f : StoreFault) (h : Halt) (before after : Storage) (w other : World) (a : Answer A)
       (go : A → World → Move)
-      → HaltsAs f h → SameStorage before behind → Answered view (Err f) (with_storage before w) other a
-      → leads (handled p (with_storage before w) (wait here) frames a go) left ≡ halted p wait left (Some h) here frames (with_storage behind w)
-  answer_halts view (fault.Raised e) h before behind w other a go halts same is =
+      → HaltsAs f h → SameStorage before after → Answered view (Err f) (with_storage before w) other a
+      → leads (handled p (with_storage before w) (wait here) frames a go) left ≡ halted p wait left (Some h) here frames (with_storage after w)
+  answer_halts view (fault.Raised e) h before after w other a go halts same is =
       ap (λ b. leads (handled p (with_storage before w) (wait here) frames b go) left) is
       ∙ erring_halts e (condition_of e) (with_storage before w)
       ∙ ap (λ x. halted p wait left (Some x) here frames (with_storage before w)) (sym halts)
-      ∙ ap (halted p wait left (Some h) here frames) (same_with before behind w same)
-  answer_halts view fault.NoRule h before behind w other a go halts same is =
+      ∙ ap (halted p wait left (Some h) here frames) (same_with before after w same)
+  answer_halts view fault.NoRule h before after w other a go halts same is =
       ap (λ b. leads (handled p (with_storage before w) (wait here) frames b go) left) is
-      ∙ ap (λ x. halted p wait left (Some x) here frames (with_storage behind w)) (sym halts)
-  answer_halts view fault.OutOfMemory h before behind w other a go halts same is = absurd halts
+      ∙ ap (λ x. halted p wait left (Some x) here frames (with_storage after w)) (sym halts)
+  answer_halts view fault.OutOfMemory h before after w other a go halts same is = absurd halts
 
 -- the same in whatever world the answer is given, where nothing was printed between
 module _ (p : Program) (wait : Frame → Frame) (here : Frame) (frames : List Frame) (left : ℕ) where

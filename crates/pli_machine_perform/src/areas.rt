@@ -45,7 +45,7 @@ pub fn to_offset(machine: &mut Machine) -> Result<Option<Stop>, AllocError>
 }
 
 /// ALLOCATE in the area of the newest place of a BASED variable of a description and of initial values, or of what is
-/// laid for them. Behind an ON-unit that takes the condition of a full area the code goes on at the target.
+/// laid for them. After an ON-unit that takes the condition of a full area the code goes on at the target.
 fn allocate_at<'m>(
     alloc: Global,
     unit: &ActiveUnit<'_, 'm>,
@@ -94,7 +94,7 @@ fn allocate_at<'m>(
 }
 
 /// ALLOCATE in the area of the newest place of a BASED variable of a template of the tables: the pointer to its block.
-/// Behind an ON-unit that takes the condition of a full area the code goes on at the target, by a step.
+/// After an ON-unit that takes the condition of a full area the code goes on at the target, by a step.
 pub fn allocate_in_area<'m>(
     alloc: Global,
     unit: &ActiveUnit<'_, 'm>,

@@ -80,7 +80,7 @@ fn count_value(count: u16) -> Value
     Value::Number(i64::from(count))
 }
 
-/// What comes of a count that is none: the run stops, or a condition is raised, behind whose ON-unit the count is 0.
+/// What comes of a count that is none: the run stops, or a condition is raised, after whose ON-unit the count is 0.
 fn count_halted<'m>(
     alloc: Global,
     unit: &ActiveUnit<'_, 'm>,
@@ -99,7 +99,7 @@ fn count_halted<'m>(
 }
 
 /// Puts upon the operands how many generations a CONTROLLED variable has, by its number among the globals of the newest
-/// activation's unit; 0 behind an ON-unit that takes the condition of too many.
+/// activation's unit; 0 after an ON-unit that takes the condition of too many.
 pub fn count_generations<'m>(
     alloc: Global,
     unit: &ActiveUnit<'_, 'm>,

@@ -58,7 +58,7 @@ pub fn settle<'m>(
     }
 }
 
-/// The same, where the activation executes an instruction again behind an ON-unit.
+/// The same, where the activation executes an instruction again after an ON-unit.
 pub fn settle_again<'m>(
     alloc: Global,
     loaded: &Loaded<'m>,

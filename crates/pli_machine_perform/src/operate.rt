@@ -23,7 +23,7 @@ use pli_value::Value;
 use pli_value::number::Raised;
 use std::alloc::{AllocError, Global};
 
-/// Raises a condition. Behind the ON-unit that takes it the operation gives 0, which is put upon the operands.
+/// Raises a condition. After the ON-unit that takes it the operation gives 0, which is put upon the operands.
 fn raise_zero(operands: &mut Vec<Operand>, raised: Raised) -> Result<Option<Halt>, AllocError>
     ensures { IfOk result (Computes (calculated_as (RaisesCondition raised)) operands.old.items operands.new.items) }
 {

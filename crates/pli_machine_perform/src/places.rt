@@ -16,7 +16,7 @@ use pli_store::Place;
 use pli_value::Value;
 use std::alloc::AllocError;
 
-/// Leads a place on to a part; no rule fits where that is more than 1,000,000 bytes behind the beginning.
+/// Leads a place on to a part; no rule fits where that is more than 1,000,000 bytes after the beginning.
 #[inline]
 pub fn field<'m>(
     operands: &mut Vec<Operand<'m>>,
@@ -37,7 +37,7 @@ pub fn field<'m>(
 }
 
 /// Tests a number and leads a place on by so many bytes for each number over the low one; no rule fits where that is
-/// more than 1,000,000 bytes behind the beginning.
+/// more than 1,000,000 bytes after the beginning.
 #[inline]
 pub fn subscript<'m>(
     operands: &mut Vec<Operand<'m>>,
@@ -71,7 +71,7 @@ fn is_within(bounds: Bounds, subscript: i64) -> bool
 }
 
 /// Tests a number and leads a place on by a subscript of a dimension; no rule fits where that is more than 1,000,000
-/// bytes behind the beginning.
+/// bytes after the beginning.
 fn lead_along<'m>(
     operands: &mut Vec<Operand<'m>>,
     place: Place<'m>,

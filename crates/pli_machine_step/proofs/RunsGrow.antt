@@ -23,8 +23,8 @@ Ahead (Over e w) t = (t ≡ Over e w) ⊎ ((e ≡ OutOfSteps) × IsPrefix w.outp
 resume_ahead : (P : Type 0) (w : World) (m : Move) (left : ℕ) → Adds P w m → Ahead (resume m left) (resume m (suc left))
 resume_ahead P w (Goes here frames v) left adds = refl
 resume_ahead P w (Stops ending v) left adds = inl refl
-resume_ahead P w (Steps before behind) zero adds = inr (refl, resume_adds P before behind zero adds.1)
-resume_ahead P w (Steps before behind) (suc left) adds = resume_ahead P before behind left adds.1
+resume_ahead P w (Steps before after) zero adds = inr (refl, resume_adds P before after zero adds.1)
+resume_ahead P w (Steps before after) (suc left) adds = resume_ahead P before after left adds.1
 
 next_ahead : (p : Program) (s t : State) → Ahead s t → Ahead (next_of p s) (next_of p t)
 next_ahead p (At here frames w left) t h =

@@ -3,7 +3,7 @@ use Rattle.std.proofs.Common.{◌≡◌, ℕ, ◌+◌, ◌*◌, ◌≤◌, min, 
 use Rattle.std.specs.Int.{next_multiple_of}
 use Rattle.std.proofs.lemmas.Bool.{cases_lt}
 use Rattle.pli_map.specs.Description as tree
-use Rattle.pli_map.specs.Sizes.{alignment_of, size_of, stride_of, end_behind}
+use Rattle.pli_map.specs.Sizes.{alignment_of, size_of, stride_of, end_after}
 use Rattle.pli_map.proofs.Counts.{cut_factor}
 use Rattle.pli_map.proofs.Members.{later}
 use Rattle.pli_map.proofs.MultipleLemmas.{IsAlignment}
@@ -43,30 +43,30 @@ pub cut_stride : (d : tree.Description) (size alignment : ℕ) → size ≡ min 
     → next_multiple_of size alignment ≡ min (stride_of d) 4294967296
 cut_stride d size alignment size_is alignment_is = rw (size_is, alignment_is) (next_cut (size_of d) (alignment_of d) (four_alignments d))
 
-end_cut_at : (far at : ℕ) (ds : tree.Members) → (far ≤ at) ⊎ (at ≤ far) → min (end_behind (min at far) ds) far ≡ min (end_behind at ds) far
+end_cut_at : (far at : ℕ) (ds : tree.Members) → (far ≤ at) ⊎ (at ≤ far) → min (end_after (min at far) ds) far ≡ min (end_after at ds) far
 end_cut_at far at ds (inl h) =
     let cut : min at far ≡ far = omega arith in
     let first = later at ds in
     let second = later far ds in
     rw cut (omega (arith, first, second))
-end_cut_at far at ds (inr h) = let cut : min at far ≡ at = omega arith in ap (λ n. min (end_behind n ds) far) cut
+end_cut_at far at ds (inr h) = let cut : min at far ≡ at = omega arith in ap (λ n. min (end_after n ds) far) cut
 
 le_cases : (a b : ℕ) → (a ≤ b) ⊎ (b ≤ a)
 le_cases a b = elim (cases_lt a b) [ inl h ↦ inl (omega arith) | inr h ↦ inr (omega arith) ]
 
 -- where members end is the same up to a limit where it was cut on the way
-pub end_cut : (far at : ℕ) (ds : tree.Members) → min (end_behind (min at far) ds) far ≡ min (end_behind at ds) far
+pub end_cut : (far at : ℕ) (ds : tree.Members) → min (end_after (min at far) ds) far ≡ min (end_after at ds) far
 end_cut far at ds = end_cut_at far at ds (le_cases far at)
 
--- one more member: what is left behind it ends where what was left before it does
+-- one more member: what is left after it ends where what was left before it does
 pub end_step : (at size start next : ℕ) (left others : tree.Members) (d : tree.Description) (whole : ℕ) → left ≡ tree.MemberThen d others
     → start ≡ next_multiple_of at (alignment_of d) → size ≡ min (size_of d) 4294967296 → next ≡ min (start + size) 4294967296
-    → min (end_behind at left) 4294967296 ≡ whole → min (end_behind next others) 4294967296 ≡ whole
+    → min (end_after at left) 4294967296 ≡ whole → min (end_after next others) 4294967296 ≡ whole
 end_step at size start next left others d whole left_is start_is size_is next_is so_far =
     let real = next_multiple_of at (alignment_of d) + size_of d in
     let cut : next ≡ min real 4294967296 = omega (arith, start_is, size_is, next_is) in
-    ap (λ n. min (end_behind n others) 4294967296) cut ∙ end_cut 4294967296 real others
-    ∙ ap (λ m. min (end_behind at m) 4294967296) (sym left_is) ∙ so_far
+    ap (λ n. min (end_after n others) 4294967296) cut ∙ end_cut 4294967296 real others
+    ∙ ap (λ m. min (end_after at m) 4294967296) (sym left_is) ∙ so_far
 
 -- a count so far, with one dimension more
 pub count_step : (limit whole count extent others left next : ℕ) → next ≡ min (extent * count) limit → left ≡ extent * others

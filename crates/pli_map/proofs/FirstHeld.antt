@@ -11,7 +11,7 @@ use Rattle.pli_map.specs.Sizes.{count_of}
 use Rattle.pli_map.specs.Values.{holds, are_held, first_values, first_values_of}
 use Rattle.pli_value.specs.Value.{Value, Number, Characters, Bits}
 
--- behind those that are held the others decide
+-- after those that are held the others decide
 pub held_on : (ds es : List Description) (vs ws : List Value) → are_held ds vs ≡ true → are_held (ds ++ es) (vs ++ ws) ≡ are_held es ws
 held_on [] es [] ws h = refl
 held_on [] es (v ∷ vs) ws h = absurd (false≢true h)

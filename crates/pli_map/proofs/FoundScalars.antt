@@ -6,7 +6,7 @@ use Rattle.std.proofs.lemmas.Option.{same_Some, none-some}
 use Rattle.std.proofs.Math.Nat.{div-eq_of_lt, mod-eq_of_lt}
 use Rattle.pli_map.specs.declared.description.Bounds.{Bounds}
 use Rattle.pli_map.specs.Description.{Description, FixedBinary, Character, Varying, Bit, Pointer, Offset, Area, Array, Structure, Members, MemberThen}
-use Rattle.pli_map.specs.Scalars.{scalars_in, stands_here, first_scalar, scalar_behind}
+use Rattle.pli_map.specs.Scalars.{scalars_in, stands_here, first_scalar, scalar_after}
 use Rattle.pli_map.specs.Sizes.{count_of, alignment_of, size_of, stride_of}
 use Rattle.pli_map.proofs.FarSizes.{cut_second}
 
@@ -36,7 +36,7 @@ pub found_in_array : (bs : List Bounds) (element : Description) (o : ℕ) (part 
 found_in_array bs element o part e = others (stands_here (Array bs element) o part) _ e
 
 pub found_in_structure : (members : Members) (o : ℕ) (part : Description) → stands_here (Structure members) o part ≡ false
-    → first_scalar (Structure members) o part ≡ scalar_behind 0 members o part
+    → first_scalar (Structure members) o part ≡ scalar_after 0 members o part
 found_in_structure members o part e = others (stands_here (Structure members) o part) _ e
 
 -- ---- elements
@@ -93,18 +93,18 @@ summed limit before q n j before_is =
     let product = cut_second limit q n in
     omega (arith, before_is, product)
 
-found_behind : (limit before q n inner : ℕ) (rest : Option ℕ) → before ≡ min (q * min n limit) limit → Some inner ≡ option_map (λ k. min k limit) rest
+found_after : (limit before q n inner : ℕ) (rest : Option ℕ) → before ≡ min (q * min n limit) limit → Some inner ≡ option_map (λ k. min k limit) rest
     → Some (min (before + inner) limit) ≡ option_map (λ k. min k limit) (option_map (λ k. q * n + k) rest)
-found_behind limit before q n inner None before_is e = absurd (none-some _ (sym e))
-found_behind limit before q n inner (Some j) before_is e =
+found_after limit before q n inner None before_is e = absurd (none-some _ (sym e))
+found_after limit before q n inner (Some j) before_is e =
     ap Some (ap (λ m. min (before + m) limit) (same_Some _ _ e) ∙ summed limit before q n j before_is)
 
--- something is found in the element, behind the scalars of those before it
+-- something is found in the element, after the scalars of those before it
 pub some_in_element : (limit index q count c before n inner found : ℕ) (rest : Option ℕ) → index ≡ q → count ≡ min c limit → index < count
     → before ≡ min (q * min n limit) limit → found ≡ min (before + inner) limit → Some inner ≡ option_map (λ k. min k limit) rest
     → Some found ≡ option_map (λ k. min k limit) (if nat_lt q c then option_map (λ k. q * n + k) rest else None)
 some_in_element limit index q count c before n inner found rest index_is count_is below before_is found_is e =
-    ap Some found_is ∙ found_behind limit before q n inner rest before_is e
+    ap Some found_is ∙ found_after limit before q n inner rest before_is e
     ∙ ap (option_map (λ k. min k limit)) (sym (in_element limit index q count c (λ k. q * n + k) rest index_is count_is below))
 
 -- ---- members
@@ -118,8 +118,8 @@ before_it in_it before rest further p q = rw (p, q)
 in_member : (in_it before : Bool) (rest further : Option ℕ) → in_it ≡ true → before ≡ false → (if in_it then (if before then None else rest) else further) ≡ rest
 in_member in_it before rest further p q = rw (p, q)
 
-behind_it : (in_it before : Bool) (rest further : Option ℕ) → in_it ≡ false → (if in_it then (if before then None else rest) else further) ≡ further
-behind_it in_it before rest further p = rw p
+after_it : (in_it before : Bool) (rest further : Option ℕ) → in_it ≡ false → (if in_it then (if before then None else rest) else further) ≡ further
+after_it in_it before rest further p = rw p
 
 -- what the scalars of what is left are among all: so many stand before them
 abbrev pub counted : (limit before : ℕ) → Option ℕ → Option ℕ
@@ -130,9 +130,9 @@ counted_from_none limit None = refl
 counted_from_none limit (Some k) = let e : min k limit ≡ min (0 + k) limit = omega arith in ap Some e
 
 module _ (limit : ℕ) (whole : Option ℕ) (at before o : ℕ) (left ds : Members) (d part : Description) (start : ℕ)
-    (left_is : left ≡ MemberThen d ds) (start_is : start ≡ start_of at d) (so_far : whole ≡ counted limit before (scalar_behind at left o part)) where
-  here_is : whole ≡ counted limit before (scalar_behind at (MemberThen d ds) o part)
-  here_is = so_far ∙ ap (λ l. counted limit before (scalar_behind at l o part)) left_is
+    (left_is : left ≡ MemberThen d ds) (start_is : start ≡ start_of at d) (so_far : whole ≡ counted limit before (scalar_after at left o part)) where
+  here_is : whole ≡ counted limit before (scalar_after at (MemberThen d ds) o part)
+  here_is = so_far ∙ ap (λ l. counted limit before (scalar_after at l o part)) left_is
 
   -- nothing stands in the bytes before a member
   pub none_before_member : o < start → None ≡ whole
@@ -179,12 +179,12 @@ module _ (limit : ℕ) (whole : Option ℕ) (at before o : ℕ) (left ds : Membe
       ap Some same
 
   -- a member that ends before the offset is passed
-  pub behind_member : (size next : ℕ) → size ≡ min (size_of d) 4294967296 → o < 4294967296 → start + size ≤ o → next ≡ min (before + min (scalars_in d) limit) limit
-      → whole ≡ counted limit next (scalar_behind (start + size) ds o part)
-  behind_member size next size_is far past next_is =
+  pub after_member : (size next : ℕ) → size ≡ min (size_of d) 4294967296 → o < 4294967296 → start + size ≤ o → next ≡ min (before + min (scalars_in d) limit) limit
+      → whole ≡ counted limit next (scalar_after (start + size) ds o part)
+  after_member size next size_is far past next_is =
       let end : start_of at d + size_of d ≡ start + size = omega (arith, start_is, size_is) in
       here_is ∙ ap (counted limit before)
-      (behind_it (nat_lt o (start_of at d + size_of d)) (nat_lt o (start_of at d)) (first_scalar d (o - start_of at d) part)
-      (option_map (λ k. scalars_in d + k) (scalar_behind (start_of at d + size_of d) ds o part)) (le-ltb _ _ (omega arith)))
-      ∙ more (scalar_behind (start_of at d + size_of d) ds o part) next (scalars_in d) next_is
-      ∙ ap (λ n. counted limit next (scalar_behind n ds o part)) end
+      (after_it (nat_lt o (start_of at d + size_of d)) (nat_lt o (start_of at d)) (first_scalar d (o - start_of at d) part)
+      (option_map (λ k. scalars_in d + k) (scalar_after (start_of at d + size_of d) ds o part)) (le-ltb _ _ (omega arith)))
+      ∙ more (scalar_after (start_of at d + size_of d) ds o part) next (scalars_in d) next_is
+      ∙ ap (λ n. counted limit next (scalar_after n ds o part)) end

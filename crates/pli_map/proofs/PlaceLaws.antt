@@ -8,7 +8,7 @@ use Rattle.std.proofs.Math.Nat.{mul-le-mul_right}
 use Rattle.pli_map.specs.declared.description.Bounds.{Bounds}
 use Rattle.pli_map.specs.Description.{Description, FixedBinary, Character, Varying, Bit, Pointer, Offset, Area, Array, Structure, Members, NoMembers, MemberThen}
 use Rattle.pli_map.specs.laws.Laws.{Apart, PartsDoNotMeet, PartsLieWithin, PartsStandAligned, AreasAreRounded, WithinBounds, ElementsAreWithinBounds, ElementsAreInRowMajorOrder}
-use Rattle.pli_map.specs.Parts.{PathStep, Member, Element, PlacedPart, index_of, member_behind, part_at, moved, place_of}
+use Rattle.pli_map.specs.Parts.{PathStep, Member, Element, PlacedPart, index_of, member_after, part_at, moved, place_of}
 use Rattle.pli_map.specs.Sizes.{count_of, alignment_of, greatest_alignment, size_of, stride_of}
 use Rattle.pli_map.proofs.MultipleLemmas.{IsAlignment, sum_aligned, next_aligned, times_aligned, divides, greater}
 use Rattle.pli_map.proofs.Places.{met, turns, MemberStep, ElementStep, element_part, step_is, step_inside, index_below, index_apart, members_apart, element_inside, fits_stride}
@@ -39,7 +39,7 @@ mutual
 -- ---- the parts of one step
 
 -- a member is aligned no more than the greatest, and stands at a multiple of its alignment
-member_aligned : (at : ℕ) (ds : Members) (i : ℕ) (p : PlacedPart) → member_behind at ds i ≡ Some p → (alignment_of p.description ≤ greatest_alignment ds) × (p.offset % alignment_of p.description ≡ 0)
+member_aligned : (at : ℕ) (ds : Members) (i : ℕ) (p : PlacedPart) → member_after at ds i ≡ Some p → (alignment_of p.description ≤ greatest_alignment ds) × (p.offset % alignment_of p.description ≡ 0)
 member_aligned at NoMembers i p e = absurd (none-some p e)
 member_aligned at (MemberThen d ds) zero p e =
     let is = same_Some _ p e in
@@ -61,24 +61,24 @@ step_aligned d s p at whole e = elim (step_is d s p e) [
       (sum_aligned (alignment_of m.element) at (m.index * stride_of m.element) is whole' (times_aligned _ m.index _ is (next_aligned _ (size_of m.element) is)))
 ]
 
-members_are_apart : (ds : Members) (i j : ℕ) (p q : PlacedPart) → i ≢ j → member_behind 0 ds i ≡ Some p → member_behind 0 ds j ≡ Some q → Apart p q
+members_are_apart : (ds : Members) (i j : ℕ) (p q : PlacedPart) → i ≢ j → member_after 0 ds i ≡ Some p → member_after 0 ds j ≡ Some q → Apart p q
 members_are_apart ds i j p q other e f = elim (cases_order i j) [
   | inl same ↦ absurd (other same)
   | inr (inl before) ↦ inl (members_apart 0 ds i j p q before e f)
-  | inr (inr behind) ↦ inr (members_apart 0 ds j i q p behind f e)
+  | inr (inr after) ↦ inr (members_apart 0 ds j i q p after f e)
 ]
 
 elements_are_apart : (e : Description) (k l : ℕ) → k ≢ l → Apart (element_part k e) (element_part l e)
 elements_are_apart e k l other = elim (cases_order k l) [
   | inl same ↦ absurd (other same)
   | inr (inl before) ↦ inl (element_inside k l (stride_of e) (size_of e) before (fits_stride e))
-  | inr (inr behind) ↦ inr (element_inside l k (stride_of e) (size_of e) behind (fits_stride e))
+  | inr (inr after) ↦ inr (element_inside l k (stride_of e) (size_of e) after (fits_stride e))
 ]
 
 both_members : (d : Description) (s t : PathStep) (p q : PlacedPart) → s ≢ t → MemberStep d s p → MemberStep d t q → Apart p q
 both_members d s t p q other m n =
     let same : m.members ≡ n.members = cc in
-    members_are_apart m.members m.number n.number p q (λ e. other (m.step_is ∙ ap Member e ∙ sym n.step_is)) m.part_is (ap (λ ds. member_behind 0 ds n.number) same ∙ n.part_is)
+    members_are_apart m.members m.number n.number p q (λ e. other (m.step_is ∙ ap Member e ∙ sym n.step_is)) m.part_is (ap (λ ds. member_after 0 ds n.number) same ∙ n.part_is)
 
 both_elements : (d : Description) (s t : PathStep) (p q : PlacedPart) → s ≢ t → ElementStep d s p → ElementStep d t q → Apart p q
 both_elements d s t p q other m n =
@@ -136,11 +136,11 @@ stand_aligned d (s ∷ path) p at whole e =
 -- parts of parts that are apart are apart
 inner_apart : (a b p q : PlacedPart) (m n : ℕ) → Apart a b → p.offset ≡ a.offset + m → m + size_of p.description ≤ size_of a.description → q.offset ≡ b.offset + n → n + size_of q.description ≤ size_of b.description → Apart p q
 inner_apart a b p q m n (inl before) p_at p_in q_at q_in = inl (omega arith)
-inner_apart a b p q m n (inr behind) p_at p_in q_at q_in = inr (omega arith)
+inner_apart a b p q m n (inr after) p_at p_in q_at q_in = inr (omega arith)
 
 moved_apart : (n : ℕ) (a b : PlacedPart) → Apart a b → Apart (moved n a) (moved n b)
 moved_apart n a b (inl before) = inl (omega arith)
-moved_apart n a b (inr behind) = inr (omega arith)
+moved_apart n a b (inr after) = inr (omega arith)
 
 pub do_not_meet : PartsDoNotMeet
 do_not_meet d [] path others s t p q other e f =
@@ -180,17 +180,17 @@ within_from_index (b ∷ bs) [] k e = absurd (none-some k e)
 within_from_index (b ∷ bs) (x ∷ xs) k e =
     let t = turns b bs x xs k e in
     let m = met b x t.distance t.distance_is in
-    (at_most b.low x m.0, at_most x b.high m.1, within_from_index bs xs t.behind t.behind_is)
+    (at_most b.low x m.0, at_most x b.high m.1, within_from_index bs xs t.after t.after_is)
 
 pub index_from_within : (bs : List Bounds) (xs : List ℤ) → WithinBounds bs xs → (k : ℕ) × (index_of bs xs ≡ Some k)
 index_from_within [] [] h = (0, refl)
 index_from_within [] (x ∷ xs) h = absurd h
 index_from_within (b ∷ bs) [] h = absurd h
 index_from_within (b ∷ bs) (x ∷ xs) h =
-    let behind = index_from_within bs xs h.2 in
+    let after = index_from_within bs xs h.2 in
     let low = test_passes b.low x h.0 in
     let high = test_passes x b.high h.1 in
-    (unsigned_abs (x -ℤ b.low) * count_of bs + behind.0, rw (low, high, behind.1))
+    (unsigned_abs (x -ℤ b.low) * count_of bs + after.0, rw (low, high, after.1))
 
 found_within : (bs : List Bounds) (xs : List ℤ) (o : Option ℕ) → index_of bs xs ≡ o → IsSome o → WithinBounds bs xs
 found_within bs xs None is h = cc
@@ -219,11 +219,11 @@ elements_are_in_order (b ∷ bs) [] xs ys x y k l less e f =
     let m = met b x t.distance t.distance_is in
     let n = met b y u.distance u.distance_is in
     let grows = distance_grows b.low x y m.0 less in
-    omega (arith, earlier t.distance u.distance (count_of bs) t.behind u.behind (omega (arith, grows, m.2, n.2)) (index_below bs xs t.behind t.behind_is), t.whole, u.whole)
+    omega (arith, earlier t.distance u.distance (count_of bs) t.after u.after (omega (arith, grows, m.2, n.2)) (index_below bs xs t.after t.after_is), t.whole, u.whole)
 elements_are_in_order (b ∷ bs) (z ∷ shared) xs ys x y k l less e f =
     let t = turns b bs z (shared ++ x ∷ xs) k e in
     let u = turns b bs z (shared ++ y ∷ ys) l f in
-    let inner = elements_are_in_order bs shared xs ys x y t.behind u.behind less t.behind_is u.behind_is in
+    let inner = elements_are_in_order bs shared xs ys x y t.after u.after less t.after_is u.after_is in
     let same : t.distance ≡ u.distance = same_Some _ _ (sym t.distance_is ∙ u.distance_is) in
     let rows : t.distance * count_of bs ≡ u.distance * count_of bs = ap (λ n. n * count_of bs) same in
     omega (arith, inner, rows, t.whole, u.whole)

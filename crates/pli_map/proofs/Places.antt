@@ -7,8 +7,8 @@ use Rattle.std.proofs.lemmas.Option.{cond_some, same_Some, none-some}
 use Rattle.std.proofs.Math.Nat.{mul-le-mul_right}
 use Rattle.pli_map.specs.declared.description.Bounds.{Bounds}
 use Rattle.pli_map.specs.Description.{Description, Array, Structure, Members, NoMembers, MemberThen}
-use Rattle.pli_map.specs.Sizes.{extent_of, count_of, alignment_of, size_of, end_behind, stride_of}
-use Rattle.pli_map.specs.Parts.{PathStep, Member, Element, PlacedPart, distance_of, index_of, member_behind, part_at}
+use Rattle.pli_map.specs.Sizes.{extent_of, count_of, alignment_of, size_of, end_after, stride_of}
+use Rattle.pli_map.specs.Parts.{PathStep, Member, Element, PlacedPart, distance_of, index_of, member_after, part_at}
 use Rattle.pli_map.proofs.Members.{later}
 
 -- ---- subscripts
@@ -46,20 +46,20 @@ distance_apart b x y d e f =
     let n = met b y d f in
     same_distance b.low x y m.0 n.0 (m.2 ∙ sym n.2)
 
--- how an index is made: of the distance and of the index behind it
+-- how an index is made: of the distance and of the index after it
 pub record Turns (b : Bounds) (bs : List Bounds) (x : ℤ) (xs : List ℤ) (k : ℕ) : Type 0 where
   pub distance : ℕ
-  pub behind : ℕ
+  pub after : ℕ
   pub distance_is : distance_of b x ≡ Some distance
-  pub behind_is : index_of bs xs ≡ Some behind
-  pub whole : distance * count_of bs + behind ≡ k
+  pub after_is : index_of bs xs ≡ Some after
+  pub whole : distance * count_of bs + after ≡ k
 
 turns_of : (b : Bounds) (bs : List Bounds) (x : ℤ) (xs : List ℤ) (k : ℕ) (d j : Option ℕ) → distance_of b x ≡ d → index_of bs xs ≡ j
     → option_and_then (λ n. option_map (λ m. n * count_of bs + m) j) d ≡ Some k → Turns b bs x xs k
 turns_of b bs x xs k None j d_is j_is e = absurd (none-some k e)
 turns_of b bs x xs k (Some d) None d_is j_is e = absurd (none-some k e)
 turns_of b bs x xs k (Some d) (Some j) d_is j_is e =
-    record { distance = d; behind = j; distance_is = d_is; behind_is = j_is; whole = same_Some _ _ e }
+    record { distance = d; after = j; distance_is = d_is; after_is = j_is; whole = same_Some _ _ e }
 
 pub turns : (b : Bounds) (bs : List Bounds) (x : ℤ) (xs : List ℤ) (k : ℕ) → index_of (b ∷ bs) (x ∷ xs) ≡ Some k → Turns b bs x xs k
 turns b bs x xs k e = turns_of b bs x xs k (distance_of b x) (index_of bs xs) refl refl e
@@ -72,8 +72,8 @@ index_below (b ∷ bs) [] k e = absurd (none-some k e)
 index_below (b ∷ bs) (x ∷ xs) k e =
     let t = turns b bs x xs k e in
     let near = distance_below b x t.distance t.distance_is in
-    let behind = index_below bs xs t.behind t.behind_is in
-    omega (arith, mul-add-lt t.distance (count_of bs) t.behind (extent_of b) near behind, t.whole)
+    let after = index_below bs xs t.after t.after_is in
+    omega (arith, mul-add-lt t.distance (count_of bs) t.after (extent_of b) near after, t.whole)
 
 -- elements of one index have the same subscripts
 pub index_apart : (bs : List Bounds) (xs ys : List ℤ) (k : ℕ) → index_of bs xs ≡ Some k → index_of bs ys ≡ Some k → xs ≡ ys
@@ -85,15 +85,15 @@ index_apart (b ∷ bs) (x ∷ xs) [] k e f = absurd (none-some k f)
 index_apart (b ∷ bs) (x ∷ xs) (y ∷ ys) k e f =
     let t = turns b bs x xs k e in
     let u = turns b bs y ys k f in
-    let same = same_from_place t.distance t.behind u.distance u.behind (count_of bs) (index_below bs xs t.behind t.behind_is) (index_below bs ys u.behind u.behind_is) (t.whole ∙ sym u.whole) in
+    let same = same_from_place t.distance t.after u.distance u.after (count_of bs) (index_below bs xs t.after t.after_is) (index_below bs ys u.after u.after_is) (t.whole ∙ sym u.whole) in
     let first : x ≡ y = distance_apart b x y t.distance t.distance_is (u.distance_is ∙ ap Some (sym same.0)) in
-    let others : xs ≡ ys = index_apart bs xs ys t.behind t.behind_is (u.behind_is ∙ ap Some (sym same.1)) in
+    let others : xs ≡ ys = index_apart bs xs ys t.after t.after_is (u.after_is ∙ ap Some (sym same.1)) in
     cc
 
 -- ---- members
 
 -- a member stands between the beginning and the end
-pub member_inside : (at : ℕ) (ds : Members) (i : ℕ) (p : PlacedPart) → member_behind at ds i ≡ Some p → (at ≤ p.offset) × (p.offset + size_of p.description ≤ end_behind at ds)
+pub member_inside : (at : ℕ) (ds : Members) (i : ℕ) (p : PlacedPart) → member_after at ds i ≡ Some p → (at ≤ p.offset) × (p.offset + size_of p.description ≤ end_after at ds)
 member_inside at NoMembers i p e = absurd (none-some p e)
 member_inside at (MemberThen d ds) zero p e =
     let is = same_Some _ p e in
@@ -106,7 +106,7 @@ member_inside at (MemberThen d ds) (suc i) p e =
     (omega (arith, inner.0), inner.1)
 
 -- of two members the first ends before the other begins
-pub members_apart : (at : ℕ) (ds : Members) (i j : ℕ) (p q : PlacedPart) → i < j → member_behind at ds i ≡ Some p → member_behind at ds j ≡ Some q → p.offset + size_of p.description ≤ q.offset
+pub members_apart : (at : ℕ) (ds : Members) (i j : ℕ) (p q : PlacedPart) → i < j → member_after at ds i ≡ Some p → member_after at ds j ≡ Some q → p.offset + size_of p.description ≤ q.offset
 members_apart at NoMembers i j p q before e f = absurd (none-some p e)
 members_apart at (MemberThen d ds) i zero p q before e f = absurd (omega arith)
 members_apart at (MemberThen d ds) zero (suc j) p q before e f =
@@ -125,7 +125,7 @@ pub record MemberStep (d : Description) (s : PathStep) (p : PlacedPart) : Type 0
   pub number : ℕ
   pub whole_is : d ≡ Structure members
   pub step_is : s ≡ Member number
-  pub part_is : member_behind 0 members number ≡ Some p
+  pub part_is : member_after 0 members number ≡ Some p
 
 abbrev pub element_part : ℕ → Description → PlacedPart
 element_part k e = record { offset = k * stride_of e; description = e }

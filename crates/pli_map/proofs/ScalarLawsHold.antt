@@ -8,9 +8,9 @@ use Rattle.std.proofs.Math.Nat.{mod-lt}
 use Rattle.pli_map.specs.declared.description.Bounds.{Bounds}
 use Rattle.pli_map.specs.Description.{Description, FixedBinary, Character, Varying, Bit, Pointer, Offset, Area, Array, Structure, Members, NoMembers, MemberThen}
 use Rattle.pli_map.specs.laws.ScalarLaws.{PartsAreFound, PartsAreDetermined, FoundIsPlaced, ScalarsLieWithin, PartsOfParts, FilledPartsTakeBytes}
-use Rattle.pli_map.specs.Parts.{PathStep, Member, Element, PlacedPart, distance_of, index_of, member_behind, part_at, place_of}
+use Rattle.pli_map.specs.Parts.{PathStep, Member, Element, PlacedPart, distance_of, index_of, member_after, part_at, place_of}
 use Rattle.pli_map.specs.ScalarPaths.{scalars_before_member, scalars_before_step, scalars_before, is_filled, are_filled, has_area, have_area}
-use Rattle.pli_map.specs.Scalars.{scalars_in, stands_here, first_scalar, scalar_behind}
+use Rattle.pli_map.specs.Scalars.{scalars_in, stands_here, first_scalar, scalar_after}
 use Rattle.pli_map.specs.Sizes.{extent_of, count_of, size_of, stride_of}
 use Rattle.pli_map.proofs.Members.{later}
 use Rattle.pli_map.proofs.Places.{element_part, step_is, index_below, fits_stride}
@@ -35,22 +35,22 @@ whole_found (Array bs e) =
     taken (stands_here (Array bs e) 0 (Array bs e)) (Some 0)
     (if nat_lt (0 / stride_of e) (count_of bs) then option_map (λ k. 0 / stride_of e * scalars_in e + k) (first_scalar e (0 % stride_of e) (Array bs e)) else None)
     (itself (Array bs e))
-whole_found (Structure ds) = taken (stands_here (Structure ds) 0 (Structure ds)) (Some 0) (scalar_behind 0 ds 0 (Structure ds)) (itself (Structure ds))
+whole_found (Structure ds) = taken (stands_here (Structure ds) 0 (Structure ds)) (Some 0) (scalar_after 0 ds 0 (Structure ds)) (itself (Structure ds))
 
 -- ---- the part of one step
 
 abbrev pub StepFound : Description → PathStep → PlacedPart → Type 0
 StepFound d s p = (k : ℕ) × (scalars_before_step d s ≡ Some k) × (first_scalar d p.offset p.description ≡ Some k)
 
-member_found : (at : ℕ) (ds : Members) (i : ℕ) (p : PlacedPart) → 0 < size_of p.description → member_behind at ds i ≡ Some p
-    → (k : ℕ) × (scalars_before_member ds i ≡ Some k) × (scalar_behind at ds p.offset p.description ≡ Some k)
+member_found : (at : ℕ) (ds : Members) (i : ℕ) (p : PlacedPart) → 0 < size_of p.description → member_after at ds i ≡ Some p
+    → (k : ℕ) × (scalars_before_member ds i ≡ Some k) × (scalar_after at ds p.offset p.description ≡ Some k)
 member_found at NoMembers i p sized e = absurd (none-some p e)
 member_found at (MemberThen d ds) zero p sized e =
     let is = same_Some _ p e in
     let size : size_of d ≡ size_of p.description = ap (λ q. size_of q.description) is in
     let there : start_of at d + 0 ≡ start_of at d = omega arith in
-    let Claim : PlacedPart → Type 0 = λ q. (k : ℕ) × (scalars_before_member (MemberThen d ds) 0 ≡ Some k) × (scalar_behind at (MemberThen d ds) q.offset q.description ≡ Some k) in
-    subst Claim is (0, refl, sym (ap (λ n. scalar_behind at (MemberThen d ds) n d) there) ∙ first_finds at d ds 0 d 0 (omega (arith, size, sized)) (whole_found d))
+    let Claim : PlacedPart → Type 0 = λ q. (k : ℕ) × (scalars_before_member (MemberThen d ds) 0 ≡ Some k) × (scalar_after at (MemberThen d ds) q.offset q.description ≡ Some k) in
+    subst Claim is (0, refl, sym (ap (λ n. scalar_after at (MemberThen d ds) n d) there) ∙ first_finds at d ds 0 d 0 (omega (arith, size, sized)) (whole_found d))
 member_found at (MemberThen d ds) (suc i) p sized e =
     let m = member_found (start_of at d + size_of d) ds i p sized e in
     (scalars_in d + m.0, ap (λ o. option_map (λ k. scalars_in d + k) o) m.1, others_find at d ds p.offset p.description m.0 m.2)
@@ -176,7 +176,7 @@ pub record Way (at : ℕ) (ds : Members) (o : ℕ) (part : Description) (k : ℕ
   pub before : ℕ
   pub inner : ℕ
   pub inner_before : ℕ
-  pub first_is : member_behind at ds number ≡ Some first
+  pub first_is : member_after at ds number ≡ Some first
   pub before_is : scalars_before_member ds number ≡ Some before
   pub placed : Placed first.description inner part inner_before
   pub offset_is : first.offset + inner ≡ o
@@ -205,7 +205,7 @@ mutual
         (Member w.number ∷ w.placed.0, rw (w.first_is, w.placed.1) (ap (λ n. Some (at_place n part)) w.offset_is), rw (w.first_is, w.before_is, w.placed.2) (ap Some w.number_is))
   ]
 
-  way : (at : ℕ) (ds : Members) (o : ℕ) (part : Description) (k : ℕ) → scalar_behind at ds o part ≡ Some k → Way at ds o part k
+  way : (at : ℕ) (ds : Members) (o : ℕ) (part : Description) (k : ℕ) → scalar_after at ds o part ≡ Some k → Way at ds o part k
   way at NoMembers o part k e = absurd (none-some k e)
   way at (MemberThen d ds) o part k e = elim (in_members at d ds o part k e) [
     | inl c ↦ let start = start_of at d in
@@ -308,7 +308,7 @@ mutual
     | inr rest ↦ among_filled 0 members o part k (filled_members members e) rest
   ]
 
-  among_filled : (at : ℕ) (ds : Members) (o : ℕ) (part : Description) (k : ℕ) → are_filled ds ≡ true → scalar_behind at ds o part ≡ Some k → is_filled part ≡ true
+  among_filled : (at : ℕ) (ds : Members) (o : ℕ) (part : Description) (k : ℕ) → are_filled ds ≡ true → scalar_after at ds o part ≡ Some k → is_filled part ≡ true
   among_filled at NoMembers o part k e f = absurd (none-some k f)
   among_filled at (MemberThen d ds) o part k e f = elim (in_members at d ds o part k f) [
     | inl c ↦ part_filled d (o - start_of at d) part k (and_parts (is_filled d) (are_filled ds) e).0 c.rest_is

@@ -5,7 +5,7 @@ use Rattle.std.proofs.lemmas.Nat.{div-mul-add, div-add-mod'}
 use Rattle.std.proofs.lemmas.Option.{same_Some, none-some}
 use Rattle.pli_map.specs.declared.description.Bounds.{Bounds}
 use Rattle.pli_map.specs.Description.{Description, FixedBinary, Character, Varying, Bit, Pointer, Offset, Area, Array, Structure, Members, NoMembers, MemberThen}
-use Rattle.pli_map.specs.Scalars.{scalars_in, stands_here, first_scalar, scalar_behind}
+use Rattle.pli_map.specs.Scalars.{scalars_in, stands_here, first_scalar, scalar_after}
 use Rattle.pli_map.specs.Sizes.{count_of, size_of, stride_of}
 use Rattle.pli_map.proofs.Places.{fits_stride}
 use Rattle.pli_map.proofs.ScalarPlaces.{here, not_here, in_array, in_structure, in_members, start_of, within, among}
@@ -42,27 +42,27 @@ element_found bs element o index part j k below sized inner whole =
     (lt-ltb _ _ (omega (arith, quotient, below))) (ap (λ n. first_scalar element n part) rest ∙ inner)
     (ap (λ n. n * scalars_in element + j) quotient ∙ whole)
 
-pub structure_finds : (members : Members) (o : ℕ) (part : Description) (k : ℕ) → scalar_behind 0 members o part ≡ Some k → first_scalar (Structure members) o part ≡ Some k
+pub structure_finds : (members : Members) (o : ℕ) (part : Description) (k : ℕ) → scalar_after 0 members o part ≡ Some k → first_scalar (Structure members) o part ≡ Some k
 structure_finds members o part k inner =
-    structure_found (stands_here (Structure members) o part) (scalar_behind 0 members o part) (Some k)
+    structure_found (stands_here (Structure members) o part) (scalar_after 0 members o part) (Some k)
     (not_here (Structure members) o part (omega (arith, (among 0 members o part k inner).fewer))) inner
 
 pub first_finds : (at : ℕ) (d : Description) (ds : Members) (o : ℕ) (part : Description) (k : ℕ) → 0 < size_of part → first_scalar d o part ≡ Some k
-    → scalar_behind at (MemberThen d ds) (start_of at d + o) part ≡ Some k
+    → scalar_after at (MemberThen d ds) (start_of at d + o) part ≡ Some k
 first_finds at d ds o part k sized inner =
     let w = within d o part k inner in
     let start = start_of at d in
     let back : start + o - start ≡ o = omega arith in
     first_found (nat_lt (start + o) (start + size_of d)) (nat_lt (start + o) start) (first_scalar d (start + o - start) part)
-    (scalar_behind (start + size_of d) ds (start + o) part) (λ j. scalars_in d + j) (Some k)
+    (scalar_after (start + size_of d) ds (start + o) part) (λ j. scalars_in d + j) (Some k)
     (lt-ltb _ _ (omega (arith, w.bytes, sized))) (le-ltb _ _ (omega arith)) (ap (λ n. first_scalar d n part) back ∙ inner)
 
-pub others_find : (at : ℕ) (d : Description) (ds : Members) (o : ℕ) (part : Description) (j : ℕ) → scalar_behind (start_of at d + size_of d) ds o part ≡ Some j
-    → scalar_behind at (MemberThen d ds) o part ≡ Some (scalars_in d + j)
+pub others_find : (at : ℕ) (d : Description) (ds : Members) (o : ℕ) (part : Description) (j : ℕ) → scalar_after (start_of at d + size_of d) ds o part ≡ Some j
+    → scalar_after at (MemberThen d ds) o part ≡ Some (scalars_in d + j)
 others_find at d ds o part j inner =
     let a = among (start_of at d + size_of d) ds o part j inner in
     others_found (nat_lt o (start_of at d + size_of d)) (nat_lt o (start_of at d)) (first_scalar d (o - start_of at d) part)
-    (scalar_behind (start_of at d + size_of d) ds o part) (λ n. scalars_in d + n) j (scalars_in d + j)
+    (scalar_after (start_of at d + size_of d) ds o part) (λ n. scalars_in d + n) j (scalars_in d + j)
     (le-ltb _ _ a.low) inner refl
 
 -- ---- parts of parts
@@ -109,15 +109,15 @@ mutual
     | inr rest ↦ structure_finds members (o + p) d (k + j) (joined_among 0 members o part k p d j sized rest inner)
   ]
 
-  joined_among : (at : ℕ) (ds : Members) (o : ℕ) (part : Description) (k p : ℕ) (d : Description) (j : ℕ) → 0 < size_of d → scalar_behind at ds o part ≡ Some k
-      → first_scalar part p d ≡ Some j → scalar_behind at ds (o + p) d ≡ Some (k + j)
+  joined_among : (at : ℕ) (ds : Members) (o : ℕ) (part : Description) (k p : ℕ) (d : Description) (j : ℕ) → 0 < size_of d → scalar_after at ds o part ≡ Some k
+      → first_scalar part p d ≡ Some j → scalar_after at ds (o + p) d ≡ Some (k + j)
   joined_among at NoMembers o part k p d j sized e inner = absurd (none-some k e)
   joined_among at (MemberThen m ds) o part k p d j sized e inner = elim (in_members at m ds o part k e) [
     | inl c ↦ let start = start_of at m in
         let both = joined m (o - start) part k p d j sized c.rest_is inner in
         let low = ltb-false o start c.above in
         let at_is : start + (o - start + p) ≡ o + p = omega (arith, low) in
-        sym (ap (λ n. scalar_behind at (MemberThen m ds) n d) at_is) ∙ first_finds at m ds (o - start + p) d (k + j) sized both
+        sym (ap (λ n. scalar_after at (MemberThen m ds) n d) at_is) ∙ first_finds at m ds (o - start + p) d (k + j) sized both
     | inr c ↦ let both = joined_among (start_of at m + size_of m) ds o part c.number p d j sized c.rest_is inner in
         let number : scalars_in m + (c.number + j) ≡ k + j = omega (arith, c.whole) in
         others_find at m ds (o + p) d (c.number + j) both ∙ ap Some number

@@ -8,8 +8,8 @@ use Rattle.pli_map.specs.declared.description.Bounds.{Bounds}
 use Rattle.pli_map.specs.Description.{Description, FixedBinary, Character, Varying, Bit, Pointer, Offset, Area, Array, Structure, Members, NoMembers, MemberThen}
 use Rattle.pli_map.specs.laws.SameLaws.{same_decides}
 use Rattle.pli_map.specs.Same.{same}
-use Rattle.pli_map.specs.Scalars.{scalars_in, scalars_among, stands_here, first_scalar, scalar_behind}
-use Rattle.pli_map.specs.Sizes.{count_of, alignment_of, size_of, end_behind, stride_of}
+use Rattle.pli_map.specs.Scalars.{scalars_in, scalars_among, stands_here, first_scalar, scalar_after}
+use Rattle.pli_map.specs.Sizes.{count_of, alignment_of, size_of, end_after, stride_of}
 use Rattle.pli_map.proofs.Members.{later}
 use Rattle.pli_map.proofs.Places.{element_inside, fits_stride}
 
@@ -84,20 +84,20 @@ scalar_cases : (stands : Bool) (k : ℕ) → (if stands then Some 0 else None) �
 scalar_cases true k e = (refl, same_Some _ _ e)
 scalar_cases false k e = absurd (none-some k e)
 
--- a part of members is one of the first or of those behind it
+-- a part of members is one of the first or of those after it
 pub record First (in_it before : Bool) (rest : Option ℕ) (k : ℕ) : Type 0 where
   pub below : in_it ≡ true
   pub above : before ≡ false
   pub rest_is : rest ≡ Some k
 
-pub record Behind (in_it : Bool) (rest : Option ℕ) (f : ℕ → ℕ) (k : ℕ) : Type 0 where
+pub record After (in_it : Bool) (rest : Option ℕ) (f : ℕ → ℕ) (k : ℕ) : Type 0 where
   pub below : in_it ≡ false
   pub number : ℕ
   pub rest_is : rest ≡ Some number
   pub whole : f number ≡ k
 
 member_cases : (in_it before : Bool) (rest others : Option ℕ) (f : ℕ → ℕ) (k : ℕ) → (if in_it then (if before then None else rest) else option_map f others) ≡ Some k
-    → First in_it before rest k ⊎ Behind in_it others f k
+    → First in_it before rest k ⊎ After in_it others f k
 member_cases true true rest others f k e = absurd (none-some k e)
 member_cases true false rest others f k e = inl (record { below = refl; above = refl; rest_is = e })
 member_cases false before rest others f k e =
@@ -128,7 +128,7 @@ within_scalar whole o part k e =
 pub record Among (at : ℕ) (ds : Members) (offset : ℕ) (part : Description) (k : ℕ) : Type 0 where
   pub fewer : nodes part ≤ nodes_among ds
   pub low : at ≤ offset
-  pub bytes : offset + size_of part ≤ end_behind at ds
+  pub bytes : offset + size_of part ≤ end_after at ds
   pub scalars : k + scalars_in part ≤ scalars_among ds
 
 abbrev pub InElement : List Bounds → Description → ℕ → Description → ℕ → Type 0
@@ -142,8 +142,8 @@ in_array bs element o part k e =
     (λ j. o / stride_of element * scalars_in element + j) k e
 
 pub in_structure : (members : Members) (o : ℕ) (part : Description) (k : ℕ) → first_scalar (Structure members) o part ≡ Some k
-    → ((stands_here (Structure members) o part ≡ true) × (0 ≡ k)) ⊎ (scalar_behind 0 members o part ≡ Some k)
-in_structure members o part k e = structure_cases (stands_here (Structure members) o part) (scalar_behind 0 members o part) k e
+    → ((stands_here (Structure members) o part ≡ true) × (0 ≡ k)) ⊎ (scalar_after 0 members o part ≡ Some k)
+in_structure members o part k e = structure_cases (stands_here (Structure members) o part) (scalar_after 0 members o part) k e
 
 abbrev pub start_of : ℕ → Description → ℕ
 start_of at d = next_multiple_of at (alignment_of d)
@@ -152,13 +152,13 @@ abbrev pub InFirst : ℕ → Description → ℕ → Description → ℕ → Typ
 InFirst at d o part k = First (nat_lt o (start_of at d + size_of d)) (nat_lt o (start_of at d)) (first_scalar d (o - start_of at d) part) k
 
 abbrev pub InOthers : ℕ → Description → Members → ℕ → Description → ℕ → Type 0
-InOthers at d ds o part k = Behind (nat_lt o (start_of at d + size_of d)) (scalar_behind (start_of at d + size_of d) ds o part) (λ j. scalars_in d + j) k
+InOthers at d ds o part k = After (nat_lt o (start_of at d + size_of d)) (scalar_after (start_of at d + size_of d) ds o part) (λ j. scalars_in d + j) k
 
-pub in_members : (at : ℕ) (d : Description) (ds : Members) (o : ℕ) (part : Description) (k : ℕ) → scalar_behind at (MemberThen d ds) o part ≡ Some k
+pub in_members : (at : ℕ) (d : Description) (ds : Members) (o : ℕ) (part : Description) (k : ℕ) → scalar_after at (MemberThen d ds) o part ≡ Some k
     → InFirst at d o part k ⊎ InOthers at d ds o part k
 in_members at d ds o part k e =
     member_cases (nat_lt o (start_of at d + size_of d)) (nat_lt o (start_of at d)) (first_scalar d (o - start_of at d) part)
-    (scalar_behind (start_of at d + size_of d) ds o part) (λ j. scalars_in d + j) k e
+    (scalar_after (start_of at d + size_of d) ds o part) (λ j. scalars_in d + j) k e
 
 mutual
   pub within : (whole : Description) (o : ℕ) (part : Description) (k : ℕ) → first_scalar whole o part ≡ Some k → Within whole o part k
@@ -185,7 +185,7 @@ mutual
         record { fewer = omega (arith, w.fewer); bytes = w.bytes; scalars = w.scalars }
   ]
 
-  pub among : (at : ℕ) (ds : Members) (o : ℕ) (part : Description) (k : ℕ) → scalar_behind at ds o part ≡ Some k → Among at ds o part k
+  pub among : (at : ℕ) (ds : Members) (o : ℕ) (part : Description) (k : ℕ) → scalar_after at ds o part ≡ Some k → Among at ds o part k
   among at NoMembers o part k e = absurd (none-some k e)
   among at (MemberThen d ds) o part k e = elim (in_members at d ds o part k e) [
     | inl c ↦ let start = next_multiple_of at (alignment_of d) in

@@ -3,7 +3,7 @@ use Rattle.std.proofs.Common.{◌≡◌, ℕ, ◌+◌, ◌*◌, ◌/◌, ◌%◌
 use Rattle.std.specs.Option.{is_some}
 use Rattle.pli_map.specs.declared.description.Bounds.{Bounds}
 use Rattle.pli_map.specs.Description.{Description, Array, Structure, Members, MemberThen}
-use Rattle.pli_map.specs.Scalars.{first_scalar, scalar_behind, scalars_in, stands_here}
+use Rattle.pli_map.specs.Scalars.{first_scalar, scalar_after, scalars_in, stands_here}
 use Rattle.pli_map.specs.Sizes.{count_of, size_of, stride_of}
 use Rattle.pli_map.proofs.ScalarLawsHold.{whole_found}
 use Rattle.pli_map.proofs.ScalarParts.{structure_finds, first_finds, others_find}
@@ -14,26 +14,26 @@ some_of None e = cc
 some_of (Some k) e = (k, refl)
 
 -- what is found among the members of a structure is found in it
-pub found_among : (members : Members) (o : ℕ) (part : Description) → is_some (scalar_behind 0 members o part) ≡ true → is_some (first_scalar (Structure members) o part) ≡ true
+pub found_among : (members : Members) (o : ℕ) (part : Description) → is_some (scalar_after 0 members o part) ≡ true → is_some (first_scalar (Structure members) o part) ≡ true
 found_among members o part e =
-    let found = some_of (scalar_behind 0 members o part) e in
+    let found = some_of (scalar_after 0 members o part) e in
     ap is_some (structure_finds members o part found.0 found.1)
 
 module _ (at : ℕ) (d : Description) (ds left : Members) (o : ℕ) (part : Description) (left_is : left ≡ MemberThen d ds) where
-  -- what is found behind a member is found behind those before it
-  pub some_behind : (next : ℕ) → next ≡ start_of at d + size_of d → is_some (scalar_behind next ds o part) ≡ true → is_some (scalar_behind at left o part) ≡ true
-  some_behind next next_is e =
-      let found = some_of (scalar_behind next ds o part) e in
-      ap (λ l. is_some (scalar_behind at l o part)) left_is
-      ∙ ap is_some (others_find at d ds o part found.0 (sym (ap (λ n. scalar_behind n ds o part) next_is) ∙ found.1))
+  -- what is found after a member is found after those before it
+  pub some_after : (next : ℕ) → next ≡ start_of at d + size_of d → is_some (scalar_after next ds o part) ≡ true → is_some (scalar_after at left o part) ≡ true
+  some_after next next_is e =
+      let found = some_of (scalar_after next ds o part) e in
+      ap (λ l. is_some (scalar_after at l o part)) left_is
+      ∙ ap is_some (others_find at d ds o part found.0 (sym (ap (λ n. scalar_after n ds o part) next_is) ∙ found.1))
 
   -- a member is found where it begins
-  pub some_first : o ≡ start_of at d → 0 < size_of d → d ≡ part → is_some (scalar_behind at left o part) ≡ true
+  pub some_first : o ≡ start_of at d → 0 < size_of d → d ≡ part → is_some (scalar_after at left o part) ≡ true
   some_first begins sized same =
       let here : o ≡ start_of at d + 0 = omega (arith, begins) in
-      ap (λ l. is_some (scalar_behind at l o part)) left_is
-      ∙ ap (λ n. is_some (scalar_behind at (MemberThen d ds) n part)) here
-      ∙ ap (λ p. is_some (scalar_behind at (MemberThen d ds) (start_of at d + 0) p)) (sym same)
+      ap (λ l. is_some (scalar_after at l o part)) left_is
+      ∙ ap (λ n. is_some (scalar_after at (MemberThen d ds) n part)) here
+      ∙ ap (λ p. is_some (scalar_after at (MemberThen d ds) (start_of at d + 0) p)) (sym same)
       ∙ ap is_some (first_finds at d ds 0 d 0 sized (whole_found d))
 
 -- ---- in an array of structures

@@ -44,8 +44,8 @@ varying_back : (n : ℕ) (text : List ℕ) → n ≤ 32767 → length text ≤ n
 varying_back n text limit fits =
     let rest = text ++ replicate (n - length text) 0 in
     let number : big_number 2 (big_bytes 2 (length text) ++ rest) ≡ length text = big_number-reads_back 2 (length text) rest (omega arith) in
-    let behind : drop 2 (big_bytes 2 (length text) ++ rest) ≡ rest = drop_at (big_bytes 2 (length text)) rest 2 (length-bytes_high_first 2 (length text)) in
-    ap (λ k. take k (drop 2 (big_bytes 2 (length text) ++ rest))) number ∙ ap (take (length text)) behind ∙ take_at text (replicate (n - length text) 0) (length text) refl
+    let after : drop 2 (big_bytes 2 (length text) ++ rest) ≡ rest = drop_at (big_bytes 2 (length text)) rest 2 (length-bytes_high_first 2 (length text)) in
+    ap (λ k. take k (drop 2 (big_bytes 2 (length text) ++ rest))) number ∙ ap (take (length text)) after ∙ take_at text (replicate (n - length text) 0) (length text) refl
 
 word_back : (n : ℕ) → n < 2 ^ 32 → big_number 4 (big_bytes 4 n) ≡ n
 word_back n fits = ap (big_number 4) (sym (append-nil (big_bytes 4 n))) ∙ big_number-reads_back 4 n [] fits
@@ -54,8 +54,8 @@ pointer_back : (g k : ℕ) → suc g < 2 ^ 32 → k < 2 ^ 32
     → pointer_of (big_number 4 (big_bytes 4 (suc g) ++ big_bytes 4 k)) (big_number 4 (drop 4 (big_bytes 4 (suc g) ++ big_bytes 4 k))) ≡ locators.Pointer g k
 pointer_back g k generation position =
     let first : big_number 4 (big_bytes 4 (suc g) ++ big_bytes 4 k) ≡ suc g = big_number-reads_back 4 (suc g) (big_bytes 4 k) generation in
-    let behind : drop 4 (big_bytes 4 (suc g) ++ big_bytes 4 k) ≡ big_bytes 4 k = drop_at (big_bytes 4 (suc g)) (big_bytes 4 k) 4 (length-bytes_high_first 4 (suc g)) in
-    let second = ap (big_number 4) behind ∙ word_back k position in
+    let after : drop 4 (big_bytes 4 (suc g) ++ big_bytes 4 k) ≡ big_bytes 4 k = drop_at (big_bytes 4 (suc g)) (big_bytes 4 k) 4 (length-bytes_high_first 4 (suc g)) in
+    let second = ap (big_number 4) after ∙ word_back k position in
     ap (λ n. pointer_of n (big_number 4 (drop 4 (big_bytes 4 (suc g) ++ big_bytes 4 k)))) first ∙ ap (pointer_of (suc g)) second
 
 pub stored_is_loaded : StoredIsLoaded

@@ -90,7 +90,7 @@ number_read_back p x limit held = by_width (at_most p 15) (at_most p 31)
     by_width (inr a) (inl b) = let f = fits_32 p x b held in moved w32 4 (is_32 p a b) (read_back 4 w32 x (Fits-of_z f).fits f)
     by_width (inr a) (inr b) = let f = fits_64 p x limit held in moved w64 8 (is_64 p b) (read_back 8 w64 x (Fits-of_z f).fits f)
 
--- text and the zeros behind it
+-- text and the zeros after it
 pub extended : (text bytes copied filled : List ℕ) → length text ≤ length bytes → copied ≡ text
     → filled ≡ replicate (length (take (length (copied ++ drop (length text) bytes) - length text) (drop (length text) (copied ++ drop (length text) bytes)))) 0
     → put_mid (length text) (length (copied ++ drop (length text) bytes) - length text) (copied ++ drop (length text) bytes) filled

@@ -11,7 +11,7 @@ use Rattle.pli_map.specs.declared.description.Bounds.{Bounds}
 use Rattle.pli_map.specs.Description.{Description, Array, Structure, Members}
 use Rattle.pli_map.specs.laws.Laws.{WithinBounds}
 use Rattle.pli_map.specs.laws.SubscriptLaws.{OffsetsAreSums, SubscriptsWithinLead}
-use Rattle.pli_map.specs.Parts.{PathStep, Member, Element, PlacedPart, distance_of, index_of, member_behind, part_at, moved, place_of}
+use Rattle.pli_map.specs.Parts.{PathStep, Member, Element, PlacedPart, distance_of, index_of, member_after, part_at, moved, place_of}
 use Rattle.pli_map.specs.Sizes.{count_of, stride_of}
 use Rattle.pli_map.specs.Subscripts.{Subscript, IsWithin, bytes_passed, subscripts_in, step_subscripts, first_step, first_path, subscripts_of, step_has_subscripts, has_subscripts}
 use Rattle.pli_map.proofs.Places.{element_part, step_is, met, turns}
@@ -42,7 +42,7 @@ first_index (b ∷ bs) [] k e = absurd (none-some k e)
 first_index (b ∷ bs) (x ∷ xs) k e =
     let t = turns b bs x xs k e in
     let none : 0 * count_of bs + 0 ≡ 0 = omega arith in
-    rw (low_distance b x t.distance t.distance_is, first_index bs xs t.behind t.behind_is) (ap Some none)
+    rw (low_distance b x t.distance t.distance_is, first_index bs xs t.after t.after_is) (ap Some none)
 
 pub record Passed (bs : List Bounds) (stride : ℕ) (xs : List ℤ) (k : ℕ) : Type 0 where
   pub sum : sum_by bytes_passed (subscripts_in bs stride xs) ≡ k * stride
@@ -62,12 +62,12 @@ passed (b ∷ bs) stride [] k e = absurd (none-some k e)
 passed (b ∷ bs) stride (x ∷ xs) k e =
     let t = turns b bs x xs k e in
     let m = met b x t.distance t.distance_is in
-    let p = passed bs stride xs t.behind t.behind_is in
+    let p = passed bs stride xs t.after t.after_is in
     let s : Subscript = subscript_at b (count_of bs * stride) x in
     let first : bytes_passed s ≡ t.distance * (count_of bs * stride) = ap (λ n. n * (count_of bs * stride)) m.2 in
     let split = sum_by-cons bytes_passed s (subscripts_in bs stride xs) in
     record {
-      sum = omega (arith, split, first, p.sum, times k t.distance (count_of bs) t.behind stride t.whole);
+      sum = omega (arith, split, first, p.sum, times k t.distance (count_of bs) t.after stride t.whole);
       all = All-cons IsWithin s (subscripts_in bs stride xs) (at_most b.low x m.0, at_most x b.high m.1) p.all;
     }
 
@@ -94,7 +94,7 @@ element_sums bs e xs k is =
     let p = passed bs (stride_of e) xs k is in
     record { first = element_part 0 e; first_is = ap (λ o. option_map (λ n. element_part n e) o) (first_index bs xs k is); description = refl; offset = omega (arith, p.sum); all = p.all }
 
-member_sums : (ds : Members) (i : ℕ) (p : PlacedPart) → member_behind 0 ds i ≡ Some p → StepSums (Structure ds) (Member i) p
+member_sums : (ds : Members) (i : ℕ) (p : PlacedPart) → member_after 0 ds i ≡ Some p → StepSums (Structure ds) (Member i) p
 member_sums ds i p is = record { first = p; first_is = is; description = refl; offset = omega arith; all = All-nil IsWithin }
 
 step_sums : (d : Description) (s : PathStep) (p : PlacedPart) → part_at d s ≡ Some p → StepSums d s p
@@ -149,7 +149,7 @@ offsets_are_sums whole path part e =
 abbrev pub Leads_to : Description → PathStep → PlacedPart → Type 0
 Leads_to d s first = (p : PlacedPart) × (part_at d s ≡ Some p) × (p.description ≡ first.description)
 
-member_leads : (ds : Members) (i : ℕ) (first : PlacedPart) → member_behind 0 ds i ≡ Some first → Leads_to (Structure ds) (Member i) first
+member_leads : (ds : Members) (i : ℕ) (first : PlacedPart) → member_after 0 ds i ≡ Some first → Leads_to (Structure ds) (Member i) first
 member_leads ds i first e = (first, e, refl)
 
 element_first : (e : Description) (o : Option ℕ) (first : PlacedPart) → option_map (λ n. element_part n e) o ≡ Some first → e ≡ first.description
@@ -182,17 +182,17 @@ some_inside : (f : PlacedPart → PlacedPart) (o : Option PlacedPart) → IsSome
 some_inside f None h = h
 some_inside f (Some p) h = refl
 
-counts_behind : (d : Description) (s : PathStep) (path : List PathStep) (first : PlacedPart) → part_at d (first_step d s) ≡ Some first
+counts_after : (d : Description) (s : PathStep) (path : List PathStep) (first : PlacedPart) → part_at d (first_step d s) ≡ Some first
     → has_subscripts d (s ∷ path) ≡ (step_has_subscripts d s && has_subscripts first.description path)
-counts_behind d s path first there = rw there
+counts_after d s path first there = rw there
 
-subscripts_behind : (d : Description) (s : PathStep) (path : List PathStep) (first : PlacedPart) → part_at d (first_step d s) ≡ Some first
+subscripts_after : (d : Description) (s : PathStep) (path : List PathStep) (first : PlacedPart) → part_at d (first_step d s) ≡ Some first
     → subscripts_of d (s ∷ path) ≡ step_subscripts d s ++ subscripts_of first.description path
-subscripts_behind d s path first there = rw there
+subscripts_after d s path first there = rw there
 
-place_behind : (d : Description) (s : PathStep) (path : List PathStep) (first : PlacedPart) → part_at d (first_step d s) ≡ Some first
+place_after : (d : Description) (s : PathStep) (path : List PathStep) (first : PlacedPart) → part_at d (first_step d s) ≡ Some first
     → place_of d (first_path d (s ∷ path)) ≡ option_map (moved first.offset) (place_of first.description (first_path first.description path))
-place_behind d s path first there = rw there
+place_after d s path first there = rw there
 
 on_from : (d : Description) (s : PathStep) (path : List PathStep) (p first inner : PlacedPart) → part_at d s ≡ Some p → p.description ≡ first.description
     → place_of first.description path ≡ Some inner → place_of d (s ∷ path) ≡ Some (moved p.offset inner)
@@ -209,12 +209,12 @@ path_leads d (s ∷ path) some counts all =
     let f = some_before rest (part_at d (first_step d s)) some in
     let first = f.0 in
     let there : part_at d (first_step d s) ≡ Some first = f.1 in
-    let counts_are = counts_behind d s path first there in
+    let counts_are = counts_after d s path first there in
     let both = and_parts (step_has_subscripts d s) (has_subscripts first.description path) (sym counts_are ∙ counts) in
-    let subscripts = subscripts_behind d s path first there in
+    let subscripts = subscripts_after d s path first there in
     let parts = all_parts IsWithin (step_subscripts d s) (subscripts_of first.description path) (subst (All IsWithin) subscripts all) in
     let step = step_leads d s first both.0 parts.0 there in
-    let going = place_behind d s path first there in
+    let going = place_after d s path first there in
     let inner_some : IsSome (place_of first.description (first_path first.description path)) =
     some_inside (moved first.offset) (place_of first.description (first_path first.description path)) (subst IsSome going some) in
     let inner = path_leads first.description path inner_some both.1 parts.1 in

@@ -78,7 +78,7 @@ pub distinct : (ds : List Description) → IsDistinct (on description_view same)
 distinct ds apart i j t at_i at_j = elim (cases_lt i j) [
   | inl before ↦ absurd (differ ds i j t apart before at_i at_j)
   | inr past ↦ elim (cases_lt j i) [
-    | inl behind ↦ absurd (differ ds j i t apart behind at_j at_i)
+    | inl after ↦ absurd (differ ds j i t apart after at_j at_i)
     | inr same_place ↦ omega (arith, past, same_place)
   ]
 ]
@@ -89,7 +89,7 @@ true_or_false : (b : Bool) → (b ≡ true → ⊥) → b ≡ false
 true_or_false true other = absurd (other refl)
 true_or_false false other = refl
 
--- none of the first is equal to one behind them
+-- none of the first is equal to one after them
 pub none_before : (ds : List Description) (i : ℕ) (d : Description) → IsDistinct (on description_view same) ds → i < length ds → d ≡ get_or ds i d
     → list_any (same (description_view d)) (map description_view (take i ds)) ≡ false
 none_before ds i d apart inside is =

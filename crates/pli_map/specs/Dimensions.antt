@@ -7,13 +7,13 @@ use Rattle.pli_map.specs.Description.{Description, Array}
 use Rattle.pli_map.specs.Sizes.{count_of, stride_of}
 
 -- a dimension of an array: its bounds; how many bytes each number over the low one leads on; and what a place
--- is then, an element behind the last dimension, else the array still
+-- is then, an element after the last dimension, else the array still
 pub record ArrayDimension : Type 0 where
   pub bounds : Bounds
   pub multiplier : ℕ
   pub after : Description
 
--- what a place is behind a subscript, before those of these dimensions
+-- what a place is after a subscript, before those of these dimensions
 abbrev pub left_by : (whole element : Description) → (later : List Bounds) → Description
 left_by whole element [] = element
 left_by whole element (b ∷ bs) = whole

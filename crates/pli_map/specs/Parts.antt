@@ -4,7 +4,7 @@ use Rattle.std.specs.Prelude.{option_map, option_and_then, List, [], ◌∷◌, 
 use Rattle.pli_map.specs.declared.description.Bounds.{Bounds}
 use Rattle.pli_map.specs.Description.{Description, Array, Structure}
 use Rattle.pli_map.specs.Sizes.{count_of, stride_of}
-pub use Rattle.pli_map.specs.PlacedParts.{PlacedPart, member_behind, moved}
+pub use Rattle.pli_map.specs.PlacedParts.{PlacedPart, member_after, moved}
 
 -- a step from a description to a part of it: to a member of a structure, counted from 0, or to the element of
 -- an array at its subscripts
@@ -32,7 +32,7 @@ element_at bounds element xs =
 
 -- the part that one step leads to
 abbrev pub part_at : Description → PathStep → Option PlacedPart
-part_at (Structure members) (Member i) = member_behind 0 members i
+part_at (Structure members) (Member i) = member_after 0 members i
 part_at (Array bounds element) (Element xs) = element_at bounds element xs
 part_at d s = None
 

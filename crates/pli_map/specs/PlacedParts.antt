@@ -4,19 +4,19 @@ use Rattle.std.specs.Int.{next_multiple_of}
 use Rattle.pli_map.specs.Description.{Description, Members, NoMembers, MemberThen}
 use Rattle.pli_map.specs.Sizes.{alignment_of, size_of}
 
--- a part of a description: how many bytes behind its beginning it stands, and what it is
+-- a part of a description: how many bytes after its beginning it stands, and what it is
 pub record PlacedPart : Type 0 where
   pub offset : ℕ
   pub description : Description
 
--- the member of this number, if each stands at its next aligned place behind the one before, and the first
--- behind this byte
-abbrev pub member_behind : ℕ → Members → ℕ → Option PlacedPart
-member_behind at NoMembers i = None
-member_behind at (MemberThen d ds) zero =
+-- the member of this number, if each stands at its next aligned place after the one before, and the first
+-- after this byte
+abbrev pub member_after : ℕ → Members → ℕ → Option PlacedPart
+member_after at NoMembers i = None
+member_after at (MemberThen d ds) zero =
     Some (record { offset = next_multiple_of at (alignment_of d); description = d })
-member_behind at (MemberThen d ds) (suc i) =
-    member_behind (next_multiple_of at (alignment_of d) + size_of d) ds i
+member_after at (MemberThen d ds) (suc i) =
+    member_after (next_multiple_of at (alignment_of d) + size_of d) ds i
 
 -- the same part of what stands this many bytes further
 abbrev pub moved : ℕ → PlacedPart → PlacedPart

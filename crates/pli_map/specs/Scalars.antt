@@ -58,7 +58,7 @@ abbrev mutual
 abbrev pub stands_here : Description → (offset : ℕ) → (part : Description) → Bool
 stands_here whole offset part = nat_eq offset 0 && same whole part
 
--- which scalar of a description is the first of the part that stands so many bytes behind its beginning and
+-- which scalar of a description is the first of the part that stands so many bytes after its beginning and
 -- has this description; none where no such part stands there
 abbrev mutual
   pub first_scalar : Description → (offset : ℕ) → (part : Description) → Option ℕ
@@ -70,16 +70,16 @@ abbrev mutual
       else None
   first_scalar (Structure members) offset part =
       if stands_here (Structure members) offset part then Some 0
-      else scalar_behind 0 members offset part
+      else scalar_after 0 members offset part
   first_scalar scalar offset part = if stands_here scalar offset part then Some 0 else None
 
-  -- the same among members, each at its next aligned place behind the one before, and the first behind this
+  -- the same among members, each at its next aligned place after the one before, and the first after this
   -- byte
-  pub scalar_behind : (at : ℕ) → Members → (offset : ℕ) → (part : Description) → Option ℕ
-  scalar_behind at NoMembers offset part = None
-  scalar_behind at (MemberThen d ds) offset part =
+  pub scalar_after : (at : ℕ) → Members → (offset : ℕ) → (part : Description) → Option ℕ
+  scalar_after at NoMembers offset part = None
+  scalar_after at (MemberThen d ds) offset part =
       if nat_lt offset (next_multiple_of at (alignment_of d) + size_of d)
       then (if nat_lt offset (next_multiple_of at (alignment_of d)) then None
       else first_scalar d (offset - next_multiple_of at (alignment_of d)) part)
       else option_map (λ k. scalars_in d + k)
-      (scalar_behind (next_multiple_of at (alignment_of d) + size_of d) ds offset part)
+      (scalar_after (next_multiple_of at (alignment_of d) + size_of d) ds offset part)

@@ -49,13 +49,13 @@ abbrev mutual
   size_of Offset = 4
   size_of (Area n) = n
   size_of (Array bounds element) = count_of bounds * next_multiple_of (size_of element) (alignment_of element)
-  size_of (Structure members) = end_behind 0 members
+  size_of (Structure members) = end_after 0 members
 
-  -- where the last of these members ends, if each stands at its next aligned place behind the one before, and
-  -- the first behind this byte
-  pub end_behind : ℕ → Members → ℕ
-  end_behind at NoMembers = at
-  end_behind at (MemberThen d ds) = end_behind (next_multiple_of at (alignment_of d) + size_of d) ds
+  -- where the last of these members ends, if each stands at its next aligned place after the one before, and
+  -- the first after this byte
+  pub end_after : ℕ → Members → ℕ
+  end_after at NoMembers = at
+  end_after at (MemberThen d ds) = end_after (next_multiple_of at (alignment_of d) + size_of d) ds
 
 -- from one element of an array to the next
 abbrev pub stride_of : Description → ℕ

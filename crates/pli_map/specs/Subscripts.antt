@@ -1,5 +1,5 @@
 -- The subscripts of a path, those of all levels in turn, and the path to the first element in place of the
--- one that they name (own). A part stands behind that first one by so many bytes for each subscript.
+-- one that they name (own). A part stands after that first one by so many bytes for each subscript.
 use Rattle.std.specs.Prelude.{ℕ, ◌*◌, ◌==◌, Bool, true, ◌&&◌, ℤ, ◌-ℤ◌, ◌≤ℤ◌, unsigned_abs, List, [], ◌∷◌}
 use Rattle.std.specs.Prelude.{◌++◌, map, length, option_map}
 use Rattle.std.specs.Option.{unwrap_or}
@@ -19,12 +19,12 @@ pub record Subscript : Type 0 where
 abbrev pub IsWithin : Subscript → Type 0
 IsWithin s = (s.bounds.low ≤ℤ s.subscript) × (s.subscript ≤ℤ s.bounds.high)
 
--- by how many bytes a subscript leads behind the first element of its dimension
+-- by how many bytes a subscript leads after the first element of its dimension
 abbrev pub bytes_passed : Subscript → ℕ
 bytes_passed s = unsigned_abs (s.subscript -ℤ s.bounds.low) * s.multiplier
 
 -- the subscripts of an array of such bounds, whose elements are so many bytes apart: elements that differ in
--- one dimension alone are apart by as many elements as the dimensions behind it have
+-- one dimension alone are apart by as many elements as the dimensions after it have
 abbrev pub subscripts_in : List Bounds → (stride : ℕ) → List ℤ → List Subscript
 subscripts_in (b ∷ bs) stride (x ∷ xs) =
     record { bounds = b; multiplier = count_of bs * stride; subscript = x } ∷ subscripts_in bs stride xs

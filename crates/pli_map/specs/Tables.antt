@@ -8,7 +8,7 @@ use Rattle.pli_map.specs.Same.{same}
 abbrev pub number_in : List Description → Description → ℕ
 number_in table d = position_or_len (same d) table
 
--- with a description, which stands behind the others where none is equal
+-- with a description, which stands after the others where none is equal
 abbrev pub with_description : List Description → Description → List Description
 with_description table d = if list_any (same d) table then table else table ++ d ∷ []
 

@@ -8,7 +8,7 @@ pub record Variable : Type 0 where
   pub description : Description
   pub initial : List Value
 
--- one that is made before the program begins: by what units know it, if they share it
+-- a static one: by what units know it, if they share it
 pub record GlobalVariable (K : Type 0) : Type 0 where
   pub external : Option K
   pub variable : Variable

@@ -149,7 +149,7 @@ fn are_same_structures(left: &Description, right: &Description) -> bool
     }
 }
 
-/// Whether members are the same scalars, one behind another.
+/// Whether members are the same scalars, one after another.
 #[inline(always)]
 fn are_all_same(left: &[Description], right: &[Description]) -> bool
     ensures { result ≡ true → members_view left.now ≡ members_view right.now }

@@ -34,7 +34,7 @@ pub struct Dimension<'d> {
     pub bounds: Bounds,
     /// How many bytes each number over the low bound leads on; 2^32 stands for every greater number.
     pub multiplier: u64,
-    /// What a place is behind the subscript: an element behind the last dimension, else the array still.
+    /// What a place is after the subscript: an element after the last dimension, else the array still.
     pub after: &'d Description,
 }
 

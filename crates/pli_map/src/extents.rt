@@ -1,6 +1,6 @@
 //! Sizes and counts of any description, up to numbers that stand for every greater one (own).
 ghost use Rattle.std.specs.Prelude.{◌≡◌, ◌*◌, min};
-ghost use Rattle.pli_map.specs.Sizes.{count_of, size_of, stride_of, end_behind};
+ghost use Rattle.pli_map.specs.Sizes.{count_of, size_of, stride_of, end_after};
 ghost use Rattle.pli_map.specs.views.DescriptionView.{description_view, members_view};
 
 use crate::description::{Bounds, Description};
@@ -37,7 +37,7 @@ fn far_array(bounds: &[Bounds], element: &Description) -> u64
 
 #[cycle(far_size)]
 fn far_end(members: &[Description]) -> u64
-    ensures { result ≡ min (end_behind 0 (members_view members.now)) 4294967296 }
+    ensures { result ≡ min (end_after 0 (members_view members.now)) 4294967296 }
 {
     let mut end: u64 = 0;
     for member in members {

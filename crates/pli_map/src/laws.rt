@@ -86,7 +86,7 @@ pub fn filled_parts_take_bytes()
     ensures { FilledPartsTakeBytes }
 {}
 
-/// A law: a part stands behind the first element by what its subscripts, of all levels in turn, pass.
+/// A law: a part stands after the first element by what its subscripts, of all levels in turn, pass.
 #[tactic(auto, using(crate::proofs::SubscriptLawsHold::offsets_are_sums, crate::proofs::SubscriptLawsHold::subscripts_within_lead))]
 pub fn offsets_are_sums()
     ensures sums { OffsetsAreSums }

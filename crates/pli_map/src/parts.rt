@@ -1,8 +1,8 @@
 //! Where the parts of a description stand in it (own).
 ghost use Rattle.std.specs.Prelude.{◌≡◌, ◌≤◌, ◌*◌, min, map, option_map};
-ghost use Rattle.pli_map.specs.Sizes.{count_of, size_of, stride_of, end_behind};
+ghost use Rattle.pli_map.specs.Sizes.{count_of, size_of, stride_of, end_after};
 ghost use Rattle.pli_map.specs.views.DescriptionView.{description_view, members_view};
-ghost use Rattle.pli_map.specs.Parts.{index_of, member_behind, element_at, part_at, place_of};
+ghost use Rattle.pli_map.specs.Parts.{index_of, member_after, element_at, part_at, place_of};
 ghost use Rattle.pli_map.specs.views.PartView.{step_view, part_view};
 
 use crate::description::{Bounds, Description};
@@ -18,7 +18,7 @@ pub enum PathStep {
     Element(Vec<i32>),
 }
 
-/// A part of a description: what it is, and how many bytes behind the beginning of the whole it stands.
+/// A part of a description: what it is, and how many bytes after the beginning of the whole it stands.
 #[derive(Clone, Copy)]
 pub struct PlacedPart<'a> {
     pub offset: u32,
@@ -64,8 +64,8 @@ fn part_of<'a>(description: &'a Description, step: &PathStep) -> Option<PlacedPa
 }
 
 fn member(members: &[Description], number: usize) -> Option<PlacedPart<'_>>
-    requires { end_behind 0 (members_view members.now) ≤ 1000000 }
-    ensures { option_map part_view result ≡ member_behind 0 (members_view members.now) number }
+    requires { end_after 0 (members_view members.now) ≤ 1000000 }
+    ensures { option_map part_view result ≡ member_after 0 (members_view members.now) number }
 {
     if number >= members.len() {
         return None;

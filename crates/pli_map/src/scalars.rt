@@ -4,7 +4,7 @@ ghost use Rattle.std.specs.Prelude.{option_map};
 ghost use Rattle.std.specs.Option.{is_some};
 ghost use Rattle.pli_map.specs.Description.{Array, Structure};
 ghost use Rattle.pli_map.specs.Scalars.{is_aggregate, is_area, is_scalar, scalars_in, scalars_among, stands_here};
-ghost use Rattle.pli_map.specs.Scalars.{first_scalar, scalar_behind};
+ghost use Rattle.pli_map.specs.Scalars.{first_scalar, scalar_after};
 ghost use Rattle.pli_map.specs.Sizes.{alignment_of, count_of, size_of, stride_of};
 ghost use Rattle.pli_map.specs.views.DescriptionView.{description_view, members_view};
 
@@ -73,7 +73,7 @@ fn scalars_among(members: &[Description]) -> usize
     count
 }
 
-/// Which scalar of a description is the first of the part that stands so many bytes behind its beginning and has this
+/// Which scalar of a description is the first of the part that stands so many bytes after its beginning and has this
 /// description; `None` where no such part stands there. 2^64 - 1 stands for every greater number. Takes no memory, and
 /// time for the members that stand before the part.
 #[cycle(first_scalar)]
@@ -99,7 +99,7 @@ fn stands_here(whole: &Description, offset: u32, part: &Description) -> bool
     offset == 0 && whole == part
 }
 
-/// Whether a scalar stands so many bytes behind the beginning of a structure of these members, behind other scalars
+/// Whether a scalar stands so many bytes after the beginning of a structure of these members, after other scalars
 /// alone;
 /// `false` leaves it open. Takes no memory, and time for the members that stand before it.
 pub fn stands_among(members: &[Description], offset: u32, part: &Description) -> bool
@@ -241,7 +241,7 @@ fn divided(offset: u32, stride: u64) -> (u64, u32)
 #[cycle(first_scalar)]
 fn scalar_of_member(members: &[Description], offset: u32, part: &Description) -> Option<usize>
     ensures { result ≡ option_map (λ k. min k 18446744073709551615)
-        (scalar_behind 0 (members_view members.now) offset (description_view part.now)) }
+        (scalar_after 0 (members_view members.now) offset (description_view part.now)) }
 {
     let mut at: u64 = 0;
     let mut before: usize = 0;

@@ -1,7 +1,7 @@
 //! How many bytes a description takes, and on which bytes it may stand (own).
 ghost use Rattle.std.specs.Prelude.{◌≡◌, ◌<◌, ◌≤◌, ◌+◌, ◌*◌, ◌^◌, min, max, SomeIff};
 ghost use Rattle.std.specs.Int.{next_multiple_of};
-ghost use Rattle.pli_map.specs.Sizes.{count_of, alignment_of, greatest_alignment, size_of, end_behind, stride_of};
+ghost use Rattle.pli_map.specs.Sizes.{count_of, alignment_of, greatest_alignment, size_of, end_after, stride_of};
 ghost use Rattle.pli_map.specs.Sizes.{number_bytes};
 ghost use Rattle.pli_map.specs.views.DescriptionView.{description_view, members_view};
 ghost use Rattle.pli_map.specs.Layouts.{IsLayout};
@@ -113,10 +113,10 @@ fn measure_array(bounds: &[Bounds], element: &Description) -> Option<Layout>
     Layout::of(count * u64::from(one.stride()), one.alignment)
 }
 
-/// What members take one behind the other.
+/// What members take one after the other.
 #[cycle(measure)]
 pub fn measure_members(members: &[Description]) -> Option<Layout>
-    ensures { let ds = members_view members.now in IsLayout result (end_behind 0 ds) (greatest_alignment ds) }
+    ensures { let ds = members_view members.now in IsLayout result (end_after 0 ds) (greatest_alignment ds) }
 {
     let mut whole = Layout::empty();
     for member in members {

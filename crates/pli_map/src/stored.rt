@@ -155,7 +155,7 @@ fn load_pointer(bytes: &[u8]) -> Locator
     }
 }
 
-/// As many characters behind a length as it says.
+/// As many characters after a length as it says.
 fn load_varying(bytes: &[u8]) -> &[u8]
     requires { 2 ≤ length bytes.now }
     ensures { result.now ≡ take (big_number 2 bytes.now) (drop 2 bytes.now) }

@@ -1,4 +1,4 @@
--- The bytes that the linker counts are those of the variables that are made before the program begins.
+-- The bytes that the linker counts are those of the static variables.
 use Rattle.std.specs.Prelude.{◌≡◌, ℕ, ◌+◌, ◌*◌, ◌≤◌, nat_lt, Bool, true, false, ◌||◌, Option, Some, None, is_some, List, [], ◌∷◌, ◌++◌, map, length, refl, if◌then◌else◌}
 use Rattle.std.specs.BTreeMap.{insert_entry}
 use Rattle.std.specs.Cmp.Lexicographic.{same_text, slice_cmp}

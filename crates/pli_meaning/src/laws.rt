@@ -11,7 +11,7 @@ pub fn simulates()
     ensures programs { Simulation }
 {}
 
-/// With a step more the output goes on from what it was, and a run that did not end for want of steps is the same.
+/// With a step more the output goes on from what it was, and a run that did not run out of steps is the same.
 pub fn grows()
     ensures members { MembersGrow }
     ensures programs { Growth }

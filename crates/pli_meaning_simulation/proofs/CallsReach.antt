@@ -17,7 +17,7 @@ use Rattle.pli_type_tree.specs.Blocks.{kind_of_procedure}
 use Rattle.pli_type_tree.specs.TypedTree.{Callee, OfBlock, OfEntry, Global, OwnVariable, ExternalVariable, EntryPoint, TypedProcedure, TypedUnit}
 use Rattle.pli_meaning_tree.specs.Effects as effect
 use Rattle.pli_meaning_tree.specs.Effects.{Label, Effect, Lost, Flow, Next, Returned, leaving, procedure_end}
-use Rattle.pli_meaning_tree.specs.TreeMeaning.{Calls, in_order, head_in, static_link, activation_of, does_from, does_list, procedure_run, activates_in, activates, procedure_in, unit_named, entry_unit, activates_outer, activates_unit, activates_entry, called_in, runs_block, runs_unit, raised_in, calls}
+use Rattle.pli_meaning_tree.specs.TreeMeaning.{Calls, in_order, head_in, static_link, activation_of, does_from, does_list, procedure_run, activates_in, activates, procedure_in, unit_named, entry_unit, activates_outer, activates_unit, activates_entry, called_in, runs_block, runs_on_unit, raised_in, calls}
 use Rattle.pli_meaning_simulation.specs.CodeStands.{Context, call_of, block_of, EndStands, ProcedureStands, ProceduresStand, GlobalStands, GlobalsStand, UnitStands, UnitsStand}
 use Rattle.pli_meaning_simulation.proofs.ReachesLemmas.{Fine, calm_kept, calm_fine, stays, from, waiting, frame, flows, resumes, returns, Reaches, gives, keeping, goes}
 use Rattle.pli_meaning_simulation.proofs.ExpressionsReach.{Argument, CallsRun, arguments_above, given_place, given_places, places_come_off, as_long}
@@ -70,17 +70,17 @@ module _ (p : Program) (number : ℕ) (u : UnitCode) (at : Label → ℕ) where
 -- a call that stands in one unit, of a procedure of another one or of the same
 module _ (p : Program) (number : ℕ) (u : UnitCode) (at : Label → ℕ) (other : ℕ) (v : UnitCode) (there : slice_get p.units other ≡ Some v) where
   -- the end of a procedure
-  procedure_end_run : (function_end : Option ℕ) (x : Flow) (finish behind b : ℕ) (ops : List Operand) (again : Bool) → EndStands v other at function_end finish behind → {c : Context} (n l : Locals)
+  procedure_end_run : (function_end : Option ℕ) (x : Flow) (finish after b : ℕ) (ops : List Operand) (again : Bool) → EndStands v other at function_end finish after → {c : Context} (n l : Locals)
       → Fine c l → (fs : List Frame) (w : World) (left : ℕ)
       → Reaches p number u at c (flows p other v finish (waiting p number u b ops l again ∷ fs) n x w left) l (resumes p number u b ops again fs) fs (procedure_end function_end x w left)
-  procedure_end_run None Next finish behind b ops again is n l fine fs w left = gives p number u at None (left_by w) left fine (goes p other v at there is refl)
-  procedure_end_run (Some s) Next finish behind b ops again is n l fine fs w left = record { by = from p (goes p other v at there is.fst refl) (goes p other v at there is.snd refl) }
-  procedure_end_run None (Returned zero None) finish behind b ops again is n l fine fs w left = gives p number u at None (left_by w) left fine (stays p _)
-  procedure_end_run (Some s) (Returned zero None) finish behind b ops again is n l fine fs w left = gives p number u at None (left_by w) left fine (stays p _)
-  procedure_end_run None (Returned zero (Some x)) finish behind b ops again is n l fine fs w left = gives p number u at (Some x) (left_by w) left fine (stays p _)
-  procedure_end_run (Some s) (Returned zero (Some x)) finish behind b ops again is n l fine fs w left = gives p number u at (Some x) (left_by w) left fine (stays p _)
-  procedure_end_run None (Returned (suc d) o) finish behind b ops again is n l fine fs w left = record { by = tt }
-  procedure_end_run (Some s) (Returned (suc d) o) finish behind b ops again is n l fine fs w left = record { by = tt }
+  procedure_end_run None Next finish after b ops again is n l fine fs w left = gives p number u at None (left_by w) left fine (goes p other v at there is refl)
+  procedure_end_run (Some s) Next finish after b ops again is n l fine fs w left = record { by = from p (goes p other v at there is.fst refl) (goes p other v at there is.snd refl) }
+  procedure_end_run None (Returned zero None) finish after b ops again is n l fine fs w left = gives p number u at None (left_by w) left fine (stays p _)
+  procedure_end_run (Some s) (Returned zero None) finish after b ops again is n l fine fs w left = gives p number u at None (left_by w) left fine (stays p _)
+  procedure_end_run None (Returned zero (Some x)) finish after b ops again is n l fine fs w left = gives p number u at (Some x) (left_by w) left fine (stays p _)
+  procedure_end_run (Some s) (Returned zero (Some x)) finish after b ops again is n l fine fs w left = gives p number u at (Some x) (left_by w) left fine (stays p _)
+  procedure_end_run None (Returned (suc d) o) finish after b ops again is n l fine fs w left = record { by = tt }
+  procedure_end_run (Some s) (Returned (suc d) o) finish after b ops again is n l fine fs w left = record { by = tt }
 
   module _ (call : Calls) (calls_run : CallsRun p other v at call) (level : ℕ) (f : TypedProcedure) (is : ProcedureStands v other at f)
       (c : Context) (b : ℕ) (ops : List Operand) (l : Locals) (fine : Fine c l) (fs : List Frame) where
@@ -104,7 +104,7 @@ module _ (p : Program) (number : ℕ) (u : UnitCode) (at : Label → ℕ) (other
         (leaves p number u at other v {d = context p other v at there call calls_run level f is} {to = flows p other v is.finish (calmly ∷ fs)}
         (does_list p.greatest call other level f.head.number f.statements x left) (procedure_end f.function_end) (calm_fine c l fine) refl
         (body_run p other v at there call calls_run level f is (calmly ∷ fs) x left)
-        (λ n fine2 x w left. procedure_end_run f.function_end x is.finish is.behind b ops again is.ends n (calm l) (calm_fine c l fine) fs w left)))))
+        (λ n fine2 x w left. procedure_end_run f.function_end x is.finish is.after b ops again is.ends n (calm l) (calm_fine c l fine) fs w left)))))
 
     -- from the test
     tested_run : (link : Option ℕ) (places : List Place) (w : World) (left : ℕ) (t : Bool) → not f.is_on_unit && nat_eq f.parameters (length places) ≡ t
@@ -142,24 +142,24 @@ abbrev pub IsThere : List TypedUnit → List Name → (Label → ℕ) → (numbe
 IsThere program names at number None us k = Unit
 IsThere program names at number (Some t) us k = (u : UnitCode) × (slice_get us k ≡ Some u) × UnitStands program names at number t u
 
-unit_behind : (program : List TypedUnit) (names : List Name) (at : Label → ℕ) (from : ℕ) (ts : List TypedUnit) (us : List UnitCode) (k number : ℕ) → number ≡ from + k
+unit_after : (program : List TypedUnit) (names : List Name) (at : Label → ℕ) (from : ℕ) (ts : List TypedUnit) (us : List UnitCode) (k number : ℕ) → number ≡ from + k
     → UnitsStand program names at from ts us → IsThere program names at number (slice_get ts k) us k
-unit_behind program names at from [] us zero number is stand = tt
-unit_behind program names at from [] us (suc k) number is stand = tt
-unit_behind program names at from (t ∷ ts) [] k number is stand = absurd stand
-unit_behind program names at from (t ∷ ts) (u ∷ us) zero number is stand =
+unit_after program names at from [] us zero number is stand = tt
+unit_after program names at from [] us (suc k) number is stand = tt
+unit_after program names at from (t ∷ ts) [] k number is stand = absurd stand
+unit_after program names at from (t ∷ ts) (u ∷ us) zero number is stand =
     let first : from ≡ number = omega (arith, is) in
     (u, refl, subst (λ n. UnitStands program names at n t u) first stand.0)
-unit_behind program names at from (t ∷ ts) (u ∷ us) (suc k) number is stand =
-    behind (slice_get ts k) (unit_behind program names at (suc from) ts us k number (omega (arith, is)) stand.1)
+unit_after program names at from (t ∷ ts) (u ∷ us) (suc k) number is stand =
+    after (slice_get ts k) (unit_after program names at (suc from) ts us k number (omega (arith, is)) stand.1)
   where
-    behind : (o : Option TypedUnit) → IsThere program names at number o us k → IsThere program names at number o (u ∷ us) (suc k)
-    behind None h = tt
-    behind (Some t) h = (h.0, h.1, h.2)
+    after : (o : Option TypedUnit) → IsThere program names at number o us k → IsThere program names at number o (u ∷ us) (suc k)
+    after None h = tt
+    after (Some t) h = (h.0, h.1, h.2)
 
 pub unit_there : (program : List TypedUnit) (names : List Name) (at : Label → ℕ) (ts : List TypedUnit) (us : List UnitCode) (k : ℕ) → UnitsStand program names at 0 ts us
     → IsThere program names at k (slice_get ts k) us k
-unit_there program names at ts us k stand = unit_behind program names at 0 ts us k k (omega arith) stand
+unit_there program names at ts us k stand = unit_after program names at 0 ts us k k (omega arith) stand
 
 -- a global of a unit, and its code
 abbrev HasCode : List TypedUnit → List Name → Option Global → List op.GlobalCode → ℕ → Type 0
@@ -171,11 +171,11 @@ global_there program names [] gs zero stand = tt
 global_there program names [] gs (suc n) stand = tt
 global_there program names (x ∷ xs) [] n stand = absurd stand
 global_there program names (x ∷ xs) (g ∷ gs) zero stand = (g, refl, stand.0)
-global_there program names (x ∷ xs) (g ∷ gs) (suc n) stand = behind (slice_get xs n) (global_there program names xs gs n stand.1)
+global_there program names (x ∷ xs) (g ∷ gs) (suc n) stand = after (slice_get xs n) (global_there program names xs gs n stand.1)
   where
-    behind : (o : Option Global) → HasCode program names o gs n → HasCode program names o (g ∷ gs) (suc n)
-    behind None h = tt
-    behind (Some x) h = (h.0, h.1, h.2)
+    after : (o : Option Global) → HasCode program names o gs n → HasCode program names o (g ∷ gs) (suc n)
+    after None h = tt
+    after (Some x) h = (h.0, h.1, h.2)
 
 -- calls in a program
 module _ (p : Program) (units : List TypedUnit) (names : List Name) (at : Label → ℕ) (stand : UnitsStand units names at 0 units p.units) where
@@ -303,10 +303,10 @@ module _ (p : Program) (units : List TypedUnit) (names : List Name) (at : Label 
     raised_run k (Some h) = by (slice_get units h.unit) (unit_there units names at units p.units h.unit stand)
       where
         by : (o : Option TypedUnit) → IsThere units names at h.unit o p.units h.unit
-            → Takes (machine.runs_unit h (slice_get p.units h.unit) waits fs w) (runs_unit p.greatest (calls p.greatest units level) level h o w left)
+            → Takes (machine.runs_on_unit h (slice_get p.units h.unit) waits fs w) (runs_on_unit p.greatest (calls p.greatest units level) level h o w left)
         by None is = record { by = tt }
         by (Some t) is =
-            subst (λ x. Takes (machine.runs_unit h x waits fs w) (runs_unit p.greatest (calls p.greatest units level) level h (Some t) w left)) (sym is.1)
+            subst (λ x. Takes (machine.runs_on_unit h x waits fs w) (runs_on_unit p.greatest (calls p.greatest units level) level h (Some t) w left)) (sym is.1)
             (block_run h t is.0 is.1 is.2)
 
   pub calls_run : (level : ℕ) → AllRun level

@@ -10,7 +10,7 @@ use Rattle.pli_program.specs.Program.{Instruction, UnitCode, Program}
 use Rattle.pli_machine_step.specs.Machine as machine
 use Rattle.pli_machine_step.specs.Machine.{Operand, Locals, Frame, At, Goes, raises, act, resume}
 use Rattle.pli_meaning_tree.specs.Effects as effect
-use Rattle.pli_meaning_tree.specs.Effects.{Label, Gives, Doing, behind_unit, resolved}
+use Rattle.pli_meaning_tree.specs.Effects.{Label, Gives, Doing, after_on_unit, resolved}
 use Rattle.pli_meaning_simulation.specs.CodeStands.{Context, Is}
 use Rattle.pli_meaning_simulation.proofs.ReachesLemmas.{Fine, Kept, Target, stays, waiting, frame, resumes, Reaches, gives, then_reaches, bound, goes}
 
@@ -29,11 +29,11 @@ module _ (p : Program) (number : ℕ) (u : UnitCode) (at : Label → ℕ) where
         → Reaches p number u at c (resume (machine.erring p e k (waiting p number u b ops l again) fs w) left) l to fs (effect.erring raise after e k w left)
     erring_run b ops again after e None fine fs w left f = record { by = stays p _ }
     erring_run {c = c} b ops again {l} {to} after e (Some k) fine fs w left f =
-        bound p number u at {to = resumes p number u b ops again fs} {to2 = to} (raise k w left) (behind_unit after) (raises_run k c b ops l again fs fine w left) behind
+        bound p number u at {to = resumes p number u b ops again fs} {to2 = to} (raise k w left) (after_on_unit after) (raises_run k c b ops l again fs fine w left) later
       where
-        behind : (m : Locals) → Kept c l m → (x : Option Value) (w : World) (left : ℕ) → Reaches p number u at c (resumes p number u b ops again fs m x w left) m to fs (behind_unit after x w left)
-        behind m kept None w left = f m kept.fine w left
-        behind m kept (Some v) w left = record { by = tt }
+        later : (m : Locals) → Kept c l m → (x : Option Value) (w : World) (left : ℕ) → Reaches p number u at c (resumes p number u b ops again fs m x w left) m to fs (after_on_unit after x w left)
+        later m kept None w left = f m kept.fine w left
+        later m kept (Some v) w left = record { by = tt }
 
     module _ (there : slice_get p.units number ≡ Some u) where
       -- an instruction that asks for an operation which may raise a condition; the frame waits elsewhere
@@ -43,13 +43,13 @@ module _ (p : Program) (number : ℕ) (u : UnitCode) (at : Label → ℕ) where
           → ((m : Locals) → Fine c m → (w : World) (left : ℕ)
           → Reaches p number u at c (resumes p number u place ops again fs m None w left) m (λ n x w left. At (frame p number u b (f x) n) fs w left) fs (after w left))
           → Reaches p number u at c (At (frame p number u a old l) fs w left) l (λ m x w left. At (frame p number u b (f x) m) fs w left) fs (effect.handled raise after o left)
-      handled_run place ops again after f (Yields x v) is fine w left h behind = gives p number u at x v left fine (goes p number u at there is (ap (λ m. resume m left) h))
-      handled_run {b = b} {fs = fs} place ops again after f (Raises e v) is fine w left h behind =
+      handled_run place ops again after f (Yields x v) is fine w left h later = gives p number u at x v left fine (goes p number u at there is (ap (λ m. resume m left) h))
+      handled_run {b = b} {fs = fs} place ops again after f (Raises e v) is fine w left h later =
           then_reaches p number u at (goes p number u at there is (ap (λ m. resume m left) h))
-          (erring_run place ops again {to = λ m x w left. At (frame p number u b (f x) m) fs w left} after e (condition_of e) fine fs v left behind)
-      handled_run place ops again after f Wrong is fine w left h behind = record { by = tt }
+          (erring_run place ops again {to = λ m x w left. At (frame p number u b (f x) m) fs w left} after e (condition_of e) fine fs v left later)
+      handled_run place ops again after f Wrong is fine w left h later = record { by = tt }
 
-      -- the frame waits behind the instruction, as if the operation had given this result
+      -- the frame waits after the instruction, as if the operation had given this result
       pub resolved_run : {A : Type 0} {c : Context} {i : Instruction} {a b : ℕ} {old : List Operand} {l : Locals} {fs : List Frame} (f : A → List Operand) (x : A) (o : Answer A) → Is u i a b → Fine c l
           → (w : World) (left : ℕ)
           → act p u (Some i) (frame p number u b old l) fs w ≡ machine.handled p w (frame p number u b (f x) l) fs o (λ y v. Goes (frame p number u b (f y) l) fs v)

@@ -74,7 +74,7 @@ module _ (p : Program) (number : ℕ) (u : UnitCode) where
       by false e = record { locals = l; same = refl; few = omega arith; goes = ap way e }
 
   module _ (at : Label → ℕ) where
-    -- one of two ways behind a test
+    -- one of two ways after a test
     pub chosen_run : {c : Context} {a b q : ℕ} {m : Locals} {fs : List Frame} (t : Bool) (if_true if_false : Doing Flow) (w : World) (left : ℕ)
         → Reaches p number u at c (At (frame p number u a [] m) fs w left) m (flows p number u q fs) fs (if_true w left)
         → Reaches p number u at c (At (frame p number u b [] m) fs w left) m (flows p number u q fs) fs (if_false w left)
@@ -172,7 +172,7 @@ module _ (p : Program) (number : ℕ) (u : UnitCode) where
     step_run go move w zero f = record { by = stays p _ }
     step_run go move w (suc left) f = f left
 
-    -- an operation, and a frame behind it
+    -- an operation, and a frame after it
     pub enters_run : {A : Type 0} {c : Context} {l : Locals} {to : Target A} {fs waiting : List Frame} (here : Frame) (o : Answer Unit) (go : Unit → Doing A) (w : World) (left : ℕ)
         → ((v : World) → Reaches p number u at c (At here waiting v left) l to fs (go tt v left))
         → Reaches p number u at c (resume (given w o (λ _ v. Goes here waiting v)) left) l to fs (and_then (answered o left) go)
@@ -212,21 +212,21 @@ module _ (p : Program) (number : ℕ) (u : UnitCode) where
 
       -- a group's turns: what holds of a frame's own part as long as the temporaries in use stay, holds before each
       module _ (c : Context) (nests : Nests c) (Holds : Locals → Type 0) (stay : (l m : Locals) → Kept c l m → Holds l → Holds m) (fs : List Frame)
-          (test : Doing Bool) (list between : Doing Flow) (first start finish behind q : ℕ)
+          (test : Doing Bool) (list between : Doing Flow) (first start finish after q : ℕ)
           (test_run : (l : Locals) → Fine c l → Holds l → (w : World) (left : ℕ)
           → Reaches p number u at c (At (frame p number u first [] l) fs w left) l (tested p number u start q fs) fs (test w left))
           (list_run : (l : Locals) → Fine c l → Holds l → (w : World) (left : ℕ)
           → Reaches p number u at (deeper c) (At (frame p number u start [] l) fs w left) l (flows p number u finish fs) fs (list w left))
           (between_run : (l : Locals) → Fine (deeper c) l → Holds l → (w : World) (left : ℕ)
-          → Reaches p number u at (deeper c) (At (frame p number u finish [] l) fs w left) l (flows p number u behind fs) fs (between w left))
-          (back : Is u (op.Jump first) behind q) where
+          → Reaches p number u at (deeper c) (At (frame p number u finish [] l) fs w left) l (flows p number u after fs) fs (between w left))
+          (back : Is u (op.Jump first) after q) where
         inner : WithinContext (deeper c) c
         inner = deeper_within c nests
 
         -- the jump back
         back_run : {A : Type 0} {to : Target A} {o : Effect A} (l : Locals) → Fine (deeper c) l → (w : World) (left : ℕ)
             → ((m : Locals) → Kept c l m → Reaches p number u at c (At (frame p number u first [] m) fs w left) m to fs o)
-            → Reaches p number u at c (At (frame p number u behind [] l) fs w left) l to fs o
+            → Reaches p number u at c (At (frame p number u after [] l) fs w left) l to fs o
         back_run l fine w left f =
             let j = hops first q [] l fs w (let a = fine.few in let b = nests.most in let d = nests.least in omega arith) in
             let k : Kept c l j.locals =
@@ -243,7 +243,7 @@ module _ (p : Program) (number : ℕ) (u : UnitCode) where
             bound p number u at {to = tested p number u start q fs} {to2 = flows p number u q fs} (test w left) _ (test_run l fine h w left)
             (λ m k t w left. chosen_run t (λ w left. followed (list w left) (λ w left. followed (between w left) (turns level test list between))) nothing_done w left
             (goes_on_in p number u at {a = finish} {b = q} inner (list w left) _ (list_run m k.fine (stay l m k h) w left)
-            (λ n kn w left. goes_on_in p number u at {a = behind} {b = q} inner (between w left) _
+            (λ n kn w left. goes_on_in p number u at {a = after} {b = q} inner (between w left) _
             (between_run n kn.fine (stay m n (kept_out (deeper c) c m n inner kn) (stay l m k h)) w left)
             (λ o ko w left. back_run o ko.fine w left
             (λ i ki. turns_run level i ki.fine (stay o i ki (stay n o (kept_out (deeper c) c n o inner ko) (stay m n (kept_out (deeper c) c m n inner kn) (stay l m k h)))) w left))))

@@ -49,24 +49,24 @@ abbrev pub arguments_above : List Argument → List Operand → List Operand
 arguments_above [] ops = ops
 arguments_above (g ∷ gs) ops = given_operand g ∷ arguments_above gs ops
 
-values_come_off : (vs behind : List Value) (ops : List Operand) → values_off (length vs) behind (values_above vs ops) ≡ Some (in_order vs behind, ops)
-values_come_off [] behind ops = refl
-values_come_off (v ∷ vs) behind ops = values_come_off vs (v ∷ behind) ops
+values_come_off : (vs after : List Value) (ops : List Operand) → values_off (length vs) after (values_above vs ops) ≡ Some (in_order vs after, ops)
+values_come_off [] after ops = refl
+values_come_off (v ∷ vs) after ops = values_come_off vs (v ∷ after) ops
 
-pub places_come_off : (gs : List Argument) (behind : List Place) (ops : List Operand)
-    → places_off (length gs) behind (arguments_above gs ops) ≡ Some (in_order (given_places gs) behind, ops)
-places_come_off [] behind ops = refl
-places_come_off (OfReference p ∷ gs) behind ops = places_come_off gs (p ∷ behind) ops
-places_come_off (OfDummy p ∷ gs) behind ops = places_come_off gs (p ∷ behind) ops
+pub places_come_off : (gs : List Argument) (after : List Place) (ops : List Operand)
+    → places_off (length gs) after (arguments_above gs ops) ≡ Some (in_order (given_places gs) after, ops)
+places_come_off [] after ops = refl
+places_come_off (OfReference p ∷ gs) after ops = places_come_off gs (p ∷ after) ops
+places_come_off (OfDummy p ∷ gs) after ops = places_come_off gs (p ∷ after) ops
 
-pub as_long : {A : Type 0} (xs behind : List A) → length (in_order xs behind) ≡ length xs + length behind
-as_long [] behind = omega arith
-as_long (x ∷ xs) behind = let e = as_long xs (x ∷ behind) in omega arith
+pub as_long : {A : Type 0} (xs after : List A) → length (in_order xs after) ≡ length xs + length after
+as_long [] after = omega arith
+as_long (x ∷ xs) after = let e = as_long xs (x ∷ after) in omega arith
 
 -- more values than one are not fitted
-many_misfit : (greatest : ℕ) (d : Description) (vs : List Value) (v w : Value) (behind : List Value) → comes_to greatest (Fit d) (in_order vs (v ∷ w ∷ behind)) ≡ Misfits
-many_misfit greatest d [] v w behind = refl
-many_misfit greatest d (x ∷ vs) v w behind = many_misfit greatest d vs x v (w ∷ behind)
+many_misfit : (greatest : ℕ) (d : Description) (vs : List Value) (v w : Value) (after : List Value) → comes_to greatest (Fit d) (in_order vs (v ∷ w ∷ after)) ≡ Misfits
+many_misfit greatest d [] v w after = refl
+many_misfit greatest d (x ∷ vs) v w after = many_misfit greatest d vs x v (w ∷ after)
 
 module _ (p : Program) (number : ℕ) (u : UnitCode) (at : Label → ℕ) where
   -- a call does what it means, from its instruction on; and so does a condition that is raised

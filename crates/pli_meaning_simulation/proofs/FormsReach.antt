@@ -48,7 +48,7 @@ module _ (p : Program) (number : ℕ) (u : UnitCode) (at : Label → ℕ) where
         (l : Locals) → Fine c l → (fs : List Frame) (w : World) (left : ℕ)
         → Reaches p number u at c (At (frame p number u a [] l) fs w left) l (flows p number u b fs) fs (go w left)
 
-    -- behind the step of a statement
+    -- after the step of a statement
     abbrev pub RunsCalm : Context → Doing Flow → (a b : ℕ) → Type 0
     RunsCalm c go a b =
         (l : Locals) → Fine c l → l.jumps ≡ 0 → (fs : List Frame) (w : World) (left : ℕ)
@@ -78,7 +78,7 @@ module _ (p : Program) (number : ℕ) (u : UnitCode) (at : Label → ℕ) where
     no_value_run (Some v) l fine fs w left = record { by = tt }
 
     -- the end of a BEGIN block
-    pub block_end_run : (x : Flow) {finish behind b : ℕ} → Is u (op.Return 0) finish behind → {c : Context} (n l : Locals) → Fine c l → (fs : List Frame) (w : World) (left : ℕ)
+    pub block_end_run : (x : Flow) {finish after b : ℕ} → Is u (op.Return 0) finish after → {c : Context} (n l : Locals) → Fine c l → (fs : List Frame) (w : World) (left : ℕ)
         → Reaches p number u at c (flows p number u finish (frame p number u b [] l ∷ fs) n x w left) l (flows p number u b fs) fs (block_end x w left)
     block_end_run Next is n l fine fs w left = gives p number u at Next (left_by w) left fine (goes p number u at there is refl)
     block_end_run (Returned zero v) is n l fine fs w left = record { by = tt }
@@ -219,7 +219,7 @@ module _ (p : Program) (number : ℕ) (u : UnitCode) (at : Label → ℕ) where
           → ((x y : ℕ) → list (deeper c) x y → Runs (deeper c) run x y)
           → Runs c (turns level (back_at n (condition p.greatest call e)) (as_statement n run) nothing_done) a b
       while_run n e list run {c} {a} {b} nests is body l fine fs w left =
-          turns_run p number u at there c nests (λ _. Unit) (λ l m k h. tt) fs (back_at n (condition p.greatest call e)) (as_statement n run) nothing_done a is.start is.finish is.behind b
+          turns_run p number u at there c nests (λ _. Unit) (λ l m k h. tt) fs (back_at n (condition p.greatest call e)) (as_statement n run) nothing_done a is.start is.finish is.after b
           (λ l fine h w left. then_reaches p number u at (goes p number u at there is.holds.fst refl) (condition_run e is.holds.snd l fine fs (at_statement n w) left))
           (λ l fine h w left. begins p number u at there run is.does.fst (turn_kept c l nests fine)
           (λ w left. body is.does.middle is.finish is.does.snd (calm l) (turn_kept c l nests fine).fine fs w left) w left)

@@ -145,10 +145,10 @@ module _ (p : Program) (number : ℕ) (u : UnitCode) (at : Label → ℕ) (there
         → Reaches p number u at (deeper c) (At (frame p number u x [] l) fs w left) l (flows p number u y fs) fs (between w left))
         → Does (turned p.greatest call iterated level (may_turn p.greatest call i vs) run between) a b
     turned_run true list B run between {a} {b} is list_runs between_runs l fine h fs w left =
-        turns_run p number u at there c is.0 Has stay fs (may_turn p.greatest call i vs) run between a is.1.start is.1.finish is.1.behind b
+        turns_run p number u at there c is.0 Has stay fs (may_turn p.greatest call i vs) run between a is.1.start is.1.finish is.1.after b
         (λ l fine h w left. may_turn_run b a is.1.start is.1.holds l fine h fs w left)
         (λ l fine h w left. list_runs (deeper c) is.1.start is.1.finish is.1.does l (turn_kept c l is.0 fine) fs w left)
-        (λ l fine h w left. between_runs is.1.finish is.1.behind is.1.does_between l fine h fs w left)
+        (λ l fine h w left. between_runs is.1.finish is.1.after is.1.does_between l fine h fs w left)
         is.1.back level l fine h w left
     turned_run false list B run between {a} {b} is list_runs between_runs l fine h fs w left =
         bound p number u at {to = tested p number u is.start b fs} {to2 = flows p number u b fs} (may_turn p.greatest call i vs w left) _ (may_turn_run b a is.start is.holds l fine h fs w left)

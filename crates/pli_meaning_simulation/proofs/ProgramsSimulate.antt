@@ -72,26 +72,26 @@ module _ (p : Program) where
 
   module _ (number : ℕ) (u : UnitCode) (at : Label → ℕ) (there : slice_get p.units number ≡ Some u) where
     -- the end of the main procedure
-    end_run : (function_end : Option ℕ) (x : Flow) (finish behind : ℕ) → EndStands u number at function_end finish behind → (l : Locals) (w : World) (left : ℕ)
+    end_run : (function_end : Option ℕ) (x : Flow) (finish after : ℕ) → EndStands u number at function_end finish after → (l : Locals) (w : World) (left : ℕ)
         → Ends (flows p number u finish [] l x w left) (procedure_end function_end x w left)
-    end_run None Next finish behind is l w left = goes p number u at there is refl
-    end_run (Some s) Next finish behind is l w left = from p (goes p number u at there is.fst refl) (goes p number u at there is.snd refl)
-    end_run None (Returned zero None) finish behind is l w left = stays p _
-    end_run (Some s) (Returned zero None) finish behind is l w left = stays p _
-    end_run None (Returned zero (Some v)) finish behind is l w left = tt
-    end_run (Some s) (Returned zero (Some v)) finish behind is l w left = tt
-    end_run None (Returned (suc d) v) finish behind is l w left = tt
-    end_run (Some s) (Returned (suc d) v) finish behind is l w left = tt
+    end_run None Next finish after is l w left = goes p number u at there is refl
+    end_run (Some s) Next finish after is l w left = from p (goes p number u at there is.fst refl) (goes p number u at there is.snd refl)
+    end_run None (Returned zero None) finish after is l w left = stays p _
+    end_run (Some s) (Returned zero None) finish after is l w left = stays p _
+    end_run None (Returned zero (Some v)) finish after is l w left = tt
+    end_run (Some s) (Returned zero (Some v)) finish after is l w left = tt
+    end_run None (Returned (suc d) v) finish after is l w left = tt
+    end_run (Some s) (Returned (suc d) v) finish after is l w left = tt
 
-    main_leaves : (function_end : Option ℕ) (finish behind : ℕ) → EndStands u number at function_end finish behind → {c : Context} {s : State} {l : Locals} (o : Effect Flow)
+    main_leaves : (function_end : Option ℕ) (finish after : ℕ) → EndStands u number at function_end finish after → {c : Context} {s : State} {l : Locals} (o : Effect Flow)
         → Reaches p number u at c s l (flows p number u finish []) [] o → Ends s (leaving o (procedure_end function_end))
-    main_leaves function_end finish behind is {s = s} (Gives x w left) r =
-        ends_from s (flows p number u finish [] r.by.locals x w left) (procedure_end function_end x w left) r.by.comes (end_run function_end x finish behind is r.by.locals w left)
-    main_leaves function_end finish behind is {s = s} (Jumps h k w left) r = ends_lost s h k (left_by w) left (nat_eq h (height w))
-    main_leaves function_end finish behind is (Fails e w) r = r.by
-    main_leaves function_end finish behind is (Spent w) r = r.by
-    main_leaves function_end finish behind is Lost r = tt
-    main_leaves function_end finish behind is Short r = tt
+    main_leaves function_end finish after is {s = s} (Gives x w left) r =
+        ends_from s (flows p number u finish [] r.by.locals x w left) (procedure_end function_end x w left) r.by.comes (end_run function_end x finish after is r.by.locals w left)
+    main_leaves function_end finish after is {s = s} (Jumps h k w left) r = ends_lost s h k (left_by w) left (nat_eq h (height w))
+    main_leaves function_end finish after is (Fails e w) r = r.by
+    main_leaves function_end finish after is (Spent w) r = r.by
+    main_leaves function_end finish after is Lost r = tt
+    main_leaves function_end finish after is Short r = tt
 
     module _ (call : Calls) (run : CallsRun p number u at call) (level : ℕ) (f : TypedProcedure) (is : ProcedureStands u number at f) where
       -- its activation
@@ -99,7 +99,7 @@ module _ (p : Program) where
           → Ends (resume (given before o (λ _ v. Goes (first p number u at there call run level f is) [] v)) left)
           (and_then (answered o left) (λ _ w left. leaving (does_list p.greatest call number level f.head.number f.statements w left) (procedure_end f.function_end)))
       activation_ends before (Yields x v) left =
-          main_leaves f.function_end is.finish is.behind is.ends (does_list p.greatest call number level f.head.number f.statements v left)
+          main_leaves f.function_end is.finish is.after is.ends (does_list p.greatest call number level f.head.number f.statements v left)
           (body_run p number u at there call run level f is [] v left)
       activation_ends before (Raises e v) left = stays p _
       activation_ends before Wrong left = tt
@@ -152,7 +152,7 @@ module _ (p : Program) where
       subst (λ x. Ends (resume (main_unit number x w) left) (unit_run p.greatest (calls p.greatest program level) level number (Some t) w left)) (sym is.1)
       (block_ends program names at all number is.0 is.1 t is.2 level w left)
 
-  -- behind the variables that are made once
+  -- after the variables that are made once
   program_ends : (o : Answer Unit) (units : List TypedUnit) (names : List Name) (at : Label → ℕ) → UnitsStand units names at 0 units p.units → (steps : ℕ)
       → Ends (resume (given nothing o (λ _ w. main_unit p.main (slice_get p.units p.main) w)) steps)
       (and_then (answered o steps) (λ _ w left. unit_run p.greatest (calls p.greatest units (suc steps)) (suc steps) p.main (slice_get units p.main) w left))

@@ -74,7 +74,7 @@ module _ (p : Program) where
   arrives_from c a = record { locals = a.locals; kept = a.kept; comes = from c a.comes }
 
 module _ (p : Program) (number : ℕ) (u : UnitCode) where
-  -- a frame of the unit that waits, and behind an ON-unit executes an instruction again or not
+  -- a frame of the unit that waits, and after an ON-unit executes an instruction again or not
   abbrev pub waiting : (next : ℕ) → List Operand → Locals → (again : Bool) → Frame
   waiting next ops l again = record { unit = number; next = next; operands = ops; locals = l; again = again }
 
@@ -106,7 +106,7 @@ module _ (p : Program) (number : ℕ) (u : UnitCode) where
   resumes b ops again fs l None w left = resume (machine.goes_on again (waiting b ops l again) fs w) left
   resumes b ops again fs l (Some v) w left = resume (machine.goes_on again (waiting b (OfValue v ∷ ops) l again) fs w) left
 
-  -- to the place behind a call
+  -- to the place after a call
   abbrev pub returns : (place : ℕ) (ops : List Operand) (frames : List Frame) → Target (Option Value)
   returns b ops fs = resumes b ops false fs
 

@@ -1,4 +1,4 @@
--- The variables that are made before the program begins are the same, whether units know the external ones by name, as
+-- The static variables are the same, whether units know the external ones by name, as
 -- trees do, or by number, as code does.
 use Rattle.std.specs.Prelude.{◌≡◌, ℕ, suc, ◌+◌, ◌<◌, ◌≤◌, nat_eq, Bool, true, false, cond, Some, None, List, [], ◌∷◌, ◌++◌, map, position, refl}
 use Rattle.std.specs.Cmp.Lexicographic.{nat_list_eq_equiv}
@@ -21,9 +21,9 @@ use Rattle.pli_meaning_tree.specs.TreeMeaning.{all_made}
 use Rattle.pli_meaning_simulation.specs.CodeStands.{GlobalsStand, UnitsStand}
 
 -- names have numbers from one on
-number_behind : (name : Name) (names : List Name) (first number : ℕ) → position_from (same_name name) first names ≡ Some number → first ≤ number
-number_behind name [] first number e = absurd (cc)
-number_behind name (other ∷ names) first number e = by (same_name name other) e (number_behind name names (first + 1) number)
+number_after : (name : Name) (names : List Name) (first number : ℕ) → position_from (same_name name) first names ≡ Some number → first ≤ number
+number_after name [] first number e = absurd (cc)
+number_after name (other ∷ names) first number e = by (same_name name other) e (number_after name names (first + 1) number)
   where
     by : (b : Bool) → cond b (Some first) (position_from (same_name name) (first + 1) names) ≡ Some number → (position_from (same_name name) (first + 1) names ≡ Some number → first + 1 ≤ number) → first ≤ number
     by true e rest = let same : first ≡ number = cc in omega (arith, same)
@@ -53,10 +53,10 @@ numbers_decide a b (name ∷ names) first k l e f = by (same_name a name) (same_
     by true true is it e f rest = let one : first ≡ k = cc in let two : first ≡ l = cc in eq-eqb k l (sym one ∙ two) ∙ sym (alike is ∙ it)
     by true false is it e f rest =
         let one : first ≡ k = cc in
-        (apart k l (omega (arith, one, number_behind b names (first + 1) l f))).0 ∙ sym (alike is ∙ it)
+        (apart k l (omega (arith, one, number_after b names (first + 1) l f))).0 ∙ sym (alike is ∙ it)
     by false true is it e f rest =
         let two : first ≡ l = cc in
-        (apart l k (omega (arith, two, number_behind a names (first + 1) k e))).1
+        (apart l k (omega (arith, two, number_after a names (first + 1) k e))).1
         ∙ sym (nat_list_eq_equiv.symm a b ∙ nat_list_eq_equiv.congr b name a it ∙ nat_list_eq_equiv.symm name a ∙ is)
     by false false is it e f rest = rest e f
 
@@ -92,7 +92,7 @@ module _ (names : List Name) where
       ∙ ap (λ s. cond (same_name name x.0) (Some s) (lookup (nat_eq number) ys)) all.1
       ∙ ap (cond (same_name name x.0) (Some x.1)) (found_same xs ys all.2 name number is)
 
-  -- what is made then, behind the variables of a unit
+  -- what is made then, after the variables of a unit
   module _ (by_number : List (ℕ × Standing) → World → Answer Unit) (by_name : List (Name × Standing) → World → Answer Unit)
       (alike : (xs : List (Name × Standing)) (ys : List (ℕ × Standing)) → AreShared xs ys → (w : World) → by_number ys w ≡ by_name xs w) where
     once_same : (o : Answer Standing) (f : Standing → World → Answer (List (ℕ × Standing))) (g : Standing → World → Answer (List (Name × Standing)))

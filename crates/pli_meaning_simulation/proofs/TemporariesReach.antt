@@ -44,7 +44,7 @@ set_kept t c v m fine =
     }
 
 module _ (p : Program) (number : ℕ) (u : UnitCode) (at : Label → ℕ) (there : slice_get p.units number ≡ Some u) where
-  -- what runs behind has one more in use
+  -- what runs after it has one more in use
   pub set_run : {A : Type 0} {to : Target A} {a b : ℕ} (c : Context) (t : ℕ) (v : Value) → Is u (op.SetTemporary t) a b → (ops : List Operand) (m : Locals)
       → Fine (using t c) m → suc t ≤ c.size → (fs : List Frame) (w : World) (left : ℕ) (o : Effect A)
       → ((n : Locals) → Kept (using t c) m n → slice_get n.temporaries t ≡ Some (Some v) → Reaches p number u at (using (suc t) c) (At (frame p number u b ops n) fs w left) n to fs o)

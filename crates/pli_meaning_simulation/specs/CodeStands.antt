@@ -240,13 +240,13 @@ module _ (u : UnitCode) where
 
   -- forms with jumps
 
-  -- a test that jumps behind a part unless it holds, and the part
+  -- a test that jumps after a part unless it holds, and the part
   pub record Guarded (test : (target : ℕ) → Span) (part : Span) (p q : ℕ) : Type 0 where
     pub start : ℕ
     pub holds : test q p start
     pub does : part start q
 
-  -- and with another part behind it
+  -- and with another part after it
   pub record Choice (test : (target : ℕ) → Span) (part other : Span) (p q : ℕ) : Type 0 where
     pub start : ℕ
     pub finish : ℕ
@@ -261,11 +261,11 @@ module _ (u : UnitCode) where
   pub record Loop (test : (target : ℕ) → Span) (list between : Span) (p q : ℕ) : Type 0 where
     pub start : ℕ
     pub finish : ℕ
-    pub behind : ℕ
+    pub after : ℕ
     pub holds : test q p start
     pub does : list start finish
-    pub does_between : between finish behind
-    pub back : Is (op.Jump p) behind q
+    pub does_between : between finish after
+    pub back : Is (op.Jump p) after q
 
   -- a string is put where the place of one is, fitted to that
   abbrev pub StringStands : TypedReference → TypedExpression → Span
@@ -344,9 +344,9 @@ module _ (u : UnitCode) where
     pub bound : ℕ
     pub some : 1 ≤ bound
     pub finish : ℕ
-    pub behind : ℕ
+    pub after : ℕ
     pub does : list (record { size = temporaries; depth = 0; bound = bound }) entry finish
-    pub ends : end finish behind
+    pub ends : end finish after
 
   -- a BEGIN block of a block
   pub record BeginStands (head : BlockHead) (parent : ℕ) (list : Context → Span) (p q : ℕ) : Type 0 where

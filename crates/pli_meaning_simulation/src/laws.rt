@@ -9,7 +9,7 @@ pub fn simulates()
     ensures no_fault { NoFault }
 {}
 
-/// With a step more the output of a program goes on from what it was, and a run that did not end for want of steps is
+/// With a step more the output of a program goes on from what it was, and a run that did not run out of steps is
 /// the same.
 pub fn goes_on()
     ensures { Growth }

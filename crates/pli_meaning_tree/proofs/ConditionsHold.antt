@@ -33,9 +33,9 @@ pub names_are_of_on : example.NamesAreOfOn
 unfolding calculated nothing made_of parts_held parts_stored held stored entered left_by cleared at_statement stepped height_of slot_place static_place dummy_of printed error_at established reverted digits
 names_are_of_on = refl
 
-pub zero_stands_behind : example.ZeroStandsBehind
+pub zero_stands_after : example.ZeroStandsAfter
 unfolding calculated nothing made_of parts_held parts_stored held stored entered left_by cleared at_statement stepped height_of slot_place static_place dummy_of printed error_at established reverted digits
-zero_stands_behind = refl
+zero_stands_after = refl
 
 pub zero_divide_unit : example.ZeroDivideUnit
 unfolding calculated nothing made_of parts_held parts_stored held stored entered left_by cleared at_statement stepped height_of slot_place static_place dummy_of printed error_at established reverted digits

@@ -91,25 +91,25 @@ just operation = performed operation >>= λ _. nothing_done
 
 -- conditions
 
--- an ON-unit gives no value; behind its return this is done
-abbrev pub behind_unit : {A : Type 0} → (after : Doing A) → Option Value → Doing A
-behind_unit after None w left = after w left
-behind_unit after (Some v) w left = Lost
+-- an ON-unit gives no value; after its return this is done
+abbrev pub after_on_unit : {A : Type 0} → (after : Doing A) → Option Value → Doing A
+after_on_unit after None w left = after w left
+after_on_unit after (Some v) w left = Lost
 
--- an error ends the run, unless it is a condition, which is raised so; and behind that this is done
+-- an error ends the run, unless it is a condition, which is raised so; and after that this is done
 abbrev pub erring : {A : Type 0} → (raise : Condition → Doing (Option Value)) → (after : Doing A) → RunError
     → Option Condition → Doing A
 erring raise after e None w left = Fails (error_at e w) w
-erring raise after e (Some c) w left = and_then (raise c w left) (behind_unit after)
+erring raise after e (Some c) w left = and_then (raise c w left) (after_on_unit after)
 
--- what an operation gives that may raise a condition, behind which this is done
+-- what an operation gives that may raise a condition, after which this is done
 abbrev pub handled : {A : Type 0} → (raise : Condition → Doing (Option Value)) → (after : Doing A) → Answer A
     → (left : ℕ) → Effect A
 handled raise after (Yields x w) left = Gives x w left
 handled raise after (Raises e w) left = erring raise after e (condition_of e) w left
 handled raise after Wrong left = Lost
 
--- the same, where behind a condition this result stands
+-- the same, where after a condition this result stands
 abbrev pub resolved : {A : Type 0} → (raise : Condition → Doing (Option Value)) → (result : A) → Answer A
     → (left : ℕ) → Effect A
 resolved raise x o left = handled raise (λ w left. Gives x w left) o left
@@ -177,13 +177,13 @@ leaving (Spent w) go = Spent w
 leaving Lost go = Lost
 leaving Short go = Short
 
--- a BEGIN block ends behind its last statement, or by the RETURN of its procedure
+-- a BEGIN block ends after its last statement, or by the RETURN of its procedure
 abbrev pub block_end : Flow → Doing Flow
 block_end Next w left = Gives Next (left_by w) left
 block_end (Returned zero v) w left = Lost
 block_end (Returned (suc outward) v) w left = Gives (Returned outward v) (left_by w) left
 
--- a procedure ends by RETURN, or behind its last statement with no value; a function that reaches its END is
+-- a procedure ends by RETURN, or after its last statement with no value; a function that reaches its END is
 -- in error there
 abbrev pub procedure_end : (function_end : Option ℕ) → Flow → Doing (Option Value)
 procedure_end None Next w left = Gives None (left_by w) left

@@ -82,9 +82,9 @@ no_value None w left = Gives Next w left
 no_value (Some v) w left = Lost
 
 -- a list of which the last stands first, in its order, before these
-abbrev pub in_order : {A : Type 0} → (last_first behind : List A) → List A
-in_order [] behind = behind
-in_order (x ∷ xs) behind = in_order xs (x ∷ behind)
+abbrev pub in_order : {A : Type 0} → (last_first after : List A) → List A
+in_order [] after = after
+in_order (x ∷ xs) after = in_order xs (x ∷ after)
 
 -- a subscript is a number, tested against its bounds
 abbrev pub element_of : (low high : ℤ) (multiplier : ℕ) → Place → Value → Doing Place
@@ -105,11 +105,11 @@ printed_item v w left = Lost
 
 -- expressions and references, with numbers of at most so many digits, where calls do so
 module _ (greatest : ℕ) (call : Calls) where
-  -- what an operation gives that may raise a condition; 0 behind that
+  -- what an operation gives that may raise a condition; 0 after that
   abbrev pub or_zero : (World → Answer Value) → Doing Value
   or_zero operation w left = resolved call.condition (Number (pos 0)) (operation w) left
 
-  -- what it does; nothing behind that
+  -- what it does; nothing after that
   abbrev pub or_nothing : (World → Answer Unit) → Doing Flow
   or_nothing operation = (λ w left. resolved call.condition tt (operation w) left) >>= λ _. nothing_done
 
@@ -127,7 +127,7 @@ module _ (greatest : ℕ) (call : Calls) where
     value_of (Bounded which dimension r) = do p ← place_of r; performed (bound_of_place which dimension p)
 
     -- an operation on its operands, which are evaluated from left to right; those before, the last first; it
-    -- gives 0 behind a condition
+    -- gives 0 after a condition
     pub operated : TypedOperation → Operands → (before : List Value) → Doing Value
     operated operation NoOperand before =
         or_zero (calculation (comes_to greatest operation (in_order before [])))
@@ -195,7 +195,7 @@ module _ (greatest : ℕ) (call : Calls) where
   assigns_aggregate target source = do p ← place_of target; q ← place_of source; just (copied q p)
 
   -- of an area: the target's place, the source's, then the blocks of the source are put at the target, which
-  -- stays as it is behind the condition that they have no room
+  -- stays as it is after the condition that they have no room
   abbrev pub assigns_area : (target source : TypedReference) → Doing Flow
   assigns_area target source = do p ← place_of target; q ← place_of source; or_nothing (assigned q p)
 
@@ -298,7 +298,7 @@ module _ (greatest : ℕ) (call : Calls) where
       >> turned (is_iterated i.range) level (may_turn i vs) (as_statement number list)
       (back_at number (advances i.range i vs)))
 
-  -- a block of an area for a variable: the area is evaluated and has room for the block; behind the condition
+  -- a block of an area for a variable: the area is evaluated and has room for the block; after the condition
   -- that it has none this is done again, which is a step
   abbrev pub block_allocated : (level : ℕ) → (area : TypedReference) → Variable → Doing Value
   block_allocated zero area v w left = Short
@@ -335,7 +335,7 @@ module _ (greatest : ℕ) (call : Calls) where
   frees [] = nothing_done
   frees (item ∷ items) = frees_item item >> frees items
 
-  -- SIGNAL: the condition is raised, and behind its unit it goes on
+  -- SIGNAL: the condition is raised, and after its unit it goes on
   abbrev pub signals : Condition → Doing Flow
   signals c = or_nothing (signalled c)
 
@@ -535,10 +535,10 @@ runs_block greatest call level h (Some f) w left =
     unless_full (procedure_run greatest call level h.unit f h.link []) w left
 
 -- that of a unit of the program
-abbrev pub runs_unit : (greatest : ℕ) → (call : (unit : ℕ) → TypedUnit → Calls) → (level : ℕ) → Handler
+abbrev pub runs_on_unit : (greatest : ℕ) → (call : (unit : ℕ) → TypedUnit → Calls) → (level : ℕ) → Handler
     → Option TypedUnit → Doing (Option Value)
-runs_unit greatest call level h None w left = Lost
-runs_unit greatest call level h (Some u) w left =
+runs_on_unit greatest call level h None w left = Lost
+runs_on_unit greatest call level h (Some u) w left =
     runs_block greatest (call h.unit u) level h (procedure_in u.procedures h.block) w left
 
 -- a condition that is raised: the ON-unit that takes it runs; without one the run ends by its error
@@ -546,7 +546,7 @@ abbrev pub raised_in : (greatest : ℕ) → List TypedUnit → (call : (unit : �
     → (level : ℕ) → Condition → Option Handler → Doing (Option Value)
 raised_in greatest us call level c None w left = Fails (error_at (error_of c) w) w
 raised_in greatest us call level c (Some h) w left =
-    runs_unit greatest call level h (slice_get us h.unit) w left
+    runs_on_unit greatest call level h (slice_get us h.unit) w left
 
 -- the calls and the conditions that stand in a unit, at a level: what is called inside may do is the level
 -- below
@@ -562,7 +562,7 @@ calls greatest us (suc level) unit u =
 
 -- programs
 
--- the variables of units, numbered from one on, that are there before the program begins, where these
+-- the static variables of units, numbered from one on, where these
 -- external ones are there already
 abbrev pub all_made : (unit : ℕ) → List TypedUnit → (shared : List (Name × Standing)) → World → Answer Unit
 all_made unit [] shared w = Yields tt w

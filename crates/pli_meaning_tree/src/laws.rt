@@ -4,7 +4,7 @@ ghost use Rattle.pli_meaning_tree.specs.examples.AreaExamples.{OutsideAreaNamed,
 ghost use Rattle.pli_meaning_tree.specs.examples.AreaExamples.{NoAreaIsError};
 ghost use Rattle.pli_meaning_tree.specs.examples.ConditionExamples.{RevertRemoves, UnitIsSteps, UnitStays};
 ghost use Rattle.pli_meaning_tree.specs.examples.ConditionExamples.{UnitsAreMany};
-ghost use Rattle.pli_meaning_tree.specs.examples.ConditionExamples.{SecondTakesPlace, NamesAreOfOn, ZeroStandsBehind};
+ghost use Rattle.pli_meaning_tree.specs.examples.ConditionExamples.{SecondTakesPlace, NamesAreOfOn, ZeroStandsAfter};
 ghost use Rattle.pli_meaning_tree.specs.examples.ConditionExamples.{ZeroDivideUnit, NewestUnit, CounterOverflows};
 ghost use Rattle.pli_meaning_tree.specs.examples.ConditionExamples.{AllocateIsRepeated, ExtentExceeds, SignalGoesOn};
 ghost use Rattle.pli_meaning_tree.specs.examples.ConditionExamples.{AreaIsEvaluatedAnew, GroupAroundIsReached};
@@ -28,7 +28,7 @@ ghost use Rattle.pli_meaning_tree.specs.examples.TreeExamples.{ListIsLinked, Add
 /// of units, RETURN, STOP, a call of another unit's procedure and a variable that both units have, the generations of a
 /// CONTROLLED variable, a list linked by pointers, and pointers that lead nowhere, offsets that are copied with their
 /// area, areas that are full or that are not there, locators outside their area, and conditions: which ON-unit takes
-/// them, its steps, what stands behind its return or its GOTO, and the repeated ALLOCATE; and parameters whose extents
+/// them, its steps, what stands after its return or its GOTO, and the repeated ALLOCATE; and parameters whose extents
 /// are those of the argument.
 pub fn worked_examples()
     ensures loop_ends { LoopEnds }
@@ -75,7 +75,7 @@ pub fn worked_examples()
     ensures units_are_many { UnitsAreMany }
     ensures second_takes_place { SecondTakesPlace }
     ensures names_are_of_on { NamesAreOfOn }
-    ensures zero_stands_behind { ZeroStandsBehind }
+    ensures zero_stands_after { ZeroStandsAfter }
     ensures zero_divide_unit { ZeroDivideUnit }
     ensures newest_unit { NewestUnit }
     ensures counter_overflows { CounterOverflows }

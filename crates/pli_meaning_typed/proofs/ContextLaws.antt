@@ -15,7 +15,7 @@ use Rattle.pli_program.specs.declared.kind.VariableKind.{VariableKind}
 use Rattle.pli_program.specs.declared.kind.VariableKind.TheVariants.{Static, Controlled}
 use Rattle.pli_type_tree.specs.Globals.{described_as}
 use Rattle.pli_type_tree.specs.TypedTree.{Global, TypedUnit}
-use Rattle.pli_type_tree.specs.WellTyped.{BlockAround, AreAround, AreAroundUnit, blocks_from, with_labels}
+use Rattle.pli_type_tree.specs.WellTyped.{BlockAround, AreAround, AreAroundOnUnit, blocks_from, with_labels}
 use Rattle.pli_meaning_tree.specs.Effects.{Label}
 use Rattle.pli_meaning_typed.specs.SoundWorlds.{IsWhole, IsVariable, IsPassed, IsOwnSlot, AreSlots, Known, AreKnown, Shape, AreShaped, Stand, EachGood, StandsGood, IsSound, IsLater, Answers}
 use Rattle.pli_meaning_typed.proofs.WorldLaws.{later_same, error_named}
@@ -50,7 +50,7 @@ pub record Found (unit : ℕ) (known : Known) (w : World) (stack : List Activati
   pub labels : AreKnown unit known height b.labels
   pub below : height ≤ length stack
 
--- behind an activation more
+-- after an activation more
 found_older : (unit : ℕ) (known : Known) (w : World) (a : Activation) (older : List Activation) (from outward : ℕ) (b : BlockAround)
     → from ≤ length older → Found unit known w older from outward b → Found unit known w (a ∷ older) from outward b
 found_older unit known w a older from zero b le f = record {
@@ -211,7 +211,7 @@ pub rest_in_group : (labels : List ℕ) (blocks : List BlockAround) → at_rest 
 rest_in_group labels [] = refl
 rest_in_group labels (b ∷ bs) = refl
 
-pub around_unit : (here around : List BlockAround) → AreAroundUnit here around → AreAround (at_rest here) around
+pub around_unit : (here around : List BlockAround) → AreAroundOnUnit here around → AreAround (at_rest here) around
 around_unit [] [] h = absurd h
 around_unit [] (c ∷ cs) h = absurd h
 around_unit (b ∷ bs) [] h = absurd h

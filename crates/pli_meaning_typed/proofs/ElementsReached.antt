@@ -52,7 +52,7 @@ within_total before d e c t below all =
 pub none_left : (d c s : ℕ) → c ≡ 0 → d * (c * s) ≡ 0
 none_left d c s e = ap (λ c. d * (c * s)) e ∙ omega arith
 
--- the bounds of a dimension, and those behind it
+-- the bounds of a dimension, and those after it
 pub front_of_drop : (bs : List Bounds) (i : ℕ) (b : Bounds) (rest : List Bounds) → drop i bs ≡ b ∷ rest → (slice_get bs i ≡ Some b) × (drop (suc i) bs ≡ rest)
 front_of_drop [] zero b rest e = absurd (cc)
 front_of_drop [] (suc i) b rest e = absurd (cc)

@@ -11,7 +11,7 @@ use Rattle.pli_program.specs.declared.kind.VariableKind.{VariableKind}
 use Rattle.pli_program.specs.declared.kind.VariableKind.TheVariants.{Static}
 use Rattle.pli_type_tree.specs.TypedTree.{Fit, TypedProcedure, TypedUnit, Held, AsPointer, Signature, Global, ExternalVariable, EntryPoint}
 use Rattle.pli_type_tree.specs.ValueTypes.{OfCharacters, OfBits, Numbers, Pointers, Offsets}
-use Rattle.pli_type_tree.specs.WellTyped.{KnownProcedure, TypingContext, IsTyped, IsAreaReference, IsPlaced, IsString, IsValueFor, Convert, in_group, IsUnitHere, AreTypedStatements}
+use Rattle.pli_type_tree.specs.WellTyped.{KnownProcedure, TypingContext, IsTyped, IsAreaReference, IsPlaced, IsString, IsValueFor, Convert, in_group, IsOnUnitHere, AreTypedStatements}
 use Rattle.pli_meaning_tree.specs.TreeMeaning.{procedure_in, unit_named}
 use Rattle.pli_meaning_typed.specs.TypedPrograms.{context_in, IsTypedProcedure, IsTypedUnit}
 use Rattle.pli_meaning_typed.specs.examples.TypedExamples.{number, counter, one_more, few, counting, returning, caller, successor, of_caller, of_successor, signatures, ExampleIsWellTyped, GroupsAreWellTyped, plain, StackIsWellTyped, pointing, pointer, pointed, PointersAreWellTyped, declared_area, declared_offset, area_used, offset_used, block_used, AreasAreWellTyped, of_jumping, with_unit, handling, ConditionsAreWellTyped, shared, numeric, asker, answerer, asking_unit, answering_unit, UnitsAreWellTyped, short, three, of_stars, StarsAreWellTyped}
@@ -273,10 +273,10 @@ stars_are = (
 )
 
 -- an ON-unit, which knows the labels of its block's own list, in that and in a group
-unit_there : IsUnitHere (context_in [] with_unit of_caller caller) 1
+unit_there : IsOnUnitHere (context_in [] with_unit of_caller caller) 1
 unit_there = (of_jumping, refl, refl, refl, (refl, (refl, refl), λ l h. h, λ l h. h, tt), refl, refl)
 
-unit_in_group : IsUnitHere (in_group handling (context_in [] with_unit of_caller caller)) 1
+unit_in_group : IsOnUnitHere (in_group handling (context_in [] with_unit of_caller caller)) 1
 unit_in_group = (of_jumping, refl, refl, refl, (refl, (refl, refl), λ l h. h, λ l h. h, tt), refl, refl)
 
 pub conditions_are : ConditionsAreWellTyped

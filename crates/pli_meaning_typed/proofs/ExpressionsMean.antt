@@ -38,7 +38,7 @@ use Rattle.pli_type_tree.specs.ValueTypes.{OfCharacters, OfBits, ValueType, Numb
 use Rattle.pli_type_tree.specs.WellTyped.{BlockAround, KnownProcedure, TypingContext, slot_of, parameters_in, BeginsWhole, IsUnlocated, LeadTo, IsCallee, IsTyped, IsRooted, IsAddressed, IsAreaReference, IsPlaced, AreTyped}
 use Rattle.pli_map.specs.Scalars.{scalars_of}
 use Rattle.pli_type_tree.specs.WellTyped.{operand_count, AreSubscripts, AreNumbers, ArePassed}
-use Rattle.pli_meaning_tree.specs.Effects.{Effect, Gives as Results, Doing, and_then, answered, behind_unit, erring, handled, resolved}
+use Rattle.pli_meaning_tree.specs.Effects.{Effect, Gives as Results, Doing, and_then, answered, after_on_unit, erring, handled, resolved}
 use Rattle.pli_meaning_tree.specs.TreeMeaning.{Calls, a_value, in_order, root_place, element_of, dimension_of, value_of, operated, place_of, element_at, element_by, called_with, fitted_at}
 use Rattle.pli_meaning_typed.specs.SoundWorlds.{IsPartAt, IsNear, HasPart, IsGood, IsWhole, IsOwn, IsVariable, Takes, IsPassed, AreGood, Known, Shape, Stand, IsSound, IsLater, Answers}
 use Rattle.pli_meaning_typed.proofs.AreaLaws.{offset_answers, within_answers}
@@ -219,7 +219,7 @@ ordered_good w [] ds (p ∷ before) ps h g = absurd h
 ordered_good w (d ∷ done) ds [] ps h g = absurd h
 ordered_good w (d ∷ done) ds (p ∷ before) ps h g = ordered_good w done (d ∷ ds) before (p ∷ ps) h.1 (h.0, g)
 
--- a place on the way to a part: so many bytes behind where the whole stands
+-- a place on the way to a part: so many bytes after where the whole stands
 record IsOn (w : World) (whole : Description) (offset : ℕ) (d : Description) (p : Place) : Type 0 where
   was_made : p.generation < w.made
   described : p.description ≡ d
@@ -276,7 +276,7 @@ on_last w whole offset k d p f h = record {
         let outer = part (offset + more) c inner.0 inner.1 in
         (outer.0, subst (λ n. first_scalar all n c ≡ Some outer.0) (sym (add_assoc h.base offset more)) outer.1)
 
--- a place on the way to an element, behind so many elements: before the subscripts of these dimensions, as many elements as these have are left
+-- a place on the way to an element, after so many elements: before the subscripts of these dimensions, as many elements as these have are left
 record IsAmong (w : World) (bs : List Bounds) (e : Description) (rest : List Bounds) (before : ℕ) (p : Place) : Type 0 where
   on : IsOn w (Array bs e) (before * stride_of e) (left_by (Array bs e) e rest) p
   within : p.offset ≤ offset_limit
@@ -326,7 +326,7 @@ among_next w bs e b rest before d p h few near = record {
   few = few;
 }
 
--- behind the last subscript it is the element's
+-- after the last subscript it is the element's
 among_last : (w : World) (bs : List Bounds) (e : Description) (before : ℕ) (p : Place) → IsAmong w bs e [] before p → IsGood w e p
 among_last w bs e before p h =
     let few = h.few in
@@ -363,11 +363,11 @@ module _ (units : List TypedUnit) (greatest level : ℕ) (call : Calls) (unit : 
   then_here P Q left u o go h f =
       then_means units P Q level left known (x ∷ ss) u o go h (λ y w l le is sound later. f y w l is sound later)
 
-  -- an operation that may raise a condition, and what is done behind it
-  behind_means : {A : Type 0} (P : A → World → Type 0) (n left : ℕ) (after : Doing A) (v : Option Value) (w : World) → IsReturned None v
-      → Means units n left known (x ∷ ss) w P (after w left) → Means units n left known (x ∷ ss) w P (behind_unit after v w left)
-  behind_means P n left after None w is h = h
-  behind_means P n left after (Some v) w is h = absurd is
+  -- an operation that may raise a condition, and what is done after it
+  after_means : {A : Type 0} (P : A → World → Type 0) (n left : ℕ) (after : Doing A) (v : Option Value) (w : World) → IsReturned None v
+      → Means units n left known (x ∷ ss) w P (after w left) → Means units n left known (x ∷ ss) w P (after_on_unit after v w left)
+  after_means P n left after None w is h = h
+  after_means P n left after (Some v) w is h = absurd is
 
   pub handled_means : {A : Type 0} (P : A → World → Type 0) (n left : ℕ) → n ≤ level → (after : Doing A) (w : World) (o : Answer A) → Sound w
       → Answers units (λ y v. P y v × Sound v × IsLater w v) o → RaisesIn w o
@@ -380,9 +380,9 @@ module _ (units : List TypedUnit) (greatest level : ℕ) (call : Calls) (unit : 
       by : (o : Option Condition) → Means units n left known (x ∷ ss) w P (erring call.condition after e o w left)
       by None = error_named units x ss w e sound
       by (Some c) =
-          then_means units (Gives None) P n left known (x ∷ ss) w (call.condition c w left) (behind_unit after)
+          then_means units (Gives None) P n left known (x ∷ ss) w (call.condition c w left) (after_on_unit after)
           (lower_means units (Gives None) level n left known (x ∷ ss) w (call.condition c w left) le (calls.condition c known x ss outlasts w left sound))
-          (λ v u l le is sound later. behind_means P n l after v u is (f u l sound))
+          (λ v u l le is sound later. after_means P n l after v u is (f u l sound))
   handled_means P n left le after w Wrong sound is same f = absurd is
 
   -- or what it comes to there

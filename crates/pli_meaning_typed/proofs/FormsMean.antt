@@ -25,14 +25,14 @@ use Rattle.pli_type_tree.specs.Templates.{variable_of}
 use Rattle.pli_type_tree.specs.TypedOperations.{comes_to}
 use Rattle.pli_type_tree.specs.ValueTypes.{StringKind, OfCharacters, OfBits, ValueType, Strings, Pointers, Offsets, kind_of_form, IsOf, IsHeldBy}
 use Rattle.pli_type_tree.specs.WellTyped.{BlockAround, TypingContext, IsTyped, IsPlaced, IsAreaReference, IsString, IsMade, AreItems, Convert, ConvertToKind, ConvertsTo, ConvertsToKind, IsConversion, IsAllocated, AreAllocated, IsFreed, AreFreed}
-use Rattle.pli_type_tree.specs.WellTyped.{knows_label, IsUnitHere, IsTypedForm}
+use Rattle.pli_type_tree.specs.WellTyped.{knows_label, IsOnUnitHere, IsTypedForm}
 use Rattle.pli_meaning_tree.specs.Effects.{Effect, Gives, Jumps, Flow, Next, Returned, Doing, and_then, answered, resolved, as_step, truth}
 use Rattle.pli_meaning_tree.specs.TreeMeaning.{Calls, no_value, printed_item, value_of, place_of, called_with, condition, assigns, fitted_at, assigns_string, assigns_aggregate, assigns_area, empties, puts, skips}
 use Rattle.pli_meaning_tree.specs.TreeMeaning.{operated_by, converted, block_allocated, allocates_item, allocates, frees_item, frees, signals, establishes, does_call, returns_value, jumps_to}
 use Rattle.pli_meaning_typed.specs.SoundWorlds.{IsGood, Takes, Known, Shape, Stand, IsSound, IsLater, Answers}
 use Rattle.pli_meaning_typed.proofs.AreaLaws.{emptied_answers, assigned_answers, offset_answers, within_answers, block_answers}
 use Rattle.pli_meaning_typed.proofs.MeansLemmas.{Means, Anything, means_as, means_from, then_means, answer_means, answer_kept, kept_answers}
-use Rattle.pli_meaning_typed.proofs.MeansLemmas.{step_means, followed_means, lower_means, behind_step}
+use Rattle.pli_meaning_typed.proofs.MeansLemmas.{step_means, followed_means, lower_means, after_step}
 use Rattle.pli_meaning_typed.proofs.OnUnits.{Holds, established_answers, reverted_sound}
 use Rattle.pli_meaning_typed.proofs.ExpressionsMean.{IsReturned, Gives as GivesBack, OfType, AtPlace, AreaPlace, HeldBy, TakenPlace, CallsMean, IsInside, narrow_held, one_scalar, handled_means, resolved_means, calculated_means, fitted_means, value_means, area_means, good_means, taken_means, called_means}
 use Rattle.pli_meaning_typed.proofs.ContextLaws.{stand_around, at_rest, around_unit, height_there}
@@ -297,7 +297,7 @@ module _ (units : List TypedUnit) (greatest level : ℕ) (call : Calls) (unit : 
         (λ p u l fewer own sound later. handled_means units greatest level call unit s known x ss fits.inside fits.stand fits.outlasts calls (OfType Pointers) (suc m) l le
         (as_step (block_allocated greatest call m area v)) u (block_made p v u) sound (block_answers units x ss own.0 p v u made sound own.1 own.2 none) (block_raises p v u)
         (λ a k sound. step_means units (OfType Pointers) (suc m) known (x ∷ ss) (block_allocated greatest call m area v) a k sound
-        (λ b j e sound. behind_step units (OfType Pointers) m j known (x ∷ ss) b b (block_allocated greatest call m area v b j) (later_same b)
+        (λ b j e sound. after_step units (OfType Pointers) m j known (x ∷ ss) b b (block_allocated greatest call m area v b j) (later_same b)
         (block_means area v typed made none m (omega (arith, le)) b j sound))))
 
     allocated_means : (item : AllocatedItem) → IsAllocated greatest s item → (w : World) (left : ℕ) → Sound w
@@ -375,7 +375,7 @@ module _ (units : List TypedUnit) (greatest level : ℕ) (call : Calls) (unit : 
             (omega arith, h.2 label k, sound, later_same w)
 
     -- ON, REVERT and SIGNAL
-    pub on_means : (c : Condition) (on_unit : ℕ) → IsUnitHere s on_unit → (w : World) (left : ℕ) → Sound w
+    pub on_means : (c : Condition) (on_unit : ℕ) → IsOnUnitHere s on_unit → (w : World) (left : ℕ) → Sound w
         → Here s known x ss left w (Flows s) (establishes unit block c on_unit w left)
     on_means c on_unit here w left sound =
         then_here Anything (Flows s) left w (answered (established unit (Some block) c on_unit w) left) _

@@ -67,7 +67,7 @@ module _ (greatest : ℕ) (s : TypingContext) where
   Advances conversion type ts (Repeated next) = (d : Description) × (type ≡ Stated d) × IsValueFor greatest s d next
   Advances conversion type ts (RepeatedString next) = (form : StringForm) × (type ≡ AnyString form) × IsString greatest s (kind_of_form form) next
 
-  -- what is kept behind the start is of types that its tests and steps take
+  -- what is kept after the start is of types that its tests and steps take
   record IsKept (conversion : Conversion) (type : ParameterType) (first : ValueType) (range : TypedRange) : Type 0 where
     types : List ValueType
     valued : AreValued (kept_by range) types
@@ -238,7 +238,7 @@ module _ (units : List TypedUnit) (greatest level : ℕ) (call : Calls) (unit : 
   advances_means i type placed ts vs are (RepeatedString next) h w left sound =
       string_assigned units greatest level call unit s known x ss block fits calls i.control next (h.0, subst (λ t. IsPlaced greatest s i.control t) h.1 placed, h.2) w left sound
 
-  -- a list that runs behind a step
+  -- a list that runs after a step
   stepped_means : (number : ℕ) (list : Doing Flow) → Does Flows list → Does Flows (as_statement number list)
   stepped_means number list f w left sound =
       statement_means units Flows level known (x ∷ ss) number list w left sound

@@ -213,14 +213,14 @@ module _ (units : List TypedUnit) where
   lower_means P n m l known ss u Lost le h = h
   lower_means P n m l known ss u Short le h = omega (arith, h, le)
 
-  pub behind_step : {A : Type 0} (P : A → World → Type 0) (m l : ℕ) (known : Known) (ss : List Shape) (u v : World) (o : Effect A)
+  pub after_step : {A : Type 0} (P : A → World → Type 0) (m l : ℕ) (known : Known) (ss : List Shape) (u v : World) (o : Effect A)
       → IsLater u v → Means m l known ss v P o → Means (suc m) (suc l) known ss u P o
-  behind_step P m l known ss u v (Gives x w left) later h = (omega (arith, h.0), h.1, h.2, later_then u v w later h.3)
-  behind_step P m l known ss u v (Jumps i k w left) later h = (omega (arith, h.0), h.1, h.2, later_then u v w later h.3)
-  behind_step P m l known ss u v (Fails e w) later h = h
-  behind_step P m l known ss u v (Spent w) later h = h
-  behind_step P m l known ss u v Lost later h = h
-  behind_step P m l known ss u v Short later h = omega (arith, h)
+  after_step P m l known ss u v (Gives x w left) later h = (omega (arith, h.0), h.1, h.2, later_then u v w later h.3)
+  after_step P m l known ss u v (Jumps i k w left) later h = (omega (arith, h.0), h.1, h.2, later_then u v w later h.3)
+  after_step P m l known ss u v (Fails e w) later h = h
+  after_step P m l known ss u v (Spent w) later h = h
+  after_step P m l known ss u v Lost later h = h
+  after_step P m l known ss u v Short later h = omega (arith, h)
 
   -- turns of a group: the test, a list that begins with a step, and what comes between two turns
   abbrev turn_then : ℕ → (list between go : Doing Flow) → Doing Flow
@@ -238,7 +238,7 @@ module _ (units : List TypedUnit) where
       let u = at_statement number v in
       let s = stepped_sound units ss w sound in
       let t = statement_sound units ss number v s.0 in
-      behind_step P m left known ss w u (followed (list u left) (λ w left. followed (between w left) go)) (later_then w v u s.1 t.1)
+      after_step P m left known ss w u (followed (list u left) (λ w left. followed (between w left) go)) (later_then w v u s.1 t.1)
       (followed_means P m left known ss u (list u left) (λ w left. followed (between w left) go)
       (lower_means P n m left known ss u (list u left) le (g u left t.0))
       (λ w left le2 sound. followed_means P m left known ss w (between w left) go

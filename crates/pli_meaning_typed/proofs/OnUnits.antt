@@ -10,7 +10,7 @@ use Rattle.pli_world.specs.World.{World, Yields, Wrong, in_newest}
 use Rattle.pli_type_tree.specs.TypedTree.{TypedUnit}
 use Rattle.pli_type_tree.specs.WellTyped.{KnownProcedure}
 use Rattle.pli_meaning_tree.specs.Effects.{Label}
-use Rattle.pli_meaning_typed.specs.SoundWorlds.{Known, Shape, AreShaped, Stand, StandsAsUnit, HaveUnits, IsSound, IsLater, Answers}
+use Rattle.pli_meaning_typed.specs.SoundWorlds.{Known, Shape, AreShaped, Stand, StandsAsOnUnit, HaveOnUnits, IsSound, IsLater, Answers}
 use Rattle.pli_meaning_typed.specs.TypedPrograms.{IsTypedUnit}
 use Rattle.pli_meaning_typed.proofs.ContextLaws.{shaped_length, raised, Wider, stand_wider}
 use Rattle.pli_meaning_typed.proofs.MeansLemmas.{IsBelow, also}
@@ -109,7 +109,7 @@ module _ (greatest : ℕ) (units : List TypedUnit) (known : Known) (w : World) (
   }
 
   handles_here : (s : Shape) (ss : List Shape) (a : Activation) (older : List Activation) (block : ℕ) → a.unit ≡ s.unit → length older ≡ length ss
-      → IsOfTyped greatest units s.unit s.procedures → Wider s.lasting known → StandsAsUnit s ss block
+      → IsOfTyped greatest units s.unit s.procedures → Wider s.lasting known → StandsAsOnUnit s ss block
       → Handles greatest units known (s ∷ ss) (record { unit = a.unit; block = block; link = suc (length older) })
   handles_here s ss a older block same long typed lasts u = record {
     procedures = s.procedures;
@@ -124,7 +124,7 @@ module _ (greatest : ℕ) (units : List TypedUnit) (known : Known) (w : World) (
     below = omega (arith, long);
   }
 
-  pub handler_stands : (ss : List Shape) (stack : List Activation) (h : Handler) → AreShaped w ss stack → HaveUnits ss stack
+  pub handler_stands : (ss : List Shape) (stack : List Activation) (h : Handler) → AreShaped w ss stack → HaveOnUnits ss stack
       → AllLast known ss → AllTyped greatest units ss → handler c stack ≡ Some h → Handles greatest units known ss h
   handler_stands [] [] h shaped on lasts typed e = absurd (none_some e)
   handler_stands [] (a ∷ older) h shaped on lasts typed e = absurd shaped
@@ -145,7 +145,7 @@ module _ (units : List TypedUnit) (x : Shape) (ss : List Shape) (w : World) (sou
   abbrev with_unit : Option ℕ → World
   with_unit o = in_newest (λ a. record a { on_units = with_on_unit c o a.on_units }) w
 
-  put_sound : (o : Option ℕ) → ((k : ℕ) → o ≡ Some k → StandsAsUnit x ss k) → IsSound units (x ∷ ss) (with_unit o) × IsLater w (with_unit o)
+  put_sound : (o : Option ℕ) → ((k : ℕ) → o ≡ Some k → StandsAsOnUnit x ss k) → IsSound units (x ∷ ss) (with_unit o) × IsLater w (with_unit o)
   put_sound o new = (
     newest_sound units (λ a. record a { on_units = with_on_unit c o a.on_units }) (x ∷ ss) (x ∷ ss) w sound sound.of_units (shaped w.activations sound.stack)
         (units_put c o x ss w.activations new sound.on_units),
@@ -157,12 +157,12 @@ module _ (units : List TypedUnit) (x : Shape) (ss : List Shape) (w : World) (sou
       shaped [] h = absurd h
       shaped (a ∷ older) h = h
 
-  pub established_answers : (unit block on_unit : ℕ) → x.unit ≡ unit → x.block ≡ block → StandsAsUnit x ss on_unit
+  pub established_answers : (unit block on_unit : ℕ) → x.unit ≡ unit → x.block ≡ block → StandsAsOnUnit x ss on_unit
       → Answers units (λ _ v. IsSound units (x ∷ ss) v × IsLater w v) (established unit (Some block) c on_unit w)
   unfolding established
   established_answers unit block on_unit top own stands =
       subst (λ b. Answers units (λ _ v. IsSound units (x ∷ ss) v × IsLater w v) (if b then Yields (tt {0}) (with_unit (Some on_unit)) else Wrong))
-      (sym (newest w.activations sound.stack)) (put_sound (Some on_unit) (λ k e. subst (λ k. StandsAsUnit x ss k) (some_same e) stands))
+      (sym (newest w.activations sound.stack)) (put_sound (Some on_unit) (λ k e. subst (λ k. StandsAsOnUnit x ss k) (some_same e) stands))
     where
       newest : (stack : List Activation) → AreShaped w (x ∷ ss) stack → is_newest unit (Some block) stack ≡ true
       newest [] h = absurd h

@@ -23,7 +23,7 @@ use Rattle.pli_operation.specs.Operations.{Calculation, Calculates, RaisesCondit
 use Rattle.pli_operation.specs.declared.operation.Relation.{Relation}
 use Rattle.pli_operation.specs.declared.operation.Relation.TheVariants.{Equal, Unequal}
 use Rattle.pli_value.specs.Numbers.{has_digits, within, quotient, remainder, sign_of, greatest_of, least_of}
-use Rattle.pli_value.specs.Strings.{piece, concatenation, first_place, one_behind, index_of, fitted}
+use Rattle.pli_value.specs.Strings.{piece, concatenation, first_place, one_after, index_of, fitted}
 use Rattle.pli_value.specs.Strings.{by_place, conjunction, disjunction, substring, substring_from, part_of, rest_of}
 use Rattle.pli_value.specs.Conversions.{number_characters, bit_character, bit_characters}
 use Rattle.pli_value.specs.Locators.{same_locator}
@@ -35,7 +35,7 @@ use Rattle.pli_type_tree.specs.TypedOperations.{comes_to}
 use Rattle.pli_type_tree.specs.TypedTree.{TypedOperation, Fit, Operate}
 use Rattle.pli_type_tree.specs.ValueTypes.{StringKind, OfCharacters, OfBits, ValueType, Numbers, Strings, Pointers, Offsets, IsPointer, IsOffset, IsEquality, IsOf, AreOf, Computes, Operates, longest, length_precision, HaveColumns, type_held, IsFitted, OnNumbers, OnStrings, OnLocators}
 
--- what an operation comes to is of a type; behind a condition that is 0
+-- what an operation comes to is of a type; after a condition that is 0
 abbrev pub IsCalculated : ValueType → Calculation → Type 0
 IsCalculated t (Calculates v) = IsOf t v
 IsCalculated t (RaisesCondition c) = IsOf t (Number (pos 0))
@@ -262,7 +262,7 @@ place_small : (sought s : List ℕ) → first_place sought s ≤ length s
 place_small sought [] = omega arith
 place_small sought (x ∷ xs) = by (starts_with nat_eq (x ∷ xs) sought) (first_place sought xs) (place_small sought xs)
   where
-    by : (b : Bool) (k : ℕ) → k ≤ length xs → (if b then 1 else one_behind k) ≤ suc (length xs)
+    by : (b : Bool) (k : ℕ) → k ≤ length xs → (if b then 1 else one_after k) ≤ suc (length xs)
     by true k le = omega arith
     by false zero le = omega arith
     by false (suc k) le = omega (arith, le)

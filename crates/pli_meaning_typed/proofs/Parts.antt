@@ -9,7 +9,7 @@ use Rattle.pli_map.specs.Description.{Description, Array}
 use Rattle.pli_map.specs.Description.{Structure, Members, NoMembers, MemberThen}
 use Rattle.pli_map.specs.Same.{same}
 use Rattle.pli_map.specs.laws.SameLaws.{same_decides}
-use Rattle.pli_map.specs.Scalars.{scalars_in, scalars_among, stands_here, first_scalar, scalar_behind}
+use Rattle.pli_map.specs.Scalars.{scalars_in, scalars_among, stands_here, first_scalar, scalar_after}
 use Rattle.pli_map.specs.Sizes.{count_of, alignment_of, size_of, stride_of}
 use Rattle.pli_world.specs.Storage.{values_from, with_values_at}
 use Rattle.pli_value.specs.Value.{Value}
@@ -19,11 +19,11 @@ use Rattle.pli_map.specs.Scalars.{scalars_of, scalars_of_members}
 abbrev copies : {A : Type 0} → ℕ → List A → List A
 copies n xs = flat_map (λ ds. ds) (replicate n xs)
 
--- so many of a list, from one on, stand in it: it is what is before, these, and what is behind
+-- so many of a list, from one on, stand in it: it is what is before, these, and what is after
 pub record StandsFrom {A : Type 0} (k : ℕ) (part whole : List A) : Type 0 where
   pub before : List A
-  pub behind : List A
-  pub parted : whole ≡ before ++ (part ++ behind)
+  pub after : List A
+  pub parted : whole ≡ before ++ (part ++ after)
   pub first : length before ≡ k
 
 -- how many scalars
@@ -49,16 +49,16 @@ mutual
 
 -- a part
 itself : {A : Type 0} (xs : List A) → StandsFrom 0 xs xs
-itself xs = record { before = []; behind = []; parted = sym (append-nil xs); first = refl }
+itself xs = record { before = []; after = []; parted = sym (append-nil xs); first = refl }
 
 in_first : {A : Type 0} (k : ℕ) (part whole rest : List A) → StandsFrom k part whole
     → StandsFrom k part (whole ++ rest)
 in_first k part whole rest s = record {
   before = s.before;
-  behind = s.behind ++ rest;
+  after = s.after ++ rest;
   parted =
-      ap (λ x. x ++ rest) s.parted ∙ append_assoc s.before (part ++ s.behind) rest
-      ∙ ap (λ x. s.before ++ x) (append_assoc part s.behind rest);
+      ap (λ x. x ++ rest) s.parted ∙ append_assoc s.before (part ++ s.after) rest
+      ∙ ap (λ x. s.before ++ x) (append_assoc part s.after rest);
   first = s.first;
 }
 
@@ -66,8 +66,8 @@ in_rest : {A : Type 0} (k : ℕ) (part whole front : List A) → StandsFrom k pa
     → StandsFrom (length front + k) part (front ++ whole)
 in_rest k part whole front s = record {
   before = front ++ s.before;
-  behind = s.behind;
-  parted = ap (λ x. front ++ x) s.parted ∙ sym (append_assoc front s.before (part ++ s.behind));
+  after = s.after;
+  parted = ap (λ x. front ++ x) s.parted ∙ sym (append_assoc front s.before (part ++ s.after));
   first = length-append front s.before ∙ ap (λ n. length front + n) s.first;
 }
 
@@ -144,21 +144,21 @@ array_stands bounds element offset part k rest h =
     by false false e d h = absurd (none_some h)
 
 structure_stands : (members : Members) (offset : ℕ) (part : Description) (k : ℕ)
-    → (scalar_behind 0 members offset part ≡ Some k → StandsFrom k (scalars_of part) (scalars_of_members members))
+    → (scalar_after 0 members offset part ≡ Some k → StandsFrom k (scalars_of part) (scalars_of_members members))
     → first_scalar (Structure members) offset part ≡ Some k
     → StandsFrom k (scalars_of part) (scalars_of (Structure members))
 structure_stands members offset part k rest h = by (stands_here (Structure members) offset part) refl h
   where
     by : (b : Bool) → stands_here (Structure members) offset part ≡ b
-        → (if b then Some 0 else scalar_behind 0 members offset part) ≡ Some k
+        → (if b then Some 0 else scalar_after 0 members offset part) ≡ Some k
         → StandsFrom k (scalars_of part) (scalars_of (Structure members))
     by true e h = here (Structure members) offset part k e (some_same h)
     by false e h = rest h
 
 members_stand : (d : Description) (ds : Members) (at offset : ℕ) (part : Description) (k : ℕ)
     → ((r j : ℕ) → first_scalar d r part ≡ Some j → StandsFrom j (scalars_of part) (scalars_of d))
-    → ((at j : ℕ) → scalar_behind at ds offset part ≡ Some j → StandsFrom j (scalars_of part) (scalars_of_members ds))
-    → scalar_behind at (MemberThen d ds) offset part ≡ Some k
+    → ((at j : ℕ) → scalar_after at ds offset part ≡ Some j → StandsFrom j (scalars_of part) (scalars_of_members ds))
+    → scalar_after at (MemberThen d ds) offset part ≡ Some k
     → StandsFrom k (scalars_of part) (scalars_of_members (MemberThen d ds))
 members_stand d ds at offset part k first others h =
     by (nat_lt offset (start + size_of d)) (nat_lt offset start) h
@@ -168,13 +168,13 @@ members_stand d ds at offset part k first others h =
 
     by : (b c : Bool)
         → (if b then (if c then None else first_scalar d (offset - start) part)
-        else option_map (λ k. scalars_in d + k) (scalar_behind (start + size_of d) ds offset part)) ≡ Some k
+        else option_map (λ k. scalars_in d + k) (scalar_after (start + size_of d) ds offset part)) ≡ Some k
         → StandsFrom k (scalars_of part) (scalars_of d ++ scalars_of_members ds)
     by true true h = absurd (none_some h)
     by true false h =
         in_first k (scalars_of part) (scalars_of d) (scalars_of_members ds) (first (offset - start) k h)
     by false c h =
-        let m = mapped_from (scalar_behind (start + size_of d) ds offset part) (λ k. scalars_in d + k) k h in
+        let m = mapped_from (scalar_after (start + size_of d) ds offset part) (λ k. scalars_in d + k) k h in
         subst (λ k. StandsFrom k (scalars_of part) (scalars_of d ++ scalars_of_members ds))
         (ap (λ l. l + m.0) (length_scalars d) ∙ m.2)
         (in_rest m.0 (scalars_of part) (scalars_of_members ds) (scalars_of d) (others (start + size_of d) m.0 m.1))
@@ -189,7 +189,7 @@ mutual
   part_stands d offset part k h = alone d offset part k h
 
   member_stands : (ds : Members) (at offset : ℕ) (part : Description) (k : ℕ)
-      → scalar_behind at ds offset part ≡ Some k → StandsFrom k (scalars_of part) (scalars_of_members ds)
+      → scalar_after at ds offset part ≡ Some k → StandsFrom k (scalars_of part) (scalars_of_members ds)
   member_stands NoMembers at offset part k h = absurd (none_some h)
   member_stands (MemberThen d ds) at offset part k h =
       members_stand d ds at offset part k (λ r j g. part_stands d r part j g)
@@ -203,38 +203,38 @@ held_length (d ∷ ds) [] h = absurd h
 held_length (d ∷ ds) (v ∷ vs) h = ap (λ n. suc n) (held_length ds vs h.1)
 
 -- those of a part
-held_from : (before part behind : List Description) (vs : List Value) (k n : ℕ) → length before ≡ k → length part ≡ n
-    → AreHeld (before ++ (part ++ behind)) vs → AreHeld part (values_from k n vs)
-held_from [] [] behind vs k n e1 e2 h = subst (λ n. AreHeld [] (values_from k n vs)) e2 tt
-held_from [] (d ∷ part) behind [] k n e1 e2 h = absurd h
-held_from [] (d ∷ part) behind (v ∷ vs) k n e1 e2 h =
+held_from : (before part after : List Description) (vs : List Value) (k n : ℕ) → length before ≡ k → length part ≡ n
+    → AreHeld (before ++ (part ++ after)) vs → AreHeld part (values_from k n vs)
+held_from [] [] after vs k n e1 e2 h = subst (λ n. AreHeld [] (values_from k n vs)) e2 tt
+held_from [] (d ∷ part) after [] k n e1 e2 h = absurd h
+held_from [] (d ∷ part) after (v ∷ vs) k n e1 e2 h =
     subst (λ k. AreHeld (d ∷ part) (take n (drop k (v ∷ vs)))) e1
     (subst (λ n. AreHeld (d ∷ part) (take n (v ∷ vs))) e2
-    (h.0, held_from [] part behind vs 0 (length part) refl refl h.1))
-held_from (d ∷ before) part behind [] k n e1 e2 h = absurd h
-held_from (d ∷ before) part behind (v ∷ vs) k n e1 e2 h =
-    subst (λ k. AreHeld part (take n (drop k (v ∷ vs)))) e1 (held_from before part behind vs (length before) n refl e2 h.1)
+    (h.0, held_from [] part after vs 0 (length part) refl refl h.1))
+held_from (d ∷ before) part after [] k n e1 e2 h = absurd h
+held_from (d ∷ before) part after (v ∷ vs) k n e1 e2 h =
+    subst (λ k. AreHeld part (take n (drop k (v ∷ vs)))) e1 (held_from before part after vs (length before) n refl e2 h.1)
 
 -- others in their place
-held_with : (before part behind : List Description) (new vs : List Value) (k : ℕ) → length before ≡ k
-    → AreHeld part new → AreHeld (before ++ (part ++ behind)) vs → AreHeld (before ++ (part ++ behind)) (with_values_at k new vs)
-held_with [] [] behind [] vs k e1 hn h = subst (λ k. AreHeld behind (take k vs ++ [] ++ drop (k + 0) vs)) e1 h
-held_with [] [] behind (x ∷ new) vs k e1 hn h = absurd hn
-held_with [] (d ∷ part) behind [] vs k e1 hn h = absurd hn
-held_with [] (d ∷ part) behind (x ∷ new) [] k e1 hn h = absurd h
-held_with [] (d ∷ part) behind (x ∷ new) (v ∷ vs) k e1 hn h =
-    subst (λ k. AreHeld (d ∷ (part ++ behind)) (take k (v ∷ vs) ++ (x ∷ new) ++ drop (k + suc (length new)) (v ∷ vs))) e1 (
+held_with : (before part after : List Description) (new vs : List Value) (k : ℕ) → length before ≡ k
+    → AreHeld part new → AreHeld (before ++ (part ++ after)) vs → AreHeld (before ++ (part ++ after)) (with_values_at k new vs)
+held_with [] [] after [] vs k e1 hn h = subst (λ k. AreHeld after (take k vs ++ [] ++ drop (k + 0) vs)) e1 h
+held_with [] [] after (x ∷ new) vs k e1 hn h = absurd hn
+held_with [] (d ∷ part) after [] vs k e1 hn h = absurd hn
+held_with [] (d ∷ part) after (x ∷ new) [] k e1 hn h = absurd h
+held_with [] (d ∷ part) after (x ∷ new) (v ∷ vs) k e1 hn h =
+    subst (λ k. AreHeld (d ∷ (part ++ after)) (take k (v ∷ vs) ++ (x ∷ new) ++ drop (k + suc (length new)) (v ∷ vs))) e1 (
       hn.0,
       let e : suc (0 + length new) ≡ 0 + suc (length new) = omega arith in
-          subst (λ n. AreHeld (part ++ behind) (new ++ drop n (v ∷ vs))) e (held_with [] part behind new vs 0 refl hn.1 h.1),
+          subst (λ n. AreHeld (part ++ after) (new ++ drop n (v ∷ vs))) e (held_with [] part after new vs 0 refl hn.1 h.1),
     )
-held_with (d ∷ before) part behind new [] k e1 hn h = absurd h
-held_with (d ∷ before) part behind new (v ∷ vs) k e1 hn h =
+held_with (d ∷ before) part after new [] k e1 hn h = absurd h
+held_with (d ∷ before) part after new (v ∷ vs) k e1 hn h =
     let m = length before in
     let e : suc (m + length new) ≡ suc m + length new = omega arith in
-    subst (λ k. AreHeld (d ∷ (before ++ (part ++ behind))) (with_values_at k new (v ∷ vs))) e1
-    (subst (λ n. AreHeld (d ∷ (before ++ (part ++ behind))) ((v ∷ take m vs) ++ new ++ drop n (v ∷ vs))) e
-    (h.0, held_with before part behind new vs m refl hn h.1))
+    subst (λ k. AreHeld (d ∷ (before ++ (part ++ after))) (with_values_at k new (v ∷ vs))) e1
+    (subst (λ n. AreHeld (d ∷ (before ++ (part ++ after))) ((v ∷ take m vs) ++ new ++ drop n (v ∷ vs))) e
+    (h.0, held_with before part after new vs m refl hn h.1))
 
 -- what a part of a generation holds, and what it holds with other values there
 pub part_held : (whole : Description) (offset : ℕ) (part : Description) (k : ℕ) (vs : List Value)
@@ -242,7 +242,7 @@ pub part_held : (whole : Description) (offset : ℕ) (part : Description) (k : �
     → AreHeld (scalars_of part) (values_from k (scalars_in part) vs)
 part_held whole offset part k vs e h =
     let s = part_stands whole offset part k e in
-    held_from s.before (scalars_of part) s.behind vs k (scalars_in part) s.first (length_scalars part)
+    held_from s.before (scalars_of part) s.after vs k (scalars_in part) s.first (length_scalars part)
     (subst (λ ds. AreHeld ds vs) s.parted h)
 
 pub part_stored : (whole : Description) (offset : ℕ) (part : Description) (k : ℕ) (new vs : List Value)
@@ -251,4 +251,4 @@ pub part_stored : (whole : Description) (offset : ℕ) (part : Description) (k :
 part_stored whole offset part k new vs e hn h =
     let s = part_stands whole offset part k e in
     subst (λ ds. AreHeld ds (with_values_at k new vs)) (sym s.parted)
-    (held_with s.before (scalars_of part) s.behind new vs k s.first hn (subst (λ ds. AreHeld ds vs) s.parted h))
+    (held_with s.before (scalars_of part) s.after new vs k s.first hn (subst (λ ds. AreHeld ds vs) s.parted h))

@@ -12,8 +12,8 @@ use Rattle.pli_map.specs.Description.{Description, FixedBinary, Character, Varyi
 use Rattle.pli_map.specs.Description.{Structure, Members, NoMembers, MemberThen}
 use Rattle.pli_map.specs.Same.{same}
 use Rattle.pli_map.specs.laws.SameLaws.{same_decides}
-use Rattle.pli_map.specs.Scalars.{is_scalar, scalars_in, stands_here, first_scalar, scalar_behind}
-use Rattle.pli_map.specs.Sizes.{count_of, alignment_of, size_of, end_behind, stride_of}
+use Rattle.pli_map.specs.Scalars.{is_scalar, scalars_in, stands_here, first_scalar, scalar_after}
+use Rattle.pli_map.specs.Sizes.{count_of, alignment_of, size_of, end_after, stride_of}
 use Rattle.pli_map.proofs.ScalarLawsHold.{scalars_lie_within}
 use Rattle.pli_meaning_typed.proofs.Parts.{mapped_from, none_some}
 
@@ -77,41 +77,41 @@ array_found bounds element offset part k h =
     by false false e d h = absurd (none_some h)
 
 structure_found : (members : Members) (offset : ℕ) (part : Description) (k : ℕ) → first_scalar (Structure members) offset part ≡ Some k
-    → ((offset ≡ 0) × (Structure members ≡ part)) ⊎ (scalar_behind 0 members offset part ≡ Some k)
+    → ((offset ≡ 0) × (Structure members ≡ part)) ⊎ (scalar_after 0 members offset part ≡ Some k)
 structure_found members offset part k h = by (stands_here (Structure members) offset part) refl h
   where
-    by : (b : Bool) → stands_here (Structure members) offset part ≡ b → (if b then Some 0 else scalar_behind 0 members offset part) ≡ Some k
-        → ((offset ≡ 0) × (Structure members ≡ part)) ⊎ (scalar_behind 0 members offset part ≡ Some k)
+    by : (b : Bool) → stands_here (Structure members) offset part ≡ b → (if b then Some 0 else scalar_after 0 members offset part) ≡ Some k
+        → ((offset ≡ 0) × (Structure members ≡ part)) ⊎ (scalar_after 0 members offset part ≡ Some k)
     by true e h = inl (stands (Structure members) offset part e)
     by false e h = inr h
 
 abbrev start_of : ℕ → Description → ℕ
 start_of at d = next_multiple_of at (alignment_of d)
 
-members_found : (d : Description) (ds : Members) (at offset : ℕ) (part : Description) (k : ℕ) → scalar_behind at (MemberThen d ds) offset part ≡ Some k
+members_found : (d : Description) (ds : Members) (at offset : ℕ) (part : Description) (k : ℕ) → scalar_after at (MemberThen d ds) offset part ≡ Some k
     → ((offset < start_of at d + size_of d) × (start_of at d ≤ offset) × (first_scalar d (offset - start_of at d) part ≡ Some k))
-    ⊎ ((start_of at d + size_of d ≤ offset) × ((j : ℕ) × (scalar_behind (start_of at d + size_of d) ds offset part ≡ Some j)))
+    ⊎ ((start_of at d + size_of d ≤ offset) × ((j : ℕ) × (scalar_after (start_of at d + size_of d) ds offset part ≡ Some j)))
 members_found d ds at offset part k h = by (nat_lt offset (start_of at d + size_of d)) (nat_lt offset (start_of at d)) refl refl h
   where
     by : (b c : Bool) → nat_lt offset (start_of at d + size_of d) ≡ b → nat_lt offset (start_of at d) ≡ c
         → (if b then (if c then None else first_scalar d (offset - start_of at d) part)
-        else option_map (λ k. scalars_in d + k) (scalar_behind (start_of at d + size_of d) ds offset part)) ≡ Some k
+        else option_map (λ k. scalars_in d + k) (scalar_after (start_of at d + size_of d) ds offset part)) ≡ Some k
         → ((offset < start_of at d + size_of d) × (start_of at d ≤ offset) × (first_scalar d (offset - start_of at d) part ≡ Some k))
-        ⊎ ((start_of at d + size_of d ≤ offset) × ((j : ℕ) × (scalar_behind (start_of at d + size_of d) ds offset part ≡ Some j)))
+        ⊎ ((start_of at d + size_of d ≤ offset) × ((j : ℕ) × (scalar_after (start_of at d + size_of d) ds offset part ≡ Some j)))
     by true true e f h = absurd (none_some h)
     by true false e f h = inl (ltb-true offset (start_of at d + size_of d) e, not_less offset (start_of at d) f, h)
     by false c e f h =
-        let m = mapped_from (scalar_behind (start_of at d + size_of d) ds offset part) (λ k. scalars_in d + k) k h in
+        let m = mapped_from (scalar_after (start_of at d + size_of d) ds offset part) (λ k. scalars_in d + k) k h in
         inr (not_less offset (start_of at d + size_of d) e, (m.0, m.1))
 
 -- the end of members
 next_least : (n m : ℕ) → n ≤ next_multiple_of n m
 next_least n m = omega arith
 
-ends_behind : (at : ℕ) (ds : Members) → at ≤ end_behind at ds
-ends_behind at NoMembers = omega arith
-ends_behind at (MemberThen d ds) =
-    omega (arith, ends_behind (start_of at d + size_of d) ds, next_least at (alignment_of d))
+ends_after : (at : ℕ) (ds : Members) → at ≤ end_after at ds
+ends_after at NoMembers = omega arith
+ends_after at (MemberThen d ds) =
+    omega (arith, ends_after (start_of at d + size_of d) ds, next_least at (alignment_of d))
 
 -- an element's part, by its element's distance and its own within that
 element_ends : (bounds : List Bounds) (element : Description) (offset rest : ℕ) → offset / stride_of element < count_of bounds
@@ -147,21 +147,21 @@ array_inside bounds element offset part rest (inr h) =
         inr (omega (arith, element_ends bounds element offset 1 h.0 (omega (arith, lt))))
 
 structure_inside : (members : Members) (offset : ℕ) (part : Description) (k : ℕ)
-    → (scalar_behind 0 members offset part ≡ Some k → offset < end_behind 0 members)
-    → ((offset ≡ 0) × (Structure members ≡ part)) ⊎ (scalar_behind 0 members offset part ≡ Some k)
+    → (scalar_after 0 members offset part ≡ Some k → offset < end_after 0 members)
+    → ((offset ≡ 0) × (Structure members ≡ part)) ⊎ (scalar_after 0 members offset part ≡ Some k)
     → IsInside offset (size_of (Structure members))
 structure_inside members offset part k rest (inl h) = inl h.0
 structure_inside members offset part k rest (inr h) = inr (rest h)
 
 member_inside : (d : Description) (ds : Members) (at offset : ℕ) (part : Description) (k : ℕ)
-    → ((at j : ℕ) → scalar_behind at ds offset part ≡ Some j → offset < end_behind at ds)
+    → ((at j : ℕ) → scalar_after at ds offset part ≡ Some j → offset < end_after at ds)
     → ((offset < start_of at d + size_of d) × (start_of at d ≤ offset) × (first_scalar d (offset - start_of at d) part ≡ Some k))
-    ⊎ ((start_of at d + size_of d ≤ offset) × ((j : ℕ) × (scalar_behind (start_of at d + size_of d) ds offset part ≡ Some j)))
-    → offset < end_behind at (MemberThen d ds)
-member_inside d ds at offset part k others (inl h) = omega (arith, h.0, ends_behind (start_of at d + size_of d) ds)
+    ⊎ ((start_of at d + size_of d ≤ offset) × ((j : ℕ) × (scalar_after (start_of at d + size_of d) ds offset part ≡ Some j)))
+    → offset < end_after at (MemberThen d ds)
+member_inside d ds at offset part k others (inl h) = omega (arith, h.0, ends_after (start_of at d + size_of d) ds)
 member_inside d ds at offset part k others (inr h) = others (start_of at d + size_of d) h.1.0 h.1.1
 
-members_inside : (ds : Members) (at offset : ℕ) (part : Description) (k : ℕ) → scalar_behind at ds offset part ≡ Some k → offset < end_behind at ds
+members_inside : (ds : Members) (at offset : ℕ) (part : Description) (k : ℕ) → scalar_after at ds offset part ≡ Some k → offset < end_after at ds
 members_inside NoMembers at offset part k h = absurd (none_some h)
 members_inside (MemberThen d ds) at offset part k h =
     member_inside d ds at offset part k (λ next j g. members_inside ds next offset part j g) (members_found d ds at offset part k h)
@@ -237,29 +237,29 @@ module _ (part : Description) (more : ℕ) (d : Description) (j : ℕ) (has : fi
           inr (omega (arith, lt, (scalars_lie_within element (offset % stride_of element) part h.1.0 h.1.1).1, next_least (size_of element) (alignment_of element)))
 
   structure_has : (members : Members) (offset k : ℕ)
-      → (scalar_behind 0 members offset part ≡ Some k → (i : ℕ) × (scalar_behind 0 members (offset + more) d ≡ Some i))
-      → ((offset ≡ 0) × (Structure members ≡ part)) ⊎ (scalar_behind 0 members offset part ≡ Some k)
+      → (scalar_after 0 members offset part ≡ Some k → (i : ℕ) × (scalar_after 0 members (offset + more) d ≡ Some i))
+      → ((offset ≡ 0) × (Structure members ≡ part)) ⊎ (scalar_after 0 members offset part ≡ Some k)
       → (i : ℕ) × (first_scalar (Structure members) (offset + more) d ≡ Some i)
   structure_has members offset k rest (inl h) = itself_has (Structure members) offset h
   structure_has members offset k rest (inr h) = by (stands_here (Structure members) (offset + more) d) (rest h)
     where
-      by : (b : Bool) → (i : ℕ) × (scalar_behind 0 members (offset + more) d ≡ Some i)
-          → (i : ℕ) × ((if b then Some 0 else scalar_behind 0 members (offset + more) d) ≡ Some i)
+      by : (b : Bool) → (i : ℕ) × (scalar_after 0 members (offset + more) d ≡ Some i)
+          → (i : ℕ) × ((if b then Some 0 else scalar_after 0 members (offset + more) d) ≡ Some i)
       by true r = (0, refl)
       by false r = r
 
   member_has : (first : Description) (ds : Members) (at offset k : ℕ)
       → ((r k : ℕ) → first_scalar first r part ≡ Some k → (i : ℕ) × (first_scalar first (r + more) d ≡ Some i))
-      → ((at k : ℕ) → scalar_behind at ds offset part ≡ Some k → (i : ℕ) × (scalar_behind at ds (offset + more) d ≡ Some i))
+      → ((at k : ℕ) → scalar_after at ds offset part ≡ Some k → (i : ℕ) × (scalar_after at ds (offset + more) d ≡ Some i))
       → ((offset < start_of at first + size_of first) × (start_of at first ≤ offset) × (first_scalar first (offset - start_of at first) part ≡ Some k))
-      ⊎ ((start_of at first + size_of first ≤ offset) × ((j : ℕ) × (scalar_behind (start_of at first + size_of first) ds offset part ≡ Some j)))
-      → (i : ℕ) × (scalar_behind at (MemberThen first ds) (offset + more) d ≡ Some i)
-  member_has first ds at offset k here behind (inl h) =
+      ⊎ ((start_of at first + size_of first ≤ offset) × ((j : ℕ) × (scalar_after (start_of at first + size_of first) ds offset part ≡ Some j)))
+      → (i : ℕ) × (scalar_after at (MemberThen first ds) (offset + more) d ≡ Some i)
+  member_has first ds at offset k here after (inl h) =
       let r = here (offset - start_of at first) k h.2 in
       let e : offset - start_of at first + more ≡ offset + more - start_of at first = omega (arith, h.1) in (
         r.0,
         ap (λ b. if b then (if nat_lt (offset + more) (start_of at first) then None else first_scalar first (offset + more - start_of at first) d)
-            else option_map (λ k. scalars_in first + k) (scalar_behind (start_of at first + size_of first) ds (offset + more) d))
+            else option_map (λ k. scalars_in first + k) (scalar_after (start_of at first + size_of first) ds (offset + more) d))
             (lt-ltb (offset + more) (start_of at first + size_of first) (before within_part))
             ∙ ap (λ b. if b then None else first_scalar first (offset + more - start_of at first) d)
             (less_not (offset + more) (start_of at first) (omega (arith, h.1)))
@@ -269,11 +269,11 @@ module _ (part : Description) (more : ℕ) (d : Description) (j : ℕ) (has : fi
       before : IsInside more (size_of part) → offset + more < start_of at first + size_of first
       before (inl z) = omega (arith, z, h.0)
       before (inr lt) = omega (arith, lt, h.1, (scalars_lie_within first (offset - start_of at first) part k h.2).1)
-  member_has first ds at offset k here behind (inr h) =
-      let r = behind (start_of at first + size_of first) h.1.0 h.1.1 in (
+  member_has first ds at offset k here after (inr h) =
+      let r = after (start_of at first + size_of first) h.1.0 h.1.1 in (
         scalars_in first + r.0,
         ap (λ b. if b then (if nat_lt (offset + more) (start_of at first) then None else first_scalar first (offset + more - start_of at first) d)
-            else option_map (λ k. scalars_in first + k) (scalar_behind (start_of at first + size_of first) ds (offset + more) d))
+            else option_map (λ k. scalars_in first + k) (scalar_after (start_of at first + size_of first) ds (offset + more) d))
             (less_not (offset + more) (start_of at first + size_of first) (omega (arith, h.0)))
             ∙ ap (λ o. option_map (λ k. scalars_in first + k) o) r.1,
       )
@@ -293,8 +293,8 @@ module _ (part : Description) (more : ℕ) (d : Description) (j : ℕ) (has : fi
     has_within Offset offset k h = itself_has Offset offset (stands_alone Offset offset part k h)
     has_within (Area n) offset k h = itself_has (Area n) offset (stands_alone (Area n) offset part k h)
 
-    members_have : (ds : Members) (at offset k : ℕ) → scalar_behind at ds offset part ≡ Some k
-        → (i : ℕ) × (scalar_behind at ds (offset + more) d ≡ Some i)
+    members_have : (ds : Members) (at offset k : ℕ) → scalar_after at ds offset part ≡ Some k
+        → (i : ℕ) × (scalar_after at ds (offset + more) d ≡ Some i)
     members_have NoMembers at offset k h = absurd (none_some h)
     members_have (MemberThen first ds) at offset k h =
         member_has first ds at offset k (λ r k g. has_within first r k g) (λ next k g. members_have ds next offset k g)

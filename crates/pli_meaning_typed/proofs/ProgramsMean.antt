@@ -23,11 +23,11 @@ use Rattle.pli_type_tree.specs.TypedTree.{Callee, OfBlock, OfEntry, Global, OwnV
 use Rattle.pli_type_tree.specs.WellTyped.{BlockAround, KnownProcedure, IsReached, IsCallee}
 use Rattle.pli_meaning_tree.specs.Effects.{Effect, Gives, Jumps, Fails, Spent, Lost, Short, Flow, Next, Returned, and_then, answered, unless_full, procedure_end}
 use Rattle.pli_meaning_tree.specs.TreeMeaning.{Calls, labels_in, static_link, head_in, activation_of, does_list, procedure_run, activates_in, activates, procedure_in, entry_unit, activates_outer, activates_unit, activates_entry, called_in, calls}
-use Rattle.pli_meaning_tree.specs.TreeMeaning.{runs_block, runs_unit, raised_in, main_run, unit_run, unit_names, unless_fault, ran}
-use Rattle.pli_meaning_typed.specs.SoundWorlds.{AreGood, Known, Shape, HoldsValues, AreStacksGood, AreShaped, Stand, HaveUnits, AreStatics, IsSound}
+use Rattle.pli_meaning_tree.specs.TreeMeaning.{runs_block, runs_on_unit, raised_in, main_run, unit_run, unit_names, unless_fault, ran}
+use Rattle.pli_meaning_typed.specs.SoundWorlds.{AreGood, Known, Shape, HoldsValues, AreStacksGood, AreShaped, Stand, HaveOnUnits, AreStatics, IsSound}
 use Rattle.pli_meaning_typed.specs.TypedPrograms.{context_in, HasEnd, IsTypedProcedure, IsOuter, IsTypedUnit, AreTypedUnits, IsLinked, HasMain, EveryRunIsMeant}
 use Rattle.pli_meaning_typed.proofs.ExpressionsMean.{IsReturned, Gives as GivesBack, CallsMean}
-use Rattle.pli_meaning_typed.proofs.MeansLemmas.{also, Means, behind_step, full_means}
+use Rattle.pli_meaning_typed.proofs.MeansLemmas.{also, Means, after_step, full_means}
 use Rattle.pli_meaning_typed.proofs.OnUnits.{IsOfTyped, Holds, Handles, handler_stands}
 use Rattle.pli_meaning_typed.proofs.ContextLaws.{IsUnit, near, stand_around, shaped_length}
 use Rattle.pli_meaning_typed.proofs.FormsMean.{FlowIs}
@@ -73,7 +73,7 @@ module _ (units : List TypedUnit) (greatest unit : ℕ) (u : TypedUnit) (own : I
   procedure_ends level known y ss p None has (Returned (suc outward) o) v l is sound = absurd (cc)
   procedure_ends level known y ss p (Some s) has (Returned (suc outward) o) v l is sound = absurd (cc)
 
-  -- a procedure's run, behind its step
+  -- a procedure's run, after its step
   run_means : (level : ℕ) (call : Calls) (f : TypedProcedure) (p : KnownProcedure) (known : Known) (ss : List Shape) (link : ℕ) (places : List Place)
       → IsTypedProcedure greatest u.globals procedures p f → CallsMean greatest units unit u.globals procedures level call
       → Stand unit known ss link p.around → Holds greatest units known ss → (w : World) (left : ℕ) → IsSound units ss w → AreGood w p.parameters places
@@ -101,7 +101,7 @@ module _ (units : List TypedUnit) (greatest unit : ℕ) (u : TypedUnit) (own : I
   procedure_means level call f p known ss link places typed means stand outlasts w zero sound good = tt
   procedure_means level call f p known ss link places typed means stand outlasts w (suc left) sound good =
       let s = stepped_sound units ss w sound in
-      behind_step units (GivesBack p.value) level left known ss w (stepped w)
+      after_step units (GivesBack p.value) level left known ss w (stepped w)
       (activation_of (head_in unit f.head) link places (does_list greatest call unit level f.head.number f.statements) (procedure_end f.function_end) (stepped w) left) s.1
       (run_means level call f p known ss link places typed means stand outlasts (stepped w) left s.0 (goods_later w (stepped w) p.parameters places s.1 good))
 
@@ -226,7 +226,7 @@ module _ (units : List TypedUnit) (greatest : ℕ) (all_typed : AreTypedUnits gr
     abbrev Unvalued : Effect (Option Value) → Type 0
     Unvalued o = Means units (suc level) left known (x ∷ ss) w (GivesBack None) o
 
-    taken_means : (h : Handler) → Handles greatest units known (x ∷ ss) h → Unvalued (runs_unit greatest (calls greatest units level) level h (slice_get units h.unit) w left)
+    taken_means : (h : Handler) → Handles greatest units known (x ∷ ss) h → Unvalued (runs_on_unit greatest (calls greatest units level) level h (slice_get units h.unit) w left)
     taken_means h r =
         let u = r.typed.unit in
         let call = calls greatest units level h.unit u in
@@ -235,7 +235,7 @@ module _ (units : List TypedUnit) (greatest : ℕ) (all_typed : AreTypedUnits gr
         let f = typed.typed h.block p (ap (λ procedures. procedures h.block) r.typed.has ∙ r.found) in
         let own : IsUnit units h.unit u.globals = record { unit = u; there = r.typed.there; has = refl } in
         let of_typed : IsOfTyped greatest units h.unit typed.procedures = record { unit = u; there = r.typed.there; typed = typed; has = refl } in
-        subst (λ o. Unvalued (runs_unit greatest (calls greatest units level) level h o w left)) (sym r.typed.there)
+        subst (λ o. Unvalued (runs_on_unit greatest (calls greatest units level) level h o w left)) (sym r.typed.there)
         (subst (λ o. Unvalued (runs_block greatest call level h o w left)) (sym f.1)
         (full_means units (GivesBack None) (suc level) left known x ss (procedure_run greatest call level h.unit f.0 h.link []) w sound
         (subst (λ d. Means units (suc level) left known (x ∷ ss) w (GivesBack d) (procedure_run greatest call level h.unit f.0 h.link [] w left)) r.value
@@ -342,6 +342,6 @@ always_meant p typed steps =
           stacks = stacks;
           stack = subst (λ all. AreShaped w [] all) (sym stack) tt;
           of_units = tt;
-          on_units = subst (λ all. HaveUnits [] all) (sym stack) tt;
+          on_units = subst (λ all. HaveOnUnits [] all) (sym stack) tt;
           made = statics;
         })

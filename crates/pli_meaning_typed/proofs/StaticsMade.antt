@@ -1,4 +1,4 @@
--- The variables that are made before the program begins are there, where they have room.
+-- The static variables are there, where they have room.
 use Rattle.std.specs.Prelude.{◌≡◌, ℕ, zero, suc, ◌+◌, ◌≤◌, ◌<◌, nat_eq, Bool, true, false, ◌&&◌, ◌||◌, Option, Some, None, List, [], ◌∷◌, ◌++◌, ◌⊎◌}
 use Rattle.std.specs.Prelude.{length, map, slice_get, if◌then◌else◌, cond, refl}
 use Rattle.std.specs.Cmp.Lexicographic.{same_text}
@@ -40,10 +40,10 @@ more_kept (t ∷ ss) s unit k p h = by (nat_eq t.unit unit && nat_eq t.number k)
     by true h rest = h
     by false h rest = rest h
 
-more_behind : (ss : List Static) (s : Static) (unit : ℕ) (k : ℕ) → static_in ss unit k ≡ None
+more_after : (ss : List Static) (s : Static) (unit : ℕ) (k : ℕ) → static_in ss unit k ≡ None
     → static_in (ss ++ s ∷ []) unit k ≡ (if nat_eq s.unit unit && nat_eq s.number k then Some s.standing else None)
-more_behind [] s unit k h = refl
-more_behind (t ∷ ss) s unit k h = by (nat_eq t.unit unit && nat_eq t.number k) h (more_behind ss s unit k)
+more_after [] s unit k h = refl
+more_after (t ∷ ss) s unit k h = by (nat_eq t.unit unit && nat_eq t.number k) h (more_after ss s unit k)
   where
     by : (b : Bool) → (if b then Some t.standing else static_in ss unit k) ≡ None
         → (static_in ss unit k ≡ None → static_in (ss ++ s ∷ []) unit k ≡ (if nat_eq s.unit unit && nat_eq s.number k then Some s.standing else None))
@@ -55,7 +55,7 @@ live_more : (gs : List Generation) (g : Generation) → live_bytes (gs ++ g ∷ 
 live_more [] g = omega arith
 live_more (x ∷ gs) g = omega (arith, live_more gs g)
 
--- what is made behind what was made
+-- what is made after what was made
 further_gives : {A B : Type 0} (a : Answer A) (go : A → World → Answer B) (y : A) (u : B) (x z : World) → a ≡ Yields y x → go y x ≡ Yields u z → further a go ≡ Yields u z
 further_gives a go y u x z e f = ap (λ o. further o go) e ∙ f
 
@@ -66,9 +66,9 @@ among_front [] ys i g e = absurd (none_some e)
 among_front (x ∷ xs) ys zero g e = e
 among_front (x ∷ xs) ys (suc i) g e = among_front xs ys i g e
 
-among_behind : (xs ys : List Global) (i : ℕ) (g : Global) → slice_get ys i ≡ Some g → (k : ℕ) × (slice_get (xs ++ ys) k ≡ Some g)
-among_behind [] ys i g e = (i, e)
-among_behind (x ∷ xs) ys i g e = let r = among_behind xs ys i g e in (suc r.0, r.1)
+among_after : (xs ys : List Global) (i : ℕ) (g : Global) → slice_get ys i ≡ Some g → (k : ℕ) × (slice_get (xs ++ ys) k ≡ Some g)
+among_after [] ys i g e = (i, e)
+among_after (x ∷ xs) ys i g e = let r = among_after xs ys i g e in (suc r.0, r.1)
 
 pub global_among : (us : List TypedUnit) (i : ℕ) (u : TypedUnit) (number : ℕ) (g : Global) → slice_get us i ≡ Some u → slice_get u.globals number ≡ Some g
     → (k : ℕ) × (slice_get (all_globals us) k ≡ Some g)
@@ -76,7 +76,7 @@ global_among [] i u number g e h = absurd (none_some e)
 global_among (v ∷ us) zero u number g e h =
     (number, among_front v.globals (all_globals us) number g (ap (λ u. slice_get u.globals number) (some_same e) ∙ h))
 global_among (v ∷ us) (suc i) u number g e h =
-    let r = global_among us i u number g e h in among_behind v.globals (all_globals us) r.0 g r.1
+    let r = global_among us i u number g e h in among_after v.globals (all_globals us) r.0 g r.1
 
 -- what is made for globals, in parts
 
@@ -178,7 +178,7 @@ module _ (unit number : ℕ) (kind : VariableKind) (d : Description) (p : Standi
     later = later_then w with_one v one_later m.later;
     kept = λ other k q h. m.kept other k q (subst (λ ss. static_in ss other k ≡ Some q) (sym statics_are) (more_kept w.statics new_one other k q h));
     apart = λ other k e h. m.apart other k e (subst (λ ss. static_in ss other k ≡ None) (sym statics_are)
-        (more_behind w.statics new_one other k h ∙ ap (λ b. if b && nat_eq number k then Some p else None) e));
+        (more_after w.statics new_one other k h ∙ ap (λ b. if b && nat_eq number k then Some p else None) e));
     found = found;
   }
     where
@@ -201,14 +201,14 @@ module _ (unit number : ℕ) (kind : VariableKind) (d : Description) (p : Standi
           let z : number ≡ number + 0 = omega arith in
           let here : static_in with_one.statics unit number ≡ Some p =
           ap (λ ss. static_in ss unit number) statics_are
-          ∙ more_behind w.statics new_one unit number (fresh number (omega arith))
+          ∙ more_after w.statics new_one unit number (fresh number (omega arith))
           ∙ ap (λ b. if b && nat_eq number number then Some p else None) (eq-eqb unit unit refl)
           ∙ ap (λ b. if b then Some p else None) (eq-eqb number number refl) in
           (p, subst (λ n. static_in v.statics unit n ≡ Some p) z (m.kept unit number p here), stands like c e)
       found fresh (suc i) like c e =
           let z : suc number + i ≡ number + suc i = omega arith in
           let q = m.found (λ k le. ap (λ ss. static_in ss unit k) statics_are
-          ∙ more_behind w.statics new_one unit k (fresh k (omega (arith, le)))
+          ∙ more_after w.statics new_one unit k (fresh k (omega (arith, le)))
           ∙ ap (λ b. if b && nat_eq number k then Some p else None) (eq-eqb unit unit refl)
           ∙ ap (λ b. if b then Some p else None) (unlike k le)) i like c e in
           (q.0, subst (λ n. static_in v.statics unit n ≡ Some q.0) z q.1, q.2)
@@ -258,11 +258,11 @@ last_there : {A : Type 0} (xs : List A) (y : A) → slice_get (xs ++ y ∷ []) (
 last_there [] y = refl
 last_there (x ∷ xs) y = last_there xs y
 
-one_behind : {A : Type 0} (xs : List A) (y : A) (n : ℕ) (z : A) → slice_get (xs ++ y ∷ []) n ≡ Some z → (slice_get xs n ≡ Some z) ⊎ (y ≡ z)
-one_behind [] y zero z h = inr (some_same h)
-one_behind [] y (suc n) z h = absurd (none_some h)
-one_behind (x ∷ xs) y zero z h = inl h
-one_behind (x ∷ xs) y (suc n) z h = one_behind xs y n z h
+in_one_more : {A : Type 0} (xs : List A) (y : A) (n : ℕ) (z : A) → slice_get (xs ++ y ∷ []) n ≡ Some z → (slice_get xs n ≡ Some z) ⊎ (y ≡ z)
+in_one_more [] y zero z h = inr (some_same h)
+in_one_more [] y (suc n) z h = absurd (none_some h)
+in_one_more (x ∷ xs) y zero z h = inl h
+in_one_more (x ∷ xs) y (suc n) z h = in_one_more xs y n z h
 
 -- what making a variable comes to
 record OneMade (kind : VariableKind) (t : Template) (w : World) (p : Standing) (x : World) : Type 0 where
@@ -307,7 +307,7 @@ one_made kinds.Controlled t w made values stacks few small = (
     stack = refl;
     later = later;
     values = values;
-    stacks = λ n s h. each n s (one_behind w.stacks new n s h);
+    stacks = λ n s h. each n s (in_one_more w.stacks new n s h);
     good = (new, last_there w.stacks new, refl);
     bytes = omega arith;
     count = omega arith;
@@ -500,9 +500,9 @@ module _ (all : List Global) (alike : AreAlike all) where
       by true e = absurd (omega (arith, eqb-true from other e, less))
       by false e = refl
 
-  behind : (from : ℕ) (u : TypedUnit) (us : List TypedUnit) (before : List Name) (more : List (Name × Standing)) (w x y : World) → MakesAll from 0 before u.globals more w x → Made (suc from) us x y
+  beyond : (from : ℕ) (u : TypedUnit) (us : List TypedUnit) (before : List Name) (more : List (Name × Standing)) (w x y : World) → MakesAll from 0 before u.globals more w x → Made (suc from) us x y
       → Made from (u ∷ us) w y
-  behind from u us before more w x y m r = record {
+  beyond from u us before more w x y m r = record {
     values = r.values;
     stacks = r.stacks;
     later = later_then w x y m.grown.later r.later;
@@ -538,11 +538,11 @@ module _ (all : List Global) (alike : AreAlike all) where
       (ap (λ ts. bytes_of ts) (made_in_parts before u.globals (all_globals us)) ∙ bytes_in_parts (made_for before u.globals) (made_for (named_after before u.globals) (all_globals us))) small in
       let first = makes_all u.globals from 0 before shared w values stacks externals typed.0.made (λ i g e. among i g (among_front u.globals (all_globals us) i g e)) (omega (arith, few2)) (omega (arith, small2)) in
       let m = first.3 in
-      let rest = all_are_made n (suc from) us (named_after before u.globals) first.1 first.0 typed.1 m.values m.stacks m.externals (λ i g e. let b = among_behind u.globals (all_globals us) i g e in among b.0 g b.1)
+      let rest = all_are_made n (suc from) us (named_after before u.globals) first.1 first.0 typed.1 m.values m.stacks m.externals (λ i g e. let b = among_after u.globals (all_globals us) i g e in among b.0 g b.1)
       (omega (arith, few2, m.count)) (omega (arith, small2, m.bytes)) in (
         rest.0,
         further_gives (statics_made same_name from 0 (map global_variable u.globals) shared w) (λ more w. all_made (suc from) us more w) first.1 tt first.0 rest.0 first.2 rest.1,
-        behind from u us before first.1 w first.0 rest.0 m rest.2,
+        beyond from u us before first.1 w first.0 rest.0 m rest.2,
       )
 
 pub statics_there : (n : ℕ) (us : List TypedUnit) → AreTypedUnits n us → IsLinked us → length (made_for [] (all_globals us)) ≤ generation_limit

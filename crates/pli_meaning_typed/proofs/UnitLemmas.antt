@@ -4,7 +4,7 @@ use Rattle.std.proofs.Common.{sym, ap, ◌∙◌, inl, inr}
 use Rattle.pli_base.specs.declared.statement.Condition.{Condition}
 use Rattle.pli_base.specs.declared.statement.Condition.TheVariants as conditions
 use Rattle.pli_world.specs.Activations.{Activation, OnUnits, no_on_unit, on_unit_for, with_on_unit, with_newest, without_newest}
-use Rattle.pli_meaning_typed.specs.SoundWorlds.{Shape, StandsAsUnit, HaveUnits}
+use Rattle.pli_meaning_typed.specs.SoundWorlds.{Shape, StandsAsOnUnit, HaveOnUnits}
 
 none_some : {A : Type 0} {x : A} → None ≡ Some x → ⊥
 none_some e = absurd (cc)
@@ -14,14 +14,14 @@ some_same e = cc
 
 -- another part of the newest changed
 pub units_kept : (change : Activation → Activation) → ((a : Activation) → (change a).on_units ≡ a.on_units)
-    → (ss : List Shape) (stack : List Activation) → HaveUnits ss stack → HaveUnits ss (with_newest change stack)
+    → (ss : List Shape) (stack : List Activation) → HaveOnUnits ss stack → HaveOnUnits ss (with_newest change stack)
 units_kept change same [] [] h = h
 units_kept change same [] (a ∷ older) h = absurd h
 units_kept change same (s ∷ ss) [] h = absurd h
 units_kept change same (s ∷ ss) (a ∷ older) h = (λ c k e. h.0 c k (ap (λ us. on_unit_for c us) (sym (same a)) ∙ e), h.1)
 
 -- the newest ended
-pub older_units : (s : Shape) (ss : List Shape) (stack : List Activation) → HaveUnits (s ∷ ss) stack → HaveUnits ss (without_newest stack)
+pub older_units : (s : Shape) (ss : List Shape) (stack : List Activation) → HaveOnUnits (s ∷ ss) stack → HaveOnUnits ss (without_newest stack)
 older_units s ss [] h = absurd h
 older_units s ss (a ∷ older) h = h.1
 
@@ -40,7 +40,7 @@ none_there conditions.FixedOverflow k e = none_some e
 none_there conditions.ZeroDivide k e = none_some e
 none_there conditions.Area k e = none_some e
 
-pub reshaped : (s t : Shape) (ss : List Shape) (stack : List Activation) → HasNone stack → HaveUnits (s ∷ ss) stack → HaveUnits (t ∷ ss) stack
+pub reshaped : (s t : Shape) (ss : List Shape) (stack : List Activation) → HasNone stack → HaveOnUnits (s ∷ ss) stack → HaveOnUnits (t ∷ ss) stack
 reshaped s t ss [] none h = absurd h
 reshaped s t ss (a ∷ older) none h = (λ c k e. absurd (none_there c k (ap (λ us. on_unit_for c us) (sym none) ∙ e)), h.1)
 
@@ -58,11 +58,11 @@ unit_put conditions.Area conditions.ZeroDivide o us k e = inr e
 unit_put conditions.Area conditions.Area o us k e = inl e
 
 pub units_put : (c : Condition) (o : Option ℕ) (s : Shape) (ss : List Shape) (stack : List Activation)
-    → ((k : ℕ) → o ≡ Some k → StandsAsUnit s ss k) → HaveUnits (s ∷ ss) stack
-    → HaveUnits (s ∷ ss) (with_newest (λ a. record a { on_units = with_on_unit c o a.on_units }) stack)
+    → ((k : ℕ) → o ≡ Some k → StandsAsOnUnit s ss k) → HaveOnUnits (s ∷ ss) stack
+    → HaveOnUnits (s ∷ ss) (with_newest (λ a. record a { on_units = with_on_unit c o a.on_units }) stack)
 units_put c o s ss [] new h = absurd h
 units_put c o s ss (a ∷ older) new h = (λ d k e. by d k (unit_put c d o a.on_units k e), h.1)
   where
-    by : (d : Condition) (k : ℕ) → (o ≡ Some k) ⊎ (on_unit_for d a.on_units ≡ Some k) → StandsAsUnit s ss k
+    by : (d : Condition) (k : ℕ) → (o ≡ Some k) ⊎ (on_unit_for d a.on_units ≡ Some k) → StandsAsOnUnit s ss k
     by d k (inl e) = new k e
     by d k (inr e) = h.0 d k e

@@ -33,7 +33,7 @@ use Rattle.pli_world.specs.World.{static_in, printed, line_ended, error_in, erro
 use Rattle.pli_value.specs.Value.{Value}
 use Rattle.pli_type_tree.specs.TypedTree.{TypedUnit}
 use Rattle.pli_type_tree.specs.WellTyped.{AreHeld, AreMade, KnownProcedure}
-use Rattle.pli_meaning_typed.specs.SoundWorlds.{IsPartAt, IsNear, HasPart, IsGood, IsWhole, IsOwn, IsVariable, IsPassed, AreGood, IsOwnSlot, AreSlots, AreSoundBlocks, IsHolding, HoldsValues, Known, Shape, AreShaped, HaveUnits, AreOfUnits, EachGood, AreStacksGood, StandsGood, AreStatics}
+use Rattle.pli_meaning_typed.specs.SoundWorlds.{IsPartAt, IsNear, HasPart, IsGood, IsWhole, IsOwn, IsVariable, IsPassed, AreGood, IsOwnSlot, AreSlots, AreSoundBlocks, IsHolding, HoldsValues, Known, Shape, AreShaped, HaveOnUnits, AreOfUnits, EachGood, AreStacksGood, StandsGood, AreStatics}
 use Rattle.pli_meaning_typed.specs.SoundWorlds.{IsSound, IsLater, IsTold, Answers}
 use Rattle.pli_meaning_tree.specs.TreeMeaning.{unit_names}
 use Rattle.pli_meaning_typed.proofs.BlockLemmas.{block_found, values_put}
@@ -151,7 +151,7 @@ module _ (units : List TypedUnit) where
     stacks = stacks_later v w later g s.stacks;
     stack = subst (λ stack. AreShaped w ss stack) (sym e) (shaped_later v w ss v.activations later s.stack);
     of_units = s.of_units;
-    on_units = subst (λ stack. HaveUnits ss stack) (sym e) s.on_units;
+    on_units = subst (λ stack. HaveOnUnits ss stack) (sym e) s.on_units;
     made = statics_later v w later f s.made;
   }
 
@@ -160,7 +160,7 @@ module _ (units : List TypedUnit) where
   newest_later change w = record { more = omega arith; lived = λ n g lt h. (g, h, refl); stacks = λ n s h. (s, h, refl) }
 
   pub newest_sound : (change : Activation → Activation) (ss ts : List Shape) (w : World) → IsSound units ss w → AreOfUnits units ts
-      → AreShaped w ts (with_newest change w.activations) → HaveUnits ts (with_newest change w.activations) → IsSound units ts (in_newest change w)
+      → AreShaped w ts (with_newest change w.activations) → HaveOnUnits ts (with_newest change w.activations) → IsSound units ts (in_newest change w)
   newest_sound change ss ts w sound own h on = record {
     values = sound.values;
     stacks = stacks_later w (in_newest change w) (newest_later change w) refl sound.stacks;
@@ -577,7 +577,7 @@ shape_of head link parameters procedures lasting = record {
 }
 
 module _ (units : List TypedUnit) where
-  -- a slot more, behind the parameters
+  -- a slot more, after the parameters
   slots_more : (w : World) (ts : List ParameterType) (ps : List Place) (n : ℕ) (d : Description) (p : Place) → AreSlots w ts ps n → IsVariable w d p
       → AreSlots w (ts ++ Stated d ∷ []) (ps ++ p ∷ []) n
   slots_more w [] [] zero d p h g = ((d, refl, g), tt)

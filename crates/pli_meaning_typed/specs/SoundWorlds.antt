@@ -28,13 +28,13 @@ IsPartAt whole offset part =
     (more : ℕ) (d : Description) (k : ℕ) → first_scalar part more d ≡ Some k
     → (j : ℕ) × (first_scalar whole (offset + more) d ≡ Some j)
 
--- a description so many bytes behind the beginning of a generation: each of its parts begins within the limit
+-- a description so many bytes after the beginning of a generation: each of its parts begins within the limit
 -- of offsets
 abbrev pub IsNear : (offset : ℕ) → Description → Type 0
 IsNear offset whole =
     (more : ℕ) (d : Description) (k : ℕ) → first_scalar whole more d ≡ Some k → offset + more ≤ offset_limit
 
--- what a place leads into has such a part so many bytes behind its beginning: at position 0 its generation,
+-- what a place leads into has such a part so many bytes after its beginning: at position 0 its generation,
 -- if that lives; and else a block of the whole description that the place has met, as no other serves it
 abbrev pub HasPart : World → Place → (offset : ℕ) → Description → Type 0
 HasPart w p offset d =
@@ -86,7 +86,7 @@ AreGood w ts ps = ⊥
 abbrev pub IsOwnSlot : World → ParameterType → Place → Type 0
 IsOwnSlot w type p = (d : Description) × (type ≡ Stated d) × IsVariable w d p
 
--- places of these types, one for one; those behind so many parameters are those of variables
+-- places of these types, one for one; those after so many parameters are those of variables
 abbrev pub AreSlots : World → List ParameterType → List Place → (parameters : ℕ) → Type 0
 AreSlots w [] [] n = Unit {0}
 AreSlots w (t ∷ ts) (p ∷ ps) zero = IsOwnSlot w t p × AreSlots w ts ps zero
@@ -161,7 +161,7 @@ Stand unit known (s ∷ older) h (b ∷ bs) =
 
 -- a block is an ON-unit that an activation may have: it is known to take nothing and to give nothing, and
 -- from the activation on stand the blocks around it, with labels that last
-pub record StandsAsUnit (s : Shape) (older : List Shape) (block : ℕ) : Type 0 where
+pub record StandsAsOnUnit (s : Shape) (older : List Shape) (block : ℕ) : Type 0 where
   pub procedure : KnownProcedure
   pub found : s.procedures block ≡ Some procedure
   pub parameters : procedure.parameters ≡ []
@@ -169,12 +169,12 @@ pub record StandsAsUnit (s : Shape) (older : List Shape) (block : ℕ) : Type 0 
   pub stand : Stand s.unit s.lasting (s ∷ older) (suc (length older)) procedure.around
 
 -- so are all ON-units of activations of these shapes
-abbrev pub HaveUnits : List Shape → List Activation → Type 0
-HaveUnits [] [] = Unit {0}
-HaveUnits (s ∷ ss) (a ∷ older) =
-    ((c : Condition) (block : ℕ) → on_unit_for c a.on_units ≡ Some block → StandsAsUnit s ss block)
-    × HaveUnits ss older
-HaveUnits ss stack = ⊥
+abbrev pub HaveOnUnits : List Shape → List Activation → Type 0
+HaveOnUnits [] [] = Unit {0}
+HaveOnUnits (s ∷ ss) (a ∷ older) =
+    ((c : Condition) (block : ℕ) → on_unit_for c a.on_units ≡ Some block → StandsAsOnUnit s ss block)
+    × HaveOnUnits ss older
+HaveOnUnits ss stack = ⊥
 
 -- they are of units of a program
 abbrev pub AreOfUnits : List TypedUnit → List Shape → Type 0
@@ -214,7 +214,7 @@ pub record IsSound (units : List TypedUnit) (shapes : List Shape) (w : World) : 
   pub stacks : AreStacksGood w
   pub stack : AreShaped w shapes w.activations
   pub of_units : AreOfUnits units shapes
-  pub on_units : HaveUnits shapes w.activations
+  pub on_units : HaveOnUnits shapes w.activations
   pub made : (i : ℕ) (u : TypedUnit) → slice_get units i ≡ Some u → AreStatics i u.globals w
 
 -- a later world: what lives there and was made before lived before, and is of the same description; each

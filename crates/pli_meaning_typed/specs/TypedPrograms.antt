@@ -1,5 +1,5 @@
--- Well-typed programs: each procedure of each unit is, the units are linked, and the variables that are made
--- before the program begins have room.
+-- Well-typed programs: each procedure of each unit is, the units are linked, and the static
+-- variables have room.
 use Rattle.std.specs.Prelude.{◌≡◌, ℕ, ◌+◌, ◌≤◌, Bool, true, false, Option, Some, None}
 use Rattle.std.specs.Prelude.{List, [], ◌∷◌, ◌++◌, length, map, slice_get}
 use Rattle.std.specs.List.{flat_map}
@@ -121,7 +121,7 @@ abbrev pub HasMain : Option TypedUnit → Type 0
 HasMain None = ⊥
 HasMain (Some u) = u.signature ≡ record { parameters = []; result = None }
 
--- each unit is well typed, they are linked, what is made before the program begins has room, and the main
+-- each unit is well typed, they are linked, the static variables have room, and the main
 -- unit can begin
 pub record WellTyped (p : TypedProgram) : Type 0 where
   pub units : AreTypedUnits p.greatest p.units

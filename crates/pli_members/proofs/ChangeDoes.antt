@@ -76,18 +76,18 @@ pub record AreLines (lines : List (List ℕ)) : Type 0 where
   pub each : All IsLine lines
 
 -- a change that is not refused leaves lines of a member
-pub lines_behind : (change : Change) (lines : List (List ℕ)) → refusal_of_lines change lines ≡ None → AreLines lines → AreLines (changed_lines change lines)
-lines_behind (Insert after text) lines none are =
+pub lines_after : (change : Change) (lines : List (List ℕ)) → refusal_of_lines change lines ≡ None → AreLines lines → AreLines (changed_lines change lines)
+lines_after (Insert after text) lines none are =
     let can = insertion_from_none after text lines none in
     let one_more = length-insert lines after text can.in_range in
     record {
       few = omega (arith, one_more, can.room);
       each = All-append IsLine (take after lines) (text ∷ drop after lines) (All-take IsLine after lines are.each) (All-append IsLine (text ∷ []) (drop after lines) (λ k d h. All-one text can.line k d h) (All-drop IsLine after lines are.each));
     }
-lines_behind (Replace number text) lines none are =
+lines_after (Replace number text) lines none are =
     let can = replacement_from_none number text lines none in
     record { few = omega (arith, length-set lines (number - 1) text, are.few); each = All-set IsLine lines (number - 1) text can.line are.each }
-lines_behind (Remove first last) lines none are =
+lines_after (Remove first last) lines none are =
     let can = removal_from_none first last lines none in
     record {
       few = omega (arith, length-append (take (first - 1) lines) (drop last lines), length-take-le (first - 1) lines (omega (arith, can.order, can.in_range)), length-drop last lines, can.counted, can.order, can.in_range, are.few);
@@ -125,7 +125,7 @@ module _ (s : Store) (name : Name) (at : ℕ) (place : IsPlace s name at) where
           let new : Member = record { kind = m.kind; lines = lines; version = s.next } in
           let here : IsKeptMember s.next m = subst (λ o. IfSome o (IsKeptMember s.next)) place.found (IfSome-lookup_from_All (IsKeptMember s.next) (is_named name) s.entries kept.members) in
           let as_many : length (insert_entry name_order s.entries name new) ≡ length s.entries = ap length (sym (place.writes new)) ∙ length-set s.entries at (name, new) in
-          let are = lines_behind change m.lines clear (record { few = here.few; each = here.lines }) in
+          let are = lines_after change m.lines clear (record { few = here.few; each = here.lines }) in
           subst IsKept (sym (ap (with_lines s name change) place.found)) (kept_with_member s name m.kind lines kept left (omega (arith, as_many, kept.few)) are.few are.each)
 
     -- lines that are changed at the place are changed under the name

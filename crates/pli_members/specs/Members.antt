@@ -72,14 +72,14 @@ deleted s name = record { entries = remove_entry (is_named name) s.entries; next
 
 -- a change of a member's lines, which are counted from 1
 pub data Change : Type 0 where
-  -- a line is put behind line `after`, first where that is 0
+  -- a line is put after line `after`, first where that is 0
   Insert : (after : ℕ) (text : List ℕ) → Change
   -- a line has another text
   Replace : (number : ℕ) (text : List ℕ) → Change
   -- the lines from the first to the last are taken away
   Remove : (first last : ℕ) → Change
 
--- the lines behind a change
+-- the lines after a change
 abbrev pub changed_lines : Change → List (List ℕ) → List (List ℕ)
 changed_lines (Insert after text) lines = insert lines after text
 changed_lines (Replace number text) lines = slice_set lines (number - 1) text
@@ -94,7 +94,7 @@ with_lines s name change (Some m) = with_member s name m.kind (changed_lines cha
 abbrev pub with_change : Store → Name → Change → Store
 with_change s name change = with_lines s name change (member_of s name)
 
--- a line is put behind line `after` of the member, first where that is 0
+-- a line is put after line `after` of the member, first where that is 0
 abbrev pub with_line : Store → Name → ℕ → List ℕ → Store
 with_line s name after text = with_change s name (Insert after text)
 

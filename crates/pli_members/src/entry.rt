@@ -104,7 +104,7 @@ impl NamedMember {
         self.version = version;
     }
 
-    // Takes the lines from `start` up to `end` away, under a new version. Only what stands behind them is moved.
+    // Takes the lines from `start` up to `end` away, under a new version. Only what stands after them is moved.
     pub(crate) fn take_lines(&mut self, start: usize, end: usize, version: u64)
         requires order { start ≤ end }
         requires in_range { end ≤ length self.old.1.lines }

@@ -16,7 +16,7 @@ const TEXT_LIMIT: usize = 120;
 /// A change of a member's lines, which are counted from 1.
 #[derive(Clone, Copy)]
 pub(crate) enum Change<'a> {
-    /// A line is put behind line `after`, first where that is 0.
+    /// A line is put after line `after`, first where that is 0.
     Insert { after: usize, text: &'a [u8] },
     /// A line has another text.
     Replace { number: usize, text: &'a [u8] },

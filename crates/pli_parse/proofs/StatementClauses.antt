@@ -13,7 +13,7 @@ use Rattle.pli_base.specs.declared.failure.Failure.{Failure}
 use Rattle.pli_base.specs.declared.token.Fault.{Fault}
 use Rattle.pli_base.specs.answers.FailureAnswers.{Fails}
 
--- behind a condition, THEN and the first clause, a fault of the second clause is the fault of the statement; m is the number of the next statement
+-- after a condition, THEN and the first clause, a fault of the second clause is the fault of the statement; m is the number of the next statement
 pub alternative_fails : (i : Inside) (c : Context) (p k m : ℕ) (ts us : Tokens) (condition : Front Expression) (first : Front Statement) (e : Failure Fault)
     → expression_in i.levels p ts ≡ Ok condition
     → taken (is_word (codes "THEN")) ThenExpected condition.next condition.rest ≡ Ok us

@@ -20,17 +20,17 @@ use Rattle.pli_parse_expression.specs.Expressions.{SpellsOutermost}
 use Rattle.pli_parse_expression.specs.Reading as expressions
 use Rattle.pli_parse_expression.specs.Reading.{expression_at, reference_at, arguments_at, argument_of}
 use Rattle.pli_parse_expression.proofs.ReadFaults.{expression_at_sound, reference_at_stands, arguments_stand, arguments_sound}
-use Rattle.pli_base.specs.Words.{behind}
+use Rattle.pli_base.specs.Words.{rest_after}
 use Rattle.pli_parse_declaration.specs.DeclarationReading.{identifier_at, list_at, returned_at}
 use Rattle.pli_parse_declaration.specs.declared.list.Separator.TheVariants.{Commas}
 use Rattle.pli_base.specs.Reading.{read_as, mapped, taken, enclosed, if_open, or_none}
 use Rattle.pli_parse_declaration.specs.DeclarationGrammar.{SpellsListed}
-use Rattle.pli_parse_fault.proofs.ReadingFaults.{Stands, misfit_stands, at_least, stands_behind, stands_then, stands_made, mapped_stands}
+use Rattle.pli_parse_fault.proofs.ReadingFaults.{Stands, misfit_stands, at_least, stands_after, stands_then, stands_made, mapped_stands}
 use Rattle.pli_parse_declaration.proofs.DeclarationFaults.{identifier_sound, IsSound, taken_then, enclosed_stands, optional_stands, list_sound, returned_stands}
 use Rattle.pli_parse.proofs.WordsFirst.{range_begins, place_begins, put_begins, option_begins}
-use Rattle.pli_parse_statement.specs.StatementWords.{condition_of, behind_word}
+use Rattle.pli_parse_statement.specs.StatementWords.{condition_of, after_word}
 use Rattle.pli_parse_statement.specs.StatementReading.{uncounted, expression_in, reference_in, stopped, closing, parenthesized, is_equals, assignment_at, condition_from, condition_at, if_word, optional_at, RangeWord, ToWord, ByWord, RepeatWord, range_first, range_from, range_at, Specified, Unspecified, Conditioned, Iterated, specified, control_from, control_at, PlaceWord, InWord, SetWord, place_first, placed_by, places_from, allocation_at, PutWord, SkipWord, ListWord, put_first, put_by, put_from, put_begun, put_at, call_at, OptionWord, OptionsWord, ReturnsWord, RecursiveWord, option_first, main_at, options_by, options_from, heading_at}
-use Rattle.pli_parse.proofs.StatementReadTools.{expression_reads, parenthesized_reads, list_reads, behind_is}
+use Rattle.pli_parse.proofs.StatementReadTools.{expression_reads, parenthesized_reads, list_reads, after_is}
 
 pub expression_sound : (levels : ℕ) → IsSound (expression_in levels)
 unfolding expression_in
@@ -56,9 +56,9 @@ parenthesized_stands one sound p ts =
 parenthesized_sound : {A : Type 0} (one : ℕ → Tokens → Result (Front A) Fault) → IsSound one → IsSound (parenthesized one)
 parenthesized_sound one sound p ts = at_least 3 1 p ts (parenthesized one p ts) (omega arith) (parenthesized_stands one sound p ts)
 
--- what is read behind a first token
-pub behind_first : {A : Type 0} (least p : ℕ) (ts us : Tokens) (r : Result (Front A) Fault) → length ts ≡ suc (length us) → Stands least (p + 1) us r → Stands 1 p ts r
-behind_first least p ts us r one h = at_least (1 + least) 1 p ts r (omega arith) (stands_behind 1 least p (p + 1) ts us r (passes_one p ts us one) h)
+-- what is read after a first token
+pub after_first : {A : Type 0} (least p : ℕ) (ts us : Tokens) (r : Result (Front A) Fault) → length ts ≡ suc (length us) → Stands least (p + 1) us r → Stands 1 p ts r
+after_first least p ts us r one h = at_least (1 + least) 1 p ts r (omega arith) (stands_after 1 least p (p + 1) ts us r (passes_one p ts us one) h)
 
 pub assignment_stands : (levels p : ℕ) (ts : Tokens) → Stands 1 p ts (assignment_at levels p ts)
 unfolding assignment_at
@@ -83,15 +83,15 @@ condition_sound p (t ∷ us) = misfit_stands BadCondition refl p (t ∷ us)
 
 optional_stand : {A : Type 0} (w : Name) (one : ℕ → Tokens → Result (Front A) Fault) → IsSound one → (p : ℕ) (ts : Tokens) → Stands 0 p ts (optional_at w one p ts)
 unfolding optional_at
-optional_stand {A = A} w one sound p ts = by (behind_word w ts) refl
+optional_stand {A = A} w one sound p ts = by (after_word w ts) refl
   where
-    by : (o : Option Tokens) → behind_word w ts ≡ o → Stands {A = Option A} 0 p ts (if_word one p ts o)
+    by : (o : Option Tokens) → after_word w ts ≡ o → Stands {A = Option A} 0 p ts (if_word one p ts o)
     by None e = passes_none p ts
     by (Some us) e =
         at_least 1 0 p ts (mapped Some (one (p + 1) us)) (omega arith)
-        (behind_first 1 p ts us (mapped Some (one (p + 1) us)) (ap length (behind_is w ts us e)) (mapped_stands 1 (p + 1) us Some (one (p + 1) us) (sound (p + 1) us)))
+        (after_first 1 p ts us (mapped Some (one (p + 1) us)) (ap length (after_is w ts us e)) (mapped_stands 1 (p + 1) us Some (one (p + 1) us) (sound (p + 1) us)))
 
--- an expression, and behind it another behind a word
+-- an expression, and after it another after a word
 two_stand : {A : Type 0} (levels : ℕ) (w : Name) (value : Expression → Option Expression → A) (p : ℕ) (ts : Tokens)
     → Stands {A = A} 1 p ts (expression_in levels p ts >>= λ x. optional_at w (expression_in levels) x.next x.rest >>= λ y. read_as (value x.value y.value) y.next y.rest)
 two_stand levels w value p ts =
@@ -106,13 +106,13 @@ range_stands levels p ts = by (range_first ts) refl
     by None e = passes_none p ts
     by (Some (ToWord, us)) e =
         at_least 1 0 p ts (range_from levels p ts (Some (ToWord, us))) (omega arith)
-        (behind_first 1 p ts us (range_from levels p ts (Some (ToWord, us))) (ap length (range_begins ts us ToWord e)) (two_stand levels (codes "BY") (λ x y. Some (To x y)) (p + 1) us))
+        (after_first 1 p ts us (range_from levels p ts (Some (ToWord, us))) (ap length (range_begins ts us ToWord e)) (two_stand levels (codes "BY") (λ x y. Some (To x y)) (p + 1) us))
     by (Some (ByWord, us)) e =
         at_least 1 0 p ts (range_from levels p ts (Some (ByWord, us))) (omega arith)
-        (behind_first 1 p ts us (range_from levels p ts (Some (ByWord, us))) (ap length (range_begins ts us ByWord e)) (two_stand levels (codes "TO") (λ x y. Some (By x y)) (p + 1) us))
+        (after_first 1 p ts us (range_from levels p ts (Some (ByWord, us))) (ap length (range_begins ts us ByWord e)) (two_stand levels (codes "TO") (λ x y. Some (By x y)) (p + 1) us))
     by (Some (RepeatWord, us)) e =
         at_least 1 0 p ts (range_from levels p ts (Some (RepeatWord, us))) (omega arith)
-        (behind_first 1 p ts us (range_from levels p ts (Some (RepeatWord, us))) (ap length (range_begins ts us RepeatWord e))
+        (after_first 1 p ts us (range_from levels p ts (Some (RepeatWord, us))) (ap length (range_begins ts us RepeatWord e))
         (mapped_stands 1 (p + 1) us (λ next. Some (Repeat next)) (expression_in levels (p + 1) us) (expression_sound levels (p + 1) us)))
 
 conditioned_less : (ts us : Tokens) → specified ts ≡ Conditioned us → length ts ≡ suc (length us)
@@ -120,12 +120,12 @@ unfolding specified
 conditioned_less [] us h = cc
 conditioned_less (Word n ∷ Sign OpenParenthesis ∷ vs) us h = by (same_name n (codes "WHILE")) h
   where
-    behind_of : Specified → Tokens
-    behind_of (Conditioned ws) = ws
-    behind_of s = []
+    after_of : Specified → Tokens
+    after_of (Conditioned ws) = ws
+    after_of s = []
 
     by : (b : Bool) → cond b (Conditioned (Sign OpenParenthesis ∷ vs)) Iterated ≡ Conditioned us → length (Word n ∷ Sign OpenParenthesis ∷ vs) ≡ suc (length us)
-    by true e = ap (λ (s : Specified). suc (length (behind_of s))) e
+    by true e = ap (λ (s : Specified). suc (length (after_of s))) e
     by false e = cc
 conditioned_less (Word n ∷ vs) us h = cc
 conditioned_less (t ∷ vs) us h = cc
@@ -138,7 +138,7 @@ control_stands levels p ts = by (specified ts) refl
     by Unspecified e = passes_none p ts
     by (Conditioned us) e =
         at_least 1 0 p ts (control_from levels p ts (Conditioned us)) (omega arith)
-        (behind_first 1 p ts us (control_from levels p ts (Conditioned us)) (conditioned_less ts us e)
+        (after_first 1 p ts us (control_from levels p ts (Conditioned us)) (conditioned_less ts us e)
         (mapped_stands 1 (p + 1) us (λ c. Some (While c)) (parenthesized (expression_in levels) (p + 1) us) (parenthesized_sound (expression_in levels) (expression_sound levels) (p + 1) us)))
     by Iterated e =
         at_least 1 0 p ts (control_from levels p ts Iterated) (omega arith)
@@ -167,13 +167,13 @@ both_stand levels bound n area target p ts = by (place_first ts) refl
     by (Some (InWord, us)) e = second_place ts us InWord p e
     by (Some (SetWord, us)) e = second_place ts us SetWord p e
 
--- a reference in parentheses behind a word
+-- a reference in parentheses after a word
 place_stands : (levels : ℕ) (more : Reference → ℕ → Tokens → Result (Front Allocation) Fault) → ((r : Reference) (q : ℕ) (us : Tokens) → Stands 0 q us (more r q us)) → (p : ℕ) (ts us : Tokens) → length ts ≡ suc (length us)
     → Stands {A = Allocation} 0 p ts (parenthesized (reference_in levels) (p + 1) us >>= λ r. more r.value r.next r.rest)
 place_stands levels more stands p ts us one =
     let read : Result (Front Allocation) Fault = parenthesized (reference_in levels) (p + 1) us >>= λ r. more r.value r.next r.rest in
     at_least 1 0 p ts read (omega arith)
-    (behind_first 3 p ts us read one
+    (after_first 3 p ts us read one
     (stands_then 3 0 (p + 1) us (parenthesized (reference_in levels) (p + 1) us) (λ r. more r.value r.next r.rest) (parenthesized_stands (reference_in levels) (reference_sound levels) (p + 1) us)
     (λ r s. stands r.value r.next r.rest)))
 
@@ -222,11 +222,11 @@ put_both levels bound x xs p ts = by (put_first ts) refl
     by (Some (SkipWord, us)) e = second_option ts us SkipWord p e
     by (Some (ListWord, us)) e = second_option ts us ListWord p e
 
--- behind SKIP
-behind_skip : (levels : ℕ) (more : Bool → List Expression → ℕ → Tokens → Result (Front Body) Fault) (items : List Expression) → ((q : ℕ) (vs : Tokens) → Stands 0 q vs (more true items q vs))
+-- after SKIP
+after_skip : (levels : ℕ) (more : Bool → List Expression → ℕ → Tokens → Result (Front Body) Fault) (items : List Expression) → ((q : ℕ) (vs : Tokens) → Stands 0 q vs (more true items q vs))
     → (p : ℕ) (ts us : Tokens) → length ts ≡ suc (length us) → Stands 0 p ts (more true items (p + 1) us)
-behind_skip levels more items stands p ts us one =
-    at_least 1 0 p ts (more true items (p + 1) us) (omega arith) (behind_first 0 p ts us (more true items (p + 1) us) one (stands (p + 1) us))
+after_skip levels more items stands p ts us one =
+    at_least 1 0 p ts (more true items (p + 1) us) (omega arith) (after_first 0 p ts us (more true items (p + 1) us) one (stands (p + 1) us))
 
 -- expressions that were read are one or more
 expressions_some : (levels p : ℕ) (ts : Tokens) (x : Front (List Expression)) → parenthesized (list_at Commas (expression_in levels)) p ts ≡ Ok x → (e : Expression) × (es : List Expression) × (x.value ≡ e ∷ es)
@@ -238,18 +238,18 @@ expressions_some levels p ts x h =
     by q us [] e spelled = absurd (subst (SpellsListed Commas (SpellsOutermost levels) q us) e spelled)
     by q us (y ∷ ys) e spelled = (y, ys, e)
 
--- behind LIST
-behind_list : (levels : ℕ) (more : Bool → List Expression → ℕ → Tokens → Result (Front Body) Fault) (skip : Bool) → ((e : Expression) (es : List Expression) (q : ℕ) (vs : Tokens) → Stands 0 q vs (more skip (e ∷ es) q vs))
+-- after LIST
+after_list : (levels : ℕ) (more : Bool → List Expression → ℕ → Tokens → Result (Front Body) Fault) (skip : Bool) → ((e : Expression) (es : List Expression) (q : ℕ) (vs : Tokens) → Stands 0 q vs (more skip (e ∷ es) q vs))
     → (p : ℕ) (ts us : Tokens) → length ts ≡ suc (length us) → Stands {A = Body} 0 p ts (parenthesized (list_at Commas (expression_in levels)) (p + 1) us >>= λ x. more skip x.value x.next x.rest)
-behind_list levels more skip stands p ts us one =
+after_list levels more skip stands p ts us one =
     let first : Result (Front (List Expression)) Fault = parenthesized (list_at Commas (expression_in levels)) (p + 1) us in
     let read : Result (Front Body) Fault = first >>= λ x. more skip x.value x.next x.rest in
-    at_least 1 0 p ts read (omega arith) (behind_first 3 p ts us read one (by first refl (parenthesized_stands (list_at Commas (expression_in levels)) (list_sound Commas (expression_in levels) (expression_sound levels)) (p + 1) us)))
+    at_least 1 0 p ts read (omega arith) (after_first 3 p ts us read one (by first refl (parenthesized_stands (list_at Commas (expression_in levels)) (list_sound Commas (expression_in levels) (expression_sound levels)) (p + 1) us)))
   where
     by : (r : Result (Front (List Expression)) Fault) → parenthesized (list_at Commas (expression_in levels)) (p + 1) us ≡ r → Stands 3 (p + 1) us r → Stands {A = Body} 3 (p + 1) us (r >>= λ x. more skip x.value x.next x.rest)
     by (Ok x) e h =
         let some = expressions_some levels (p + 1) us x e in
-        stands_behind 3 0 (p + 1) x.next us x.rest (more skip x.value x.next x.rest) h (subst (λ es. Stands 0 x.next x.rest (more skip es x.next x.rest)) (sym some.2) (stands some.0 some.1 x.next x.rest))
+        stands_after 3 0 (p + 1) x.next us x.rest (more skip x.value x.next x.rest) h (subst (λ es. Stands 0 x.next x.rest (more skip es x.next x.rest)) (sym some.2) (stands some.0 some.1 x.next x.rest))
     by (Err f) e h = h
 
 put_listed : (levels bound : ℕ) (x : Expression) (xs : List Expression) (p : ℕ) (ts : Tokens) → Stands 0 p ts (put_from levels (suc (suc bound)) false (x ∷ xs) p ts)
@@ -258,7 +258,7 @@ put_listed levels bound x xs p ts = by (put_first ts) refl
   where
     by : (o : Option (PutWord × Tokens)) → put_first ts ≡ o → Stands 0 p ts (put_by levels (put_from levels (suc bound)) false (x ∷ xs) p ts o)
     by None e = passes_none p ts
-    by (Some (SkipWord, us)) e = behind_skip levels (put_from levels (suc bound)) (x ∷ xs) (λ q vs. put_both levels bound x xs q vs) p ts us (ap length (put_begins ts us SkipWord e))
+    by (Some (SkipWord, us)) e = after_skip levels (put_from levels (suc bound)) (x ∷ xs) (λ q vs. put_both levels bound x xs q vs) p ts us (ap length (put_begins ts us SkipWord e))
     by (Some (ListWord, us)) e = second_option ts us ListWord p e
 
 put_skipped : (levels bound p : ℕ) (ts : Tokens) → Stands 0 p ts (put_from levels (suc (suc bound)) true [] p ts)
@@ -268,7 +268,7 @@ put_skipped levels bound p ts = by (put_first ts) refl
     by : (o : Option (PutWord × Tokens)) → put_first ts ≡ o → Stands 0 p ts (put_by levels (put_from levels (suc bound)) true [] p ts o)
     by None e = passes_none p ts
     by (Some (SkipWord, us)) e = second_option ts us SkipWord p e
-    by (Some (ListWord, us)) e = behind_list levels (put_from levels (suc bound)) true (λ y ys q vs. put_both levels bound y ys q vs) p ts us (ap length (put_begins ts us ListWord e))
+    by (Some (ListWord, us)) e = after_list levels (put_from levels (suc bound)) true (λ y ys q vs. put_both levels bound y ys q vs) p ts us (ap length (put_begins ts us ListWord e))
 
 put_none : (levels bound p : ℕ) (ts : Tokens) → Stands 0 p ts (put_from levels (suc (suc (suc bound))) false [] p ts)
 unfolding put_from
@@ -276,8 +276,8 @@ put_none levels bound p ts = by (put_first ts) refl
   where
     by : (o : Option (PutWord × Tokens)) → put_first ts ≡ o → Stands 0 p ts (put_by levels (put_from levels (suc (suc bound))) false [] p ts o)
     by None e = passes_none p ts
-    by (Some (SkipWord, us)) e = behind_skip levels (put_from levels (suc (suc bound))) [] (λ q vs. put_skipped levels bound q vs) p ts us (ap length (put_begins ts us SkipWord e))
-    by (Some (ListWord, us)) e = behind_list levels (put_from levels (suc (suc bound))) false (λ y ys q vs. put_listed levels bound y ys q vs) p ts us (ap length (put_begins ts us ListWord e))
+    by (Some (SkipWord, us)) e = after_skip levels (put_from levels (suc (suc bound))) [] (λ q vs. put_skipped levels bound q vs) p ts us (ap length (put_begins ts us SkipWord e))
+    by (Some (ListWord, us)) e = after_list levels (put_from levels (suc (suc bound))) false (λ y ys q vs. put_listed levels bound y ys q vs) p ts us (ap length (put_begins ts us ListWord e))
 
 pub put_stands : (levels p : ℕ) (ts : Tokens) → Stands 0 p ts (put_at levels p ts)
 unfolding put_at
@@ -317,24 +317,24 @@ options_stand (suc bound) p ts small = by (option_first ts) refl (options_stand 
         let one : length ts ≡ suc (length us) = ap length (option_begins ts us OptionsWord e) in
         let read : Result (Front (List ProcedureOption)) Fault = options_by (options_from bound) p ts (Some (OptionsWord, us)) in
         at_least 1 0 p ts read (omega arith)
-        (behind_first 1 p ts us read one
+        (after_first 1 p ts us read one
         (stands_then 1 0 (p + 1) us (main_at (p + 1) us) (λ x. mapped (λ xs. x.value ∷ xs) (options_from bound x.next x.rest)) (main_sound (p + 1) us) (λ x s. then_more x.value x.next x.rest more (omega (arith, s.0, s.1)))))
     by (Some (ReturnsWord, us)) e more =
         let one : length ts ≡ suc (length us) = ap length (option_begins ts us ReturnsWord e) in
         let read : Result (Front (List ProcedureOption)) Fault = options_by (options_from bound) p ts (Some (ReturnsWord, us)) in
         at_least 1 0 p ts read (omega arith)
-        (behind_first 3 p ts us read one
+        (after_first 3 p ts us read one
         (stands_then 3 0 (p + 1) us (returned_at (p + 1) us) (λ x. mapped (λ xs. Returns x.value ∷ xs) (options_from bound x.next x.rest)) (returned_stands (p + 1) us)
         (λ x s. then_more (Returns x.value) x.next x.rest more (omega (arith, s.0, s.1)))))
     by (Some (RecursiveWord, us)) e more =
         let one : length ts ≡ suc (length us) = ap length (option_begins ts us RecursiveWord e) in
         let read : Result (Front (List ProcedureOption)) Fault = options_by (options_from bound) p ts (Some (RecursiveWord, us)) in
-        at_least 1 0 p ts read (omega arith) (behind_first 0 p ts us read one (then_more Recursive (p + 1) us more (omega arith)))
+        at_least 1 0 p ts read (omega arith) (after_first 0 p ts us read one (then_more Recursive (p + 1) us more (omega arith)))
 
 pub heading_stands : (name : Identifier) (number p : ℕ) (ts : Tokens) → Stands 1 p ts (heading_at name number p ts)
 unfolding heading_at
 heading_stands name number p ts =
-    stands_then 0 1 p ts (if_open (list_at Commas identifier_at) p ts (behind is_open ts)) _ (optional_stands (list_at Commas identifier_at) (list_sound Commas identifier_at identifier_sound) p ts)
+    stands_then 0 1 p ts (if_open (list_at Commas identifier_at) p ts (rest_after is_open ts)) _ (optional_stands (list_at Commas identifier_at) (list_sound Commas identifier_at identifier_sound) p ts)
     (λ parameters s. stands_then 0 1 parameters.next parameters.rest (options_from (length parameters.rest + 1) parameters.next parameters.rest) _
     (options_stand (length parameters.rest + 1) parameters.next parameters.rest (omega arith))
     (λ options t. stopped_sound (record { name = name; number = number; parameters = or_none parameters.value; options = options.value }) options.next options.rest))

@@ -17,7 +17,7 @@ use Rattle.pli_parse_declaration.proofs.DeclarationSteps.{mapped_ok, two}
 use Rattle.pli_parse_fault.proofs.StepLemmas.{bind_ok}
 use Rattle.pli_base.specs.Statements.{Statement, Numbered, Body, ExternalProcedure, Heading, list_count, AwaitsElse}
 use Rattle.pli_parse_statement.specs.StatementWords.{Context, a_procedure, keyword_of, begins_assignment, StatementKind, Assigns, Empty, Keyed, Unknown, kind_of}
-use Rattle.pli_parse_statement.specs.StatementReading.{Inside, Listing, inner_list, has_semicolon, heading_at, label_at, is_labelled, bad_label, Misplacement, AtLabel, AtStatement, misplacement, keyed_at, unless_misplaced, body_from, behind_label, begun, statement_of, inside_of, statement_at, finished, external_at, unit_from, unit_of, else_first}
+use Rattle.pli_parse_statement.specs.StatementReading.{Inside, Listing, inner_list, has_semicolon, heading_at, label_at, is_labelled, bad_label, Misplacement, AtLabel, AtStatement, misplacement, keyed_at, unless_misplaced, body_from, after_label, begun, statement_of, inside_of, statement_at, finished, external_at, unit_from, unit_of, else_first}
 use Rattle.pli_parse_statement.specs.StatementGrammar.{SpellsHeading, SpellsEnd, SpellsStatement, SpellsStatements, SpellsUnit}
 use Rattle.pli_parse_statement.specs.declared.keyword.Keyword.{Keyword}
 use Rattle.pli_parse_statement.specs.declared.keyword.Keyword.TheVariants as words
@@ -33,10 +33,10 @@ module _ (inside : Option Inside) (levels : ℕ) (inner : InsideReads levels ins
   none : begins_assignment ts ≡ false → NoneBegins p ts
   none h front rest shape begins = none_begins p ts front rest h shape begins
 
-  -- behind a keyword of one word
+  -- after a keyword of one word
   module _ (us : Tokens) (n : Name) (first : ts ≡ Word n ∷ us) (nothing : NoneBegins p ts) where
     word_read : (keyword : Keyword) → keyword_of n ≡ Some keyword
-        → misplacement c keyword (is_labelled label) c.in_unit ≡ None
+        → misplacement c keyword (is_labelled label) c.in_on_unit ≡ None
         → (y : Front Body) → keyed_at levels inside c label p k us keyword ≡ Ok y
         → BodyRead c levels label p k ts y
     word_read words.Procedure word placed y h =
@@ -67,8 +67,8 @@ module _ (inside : Option Inside) (levels : ℕ) (inner : InsideReads levels ins
         return_read c levels label p k fits ts us n first nothing word placed y h
     word_read words.Put word placed y h = put_read c levels label p k fits ts us n first nothing word y h
 
-  -- behind a keyword
-  keyed_read : (us : Tokens) (keyword : Keyword) → kind_of ts ≡ Keyed keyword us → misplacement c keyword (is_labelled label) c.in_unit ≡ None
+  -- after a keyword
+  keyed_read : (us : Tokens) (keyword : Keyword) → kind_of ts ≡ Keyed keyword us → misplacement c keyword (is_labelled label) c.in_on_unit ≡ None
       → (y : Front Body) → keyed_at levels inside c label p k us keyword ≡ Ok y → BodyRead c levels label p k ts y
   keyed_read us keyword kind placed y h =
       let w = keyword_begins ts us keyword kind in
@@ -83,16 +83,16 @@ module _ (inside : Option Inside) (levels : ℕ) (inner : InsideReads levels ins
   faulty us keyword (Some l) (AtLabel code) y h = cc
   faulty us keyword l (AtStatement code) y h = cc
 
-  placed_read : (us : Tokens) (keyword : Keyword) → kind_of ts ≡ Keyed keyword us → (o : Option Misplacement) → misplacement c keyword (is_labelled label) c.in_unit ≡ o
+  placed_read : (us : Tokens) (keyword : Keyword) → kind_of ts ≡ Keyed keyword us → (o : Option Misplacement) → misplacement c keyword (is_labelled label) c.in_on_unit ≡ o
       → (y : Front Body) → unless_misplaced levels inside c label p k us keyword o ≡ Ok y → BodyRead c levels label p k ts y
   placed_read us keyword kind None placed y h = keyed_read us keyword kind placed y h
   placed_read us keyword kind (Some m) placed y h = absurd (faulty us keyword label m y h)
 
-  -- a statement behind its label
+  -- a statement after its label
   body_read : (kind : StatementKind) → kind_of ts ≡ kind → (y : Front Body) → body_from levels inside c label p k ts kind ≡ Ok y → BodyRead c levels label p k ts y
   body_read Assigns kind y h = assignment_read c levels label p k fits ts y h
   body_read (Empty us) kind y h = let e = empty_begins ts us kind in null_read c levels label p k fits ts us e.1 (none e.0) y h
-  body_read (Keyed keyword us) kind y h = placed_read us keyword kind (misplacement c keyword (is_labelled label) c.in_unit) refl y h
+  body_read (Keyed keyword us) kind y h = placed_read us keyword kind (misplacement c keyword (is_labelled label) c.in_on_unit) refl y h
   body_read Unknown kind y h = cc
 
 -- a statement
@@ -100,7 +100,7 @@ abbrev pub StatementRead : Context → (levels p k : ℕ) → Tokens → Front S
 StatementRead c levels p k ts y = SpellsFront (λ q us s. SpellsStatement c levels q k us s) p ts y × (AwaitsElse y.value → else_first y.rest ≡ None)
 
 labelled_read : (levels : ℕ) (inside : Option Inside) → InsideReads levels inside → (c : Context) (p k : ℕ) (ts : Tokens) (y : Front Statement) (o : Option ℕ) → bad_label c.standing (label_at p ts) (label_at p ts).value ≡ o
-    → behind_label levels inside c k (label_at p ts) o ≡ Ok y → StatementRead c levels p k ts y
+    → after_label levels inside c k (label_at p ts) o ≡ Ok y → StatementRead c levels p k ts y
 labelled_read levels inside inner c p k ts y (Some q) e h = cc
 labelled_read levels inside inner c p k ts y None e h =
     let x = label_at p ts in
@@ -157,7 +157,7 @@ procedure_stands n (Word m) ts h = by (is_procedure m) refl h
     by false e g = cc
 procedure_stands n t ts h = cc
 
--- nothing stood behind the unit
+-- nothing stood after the unit
 finished_ok : (unit u : ExternalProcedure) (p : ℕ) (ts : Tokens) → finished unit p ts ≡ Ok u → (ts ≡ []) × (unit ≡ u)
 finished_ok unit u p [] h = (refl, cc)
 finished_ok unit u p (t ∷ ts) h = cc
@@ -171,7 +171,7 @@ SpellsWithin levels ts u =
     × Deeper (λ m. SpellsStatements a_procedure m (3 + length hs + 1) 2 ss u.statements) levels
     × SpellsEnd (Some u.heading.name) es × (u.end ≡ 2 + list_count u.statements)
 
--- the external procedure behind its PROCEDURE
+-- the external procedure after its PROCEDURE
 abbrev external_in : Inside → Identifier → Tokens → Result ExternalProcedure Fault
 external_in i name ts =
     heading_at name 1 3 ts >>= λ heading. inner_list i name heading.next 2 heading.rest

@@ -10,12 +10,12 @@ use Rattle.pli_base.specs.declared.syntax.Identifier.{Identifier}
 use Rattle.pli_parse_declaration.specs.DeclarationWords.{is_either}
 use Rattle.pli_parse_declaration.specs.DeclarationGrammar.{SpellsFront}
 use Rattle.pli_parse_fault.proofs.StepLemmas.{some_same}
-use Rattle.pli_parse_statement.specs.StatementWords.{keyword_of, behind_word, begins_assignment, StatementKind, Assigns, Empty, Keyed, Unknown, go_kind, word_kind, first_kind, kind_of}
+use Rattle.pli_parse_statement.specs.StatementWords.{keyword_of, after_word, begins_assignment, StatementKind, Assigns, Empty, Keyed, Unknown, go_kind, word_kind, first_kind, kind_of}
 use Rattle.pli_parse_statement.specs.StatementReading.{has_semicolon, label_at, is_labelled, ending_at, is_label, named_end, EndsHere, next_by, next_of, else_by, else_first}
 use Rattle.pli_parse_statement.specs.StatementGrammar.{BeginsAssignment, SpellsLabel, SpellsEnd}
 use Rattle.pli_parse_statement.specs.declared.keyword.Keyword.{Keyword}
 use Rattle.pli_parse_statement.specs.declared.keyword.Keyword.TheVariants as words
-use Rattle.pli_parse.proofs.StatementReadTools.{behind_is, stopped_ok}
+use Rattle.pli_parse.proofs.StatementReadTools.{after_is, stopped_ok}
 use Rattle.pli_parse.proofs.StatementSpelledTools.{assignment_begins}
 
 -- where no assignment begins, none begins in a part
@@ -65,18 +65,18 @@ OneWord keyword ts us = (n : Name) × (ts ≡ Word n ∷ us) × (keyword_of n �
 abbrev pub TwoWords : (ts us : Tokens) → Type 0
 TwoWords ts us = ts ≡ Word (codes "GO") ∷ Word (codes "TO") ∷ us
 
-go_begins : (n : Name) (ts us : Tokens) (keyword : Keyword) → cond (same_name n (codes "GO")) (go_kind (behind_word (codes "TO") ts)) Unknown ≡ Keyed keyword us → (keyword ≡ words.GoTo) × TwoWords (Word n ∷ ts) us
+go_begins : (n : Name) (ts us : Tokens) (keyword : Keyword) → cond (same_name n (codes "GO")) (go_kind (after_word (codes "TO") ts)) Unknown ≡ Keyed keyword us → (keyword ≡ words.GoTo) × TwoWords (Word n ∷ ts) us
 go_begins n ts us keyword h = go (same_name n (codes "GO")) refl h
   where
-    to : n ≡ codes "GO" → (o : Option Tokens) → behind_word (codes "TO") ts ≡ o → go_kind o ≡ Keyed keyword us → (keyword ≡ words.GoTo) × TwoWords (Word n ∷ ts) us
+    to : n ≡ codes "GO" → (o : Option Tokens) → after_word (codes "TO") ts ≡ o → go_kind o ≡ Keyed keyword us → (keyword ≡ words.GoTo) × TwoWords (Word n ∷ ts) us
     to e (Some vs) f g =
         let word : keyword ≡ words.GoTo = cc in
         let rest : vs ≡ us = cc in
-        (word, ap (λ m. Word m ∷ ts) e ∙ ap (λ ws. Word (codes "GO") ∷ ws) (behind_is (codes "TO") ts vs f ∙ ap (λ ws. Word (codes "TO") ∷ ws) rest))
+        (word, ap (λ m. Word m ∷ ts) e ∙ ap (λ ws. Word (codes "GO") ∷ ws) (after_is (codes "TO") ts vs f ∙ ap (λ ws. Word (codes "TO") ∷ ws) rest))
     to e None f g = cc
 
-    go : (b : Bool) → same_name n (codes "GO") ≡ b → cond b (go_kind (behind_word (codes "TO") ts)) Unknown ≡ Keyed keyword us → (keyword ≡ words.GoTo) × TwoWords (Word n ∷ ts) us
-    go true e g = to (equal_from_pointwise n (codes "GO") e) (behind_word (codes "TO") ts) refl g
+    go : (b : Bool) → same_name n (codes "GO") ≡ b → cond b (go_kind (after_word (codes "TO") ts)) Unknown ≡ Keyed keyword us → (keyword ≡ words.GoTo) × TwoWords (Word n ∷ ts) us
+    go true e g = to (equal_from_pointwise n (codes "GO") e) (after_word (codes "TO") ts) refl g
     go false e g = cc
 
 keyed_first : (ts us : Tokens) (keyword : Keyword) → first_kind ts ≡ Keyed keyword us → OneWord keyword ts us ⊎ ((keyword ≡ words.GoTo) × TwoWords ts us)
@@ -116,7 +116,7 @@ empty_begins ts us h = let k = kind_first ts (Empty us) h (λ e. cc) in (k.0, fi
 
     word : (o : Option Keyword) (n : Name) (vs : Tokens) → word_kind o n vs ≡ Empty us → ⊥
     word (Some k) n vs g = cc
-    word None n vs g = may_go (same_name n (codes "GO")) (behind_word (codes "TO") vs) g
+    word None n vs g = may_go (same_name n (codes "GO")) (after_word (codes "TO") vs) g
 
     first : (vs : Tokens) → first_kind vs ≡ Empty us → vs ≡ Sign Semicolon ∷ us
     first [] g = cc
@@ -158,7 +158,7 @@ end_begins ts us h = by (has_semicolon ts) (label_at 0 ts).value (kind_of ts) re
 -- ELSE stood there
 pub else_begins : (ts us : Tokens) → else_first ts ≡ Some us → ts ≡ Word (codes "ELSE") ∷ us
 unfolding else_first
-else_begins ts us h = behind_is (codes "ELSE") ts us (by (is_labelled (label_at 0 ts).value) (begins_assignment ts) (behind_word (codes "ELSE") ts) h)
+else_begins ts us h = after_is (codes "ELSE") ts us (by (is_labelled (label_at 0 ts).value) (begins_assignment ts) (after_word (codes "ELSE") ts) h)
   where
     by : (b c : Bool) (o : Option Tokens) → else_by b c o ≡ Some us → o ≡ Some us
     by false false o g = g
@@ -173,27 +173,27 @@ label_spelled p (Word n ∷ Sign Colon ∷ us) = (Word n ∷ Sign Colon ∷ [], 
 label_spelled p (Word n ∷ us) = ([], refl, omega arith, refl)
 label_spelled p (t ∷ us) = ([], refl, omega arith, refl)
 
--- behind END
-abbrev BehindEnd : Option Identifier → Tokens → Type 0
-BehindEnd label ts = SpellsEnd label (Word (codes "END") ∷ ts)
+-- after END
+abbrev AfterEnd : Option Identifier → Tokens → Type 0
+AfterEnd label ts = SpellsEnd label (Word (codes "END") ∷ ts)
 
-bare_end : (label : Option Identifier) → BehindEnd label (Sign Semicolon ∷ [])
+bare_end : (label : Option Identifier) → AfterEnd label (Sign Semicolon ∷ [])
 bare_end None = refl
 bare_end (Some l) = inl refl
 
-pub ending_spelled : (label : Option Identifier) (p : ℕ) (ts : Tokens) (y : Front (Unit {0})) → ending_at label p ts ≡ Ok y → SpellsFront (λ q us nothing. BehindEnd label us) p ts y
+pub ending_spelled : (label : Option Identifier) (p : ℕ) (ts : Tokens) (y : Front (Unit {0})) → ending_at label p ts ≡ Ok y → SpellsFront (λ q us nothing. AfterEnd label us) p ts y
 unfolding ending_at
 ending_spelled label p [] y h =
     let s = stopped_ok tt p [] y h in
-    subst (SpellsFront (λ q us nothing. BehindEnd label us) p []) s.1 (Sign Semicolon ∷ [], s.0, omega arith, bare_end label)
+    subst (SpellsFront (λ q us nothing. AfterEnd label us) p []) s.1 (Sign Semicolon ∷ [], s.0, omega arith, bare_end label)
 ending_spelled label p (Word n ∷ us) y h = by label (is_label label n) refl h
   where
-    by : (l : Option Identifier) (b : Bool) → is_label l n ≡ b → named_end b p us ≡ Ok y → SpellsFront (λ q us nothing. BehindEnd l us) p (Word n ∷ us) y
+    by : (l : Option Identifier) (b : Bool) → is_label l n ≡ b → named_end b p us ≡ Ok y → SpellsFront (λ q us nothing. AfterEnd l us) p (Word n ∷ us) y
     by None true e g = cc
     by (Some l) true e g =
         let s = stopped_ok tt (p + 1) us y g in
         let named : n ≡ l.name = equal_from_pointwise n l.name e in
-        subst (SpellsFront (λ q us nothing. BehindEnd (Some l) us) p (Word n ∷ us)) s.1 (
+        subst (SpellsFront (λ q us nothing. AfterEnd (Some l) us) p (Word n ∷ us)) s.1 (
           Word l.name ∷ Sign Semicolon ∷ [],
           ap (λ m. Word m ∷ us) named ∙ ap (λ vs. Word l.name ∷ vs) s.0,
           omega arith,
@@ -202,4 +202,4 @@ ending_spelled label p (Word n ∷ us) y h = by label (is_label label n) refl h
     by l false e g = cc
 ending_spelled label p (t ∷ us) y h =
     let s = stopped_ok tt p (t ∷ us) y h in
-    subst (SpellsFront (λ q us nothing. BehindEnd label us) p (t ∷ us)) s.1 (Sign Semicolon ∷ [], s.0, omega arith, bare_end label)
+    subst (SpellsFront (λ q us nothing. AfterEnd label us) p (t ∷ us)) s.1 (Sign Semicolon ∷ [], s.0, omega arith, bare_end label)

@@ -1,6 +1,6 @@
--- What is read is spelled so: what stands behind CALL and PROCEDURE, labels and the ends of blocks.
+-- What is read is spelled so: what stands after CALL and PROCEDURE, labels and the ends of blocks.
 use Rattle.std.proofs.Common.{◌≡◌, ◌+◌, ℕ, suc, zero, true, List, [], ◌∷◌, ◌++◌, Option, Some, None, Result, Ok, option_map, length, codes, refl, ap, ◌∙◌, sym, subst, arith}
-use Rattle.pli_base.specs.Words.{Tokens, is_open, is_word, behind, SpellsIdentifier}
+use Rattle.pli_base.specs.Words.{Tokens, is_open, is_word, rest_after, SpellsIdentifier}
 use Rattle.pli_base.specs.Results.{◌>>=◌}
 use Rattle.pli_base.specs.Reading.{Front, read_as, mapped, taken, if_open, or_none}
 use Rattle.pli_parse_expression.specs.declared.counted.Counted.{Counted}
@@ -51,7 +51,7 @@ arguments_reads (suc n) p (Sign signs.OpenParenthesis ∷ ts) x h =
     )
 arguments_reads levels p (t ∷ ts) x h = subst (ArgumentsRead levels p (t ∷ ts)) (same_ok h) ([], refl, omega arith, refl, tt)
 
--- behind CALL
+-- after CALL
 abbrev pub IsCall : (levels p : ℕ) → Tokens → Body → Type 0
 IsCall levels p ts b = (name : Identifier) × (arguments : Arguments) × (b ≡ Call name arguments) × SpellsCall levels p ts name arguments
 
@@ -77,7 +77,7 @@ call_reads levels p ts y h =
     )
 
 -- options of PROCEDURE
--- behind OPTIONS
+-- after OPTIONS
 abbrev SpellsMain : Tokens → ProcedureOption → Type 0
 SpellsMain ts o = (ts ≡ Sign signs.OpenParenthesis ∷ Word (codes "MAIN") ∷ Sign signs.CloseParenthesis ∷ []) × (o ≡ Main)
 
@@ -100,14 +100,14 @@ main_reads p ts y h =
 abbrev OptionsRead : ℕ → Tokens → Front (List ProcedureOption) → Type 0
 OptionsRead p ts y = SpellsFront (λ q us os. SpellsOptions us os) p ts y
 
--- an option, and those behind it
+-- an option, and those after it
 option_then : (p q : ℕ) (ts us front : Tokens) (o : ProcedureOption) → ts ≡ front ++ us → q ≡ p + length front → SpellsOption front o
     → (m : Front (List ProcedureOption)) → OptionsRead q us m → OptionsRead p ts (record { value = o ∷ m.value; next = m.next; rest = m.rest })
 option_then p q ts us front o shape place spelled m f =
     let t = two p q m.next ts us m.rest front f.0 shape place f.1 f.2 in
     (front ++ f.0, t.0, t.1, (front, f.0, refl, spelled, f.3))
 
--- an option behind its word, and those behind it
+-- an option after its word, and those after it
 option_step : {A : Type 0} (w : OptionWord) (one : ℕ → Tokens → Result (Front A) Fault)
     (Spells : ℕ → Tokens → A → Type 0)
     (make : A → ProcedureOption) → Reads one Spells
@@ -151,7 +151,7 @@ unfolding options_from
 options_reads zero p ts y h = cc
 options_reads (suc bound) p ts y h = options_step (options_from bound) (options_reads bound) p ts y (option_first ts) refl h
 
--- behind PROCEDURE
+-- after PROCEDURE
 parameters_so : (p : ℕ) (ts : Tokens) (o : Option (List Identifier)) → MaybeEnclosed (SpellsListed Commas SpellsIdentifier) p ts o → SpellsParameters p ts (or_none o)
 parameters_so p ts None h = h
 parameters_so p ts (Some []) h = absurd h.2
@@ -166,7 +166,7 @@ HeadingRead name number p ts y =
 pub heading_reads : (name : Identifier) (number p : ℕ) (ts : Tokens) (y : Front Heading) → heading_at name number p ts ≡ Ok y → HeadingRead name number p ts y
 unfolding heading_at
 heading_reads name number p ts y h =
-    let a = bind_ok (if_open (items.list_at Commas identifier_at) p ts (behind is_open ts)) _ y h in
+    let a = bind_ok (if_open (items.list_at Commas identifier_at) p ts (rest_after is_open ts)) _ y h in
     let ps = open_reads (items.list_at Commas identifier_at) (SpellsListed Commas SpellsIdentifier) (tools.list_reads identifier_at SpellsIdentifier identifier_reads) p ts a.0 a.1 in
     let o = bind_ok (options_from (length a.0.rest + 1) a.0.next a.0.rest) _ y a.2 in
     let os = options_reads (length a.0.rest + 1) a.0.next a.0.rest o.0 o.1 in

@@ -15,7 +15,7 @@ use Rattle.pli_parse_statement.specs.StatementGrammar.{SpellsStatement, SpellsSt
 use Rattle.pli_parse_statement.specs.declared.keyword.StatementStanding.TheVariants.{AsClause}
 use Rattle.pli_parse.proofs.StatementReadFirst.{end_begins, else_begins, ending_spelled}
 
--- what reads statements reads what is spelled so; behind one that awaits an ELSE none stands
+-- what reads statements reads what is spelled so; after one that awaits an ELSE none stands
 abbrev pub StatementReads : ℕ → StatementReader → Type 0
 StatementReads m one =
     (c : Context) (p k : ℕ) (ts : Tokens) (y : Front Statement) → one c p k ts ≡ Ok y
@@ -88,7 +88,7 @@ module _ (m : ℕ) (one : StatementReader) (reads : StatementReads m one) (c : C
   list_reads zero p k ts y h = cc
   list_reads (suc bound) p k ts y h = list_step (list_from one c label bound) (list_reads bound) p k ts y (next_of ts) refl h
 
--- an ELSE part, or none; it stands behind what awaits it not
+-- an ELSE part, or none; it stands after what awaits it not
 abbrev pub AlternativeRead : Context → (m p k : ℕ) → Tokens → (consequence : Statement) → Front Alternative → Type 0
 AlternativeRead c m p k ts consequence y = SpellsFront (λ q us a. SpellsAlternative c m q k us consequence a) p ts y × (AlternativeAwaitsElse y.value → else_first y.rest ≡ None)
 

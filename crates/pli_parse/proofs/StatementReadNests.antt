@@ -11,7 +11,7 @@ use Rattle.pli_parse_declaration.proofs.DeclarationSteps.{semicolon_first, taken
 use Rattle.pli_parse_fault.proofs.StepLemmas.{same_ok, bind_ok}
 use Rattle.pli_base.specs.Statements as body
 use Rattle.pli_base.specs.Statements.{Body, count}
-use Rattle.pli_parse_statement.specs.StatementWords.{Context, standing, the_unit, a_procedure, keyword_of}
+use Rattle.pli_parse_statement.specs.StatementWords.{Context, standing, the_on_unit, a_procedure, keyword_of}
 use Rattle.pli_parse_statement.specs.StatementReading.{expression_in, control_at, heading_at, condition_at, Inside, deeper, list_in, inner_list, is_labelled, else_first, alternative_from, if_at, on_at, do_at, begin_at, procedure_at, standing_misplaced}
 use Rattle.pli_parse_statement.specs.StatementGrammar.{SpellsStatement, SpellsStatements, SpellsAlternative}
 use Rattle.pli_parse_statement.specs.declared.keyword.Keyword.TheVariants as words
@@ -23,7 +23,7 @@ use Rattle.pli_parse.proofs.StatementReadStands.{LabelFits, plain_stands, may_re
 use Rattle.pli_parse.proofs.StatementReadSimple.{BodyRead, NoneBegins, body_found}
 use Rattle.pli_parse.proofs.StatementReadLists.{StatementReads, InsideReads, opened, list_reads, alternative_reads}
 
--- behind their keywords, where what is inside is read so
+-- after their keywords, where what is inside is read so
 module _ (i : Inside) (reads : StatementReads i.levels i.statement) (c : Context) (label : Option Identifier) (p k : ℕ) (fits : LabelFits c.standing label) (ts us : Tokens) (n : Name) (first : ts ≡ Word n ∷ us) (none : NoneBegins p ts) where
   begin_inside : keyword_of n ≡ Some words.Begin → (y : Front Body) → begin_at i c label (p + 1) (k + 1) us ≡ Ok y → BodyRead c (suc i.levels) label p k ts y
   unfolding begin_at
@@ -42,7 +42,7 @@ module _ (i : Inside) (reads : StatementReads i.levels i.statement) (c : Context
       in
       subst (BodyRead c (suc i.levels) label p k ts) (same_ok l.2)
       (body_found c (suc i.levels) label p k ts b l.0.next front l.0.rest whole (omega (arith, f.2))
-      (plain_stands label b tt tt (λ e. e) (λ e. (e, tt)) c.standing fits) (may_return b tt tt c.in_unit)
+      (plain_stands label b tt tt (λ e. e) (λ e. (e, tt)) c.standing fits) (may_return b tt tt c.in_on_unit)
       (none front l.0.rest whole)
       (n, _, refl, word, (g.0, g.1, ap (λ vs. Sign Semicolon ∷ vs) g.2, inner, g.4, g.5))
       (λ a. absurd a))
@@ -69,7 +69,7 @@ module _ (i : Inside) (reads : StatementReads i.levels i.statement) (c : Context
       subst (BodyRead c (suc i.levels) label p k ts) (same_ok l.2)
       (body_found c (suc i.levels) label p k ts b l.0.next front l.0.rest whole (omega (arith, t.1))
       (do_stands c.standing label x.0.value l.0.value.statements l.0.value.end fits placed)
-      (may_return b tt tt c.in_unit)
+      (may_return b tt tt c.in_on_unit)
       (none front l.0.rest whole) (n, _, refl, word, (cs.0, g.0, g.1, ends, (cs.3, inner), g.4, g.5))
       (λ a. absurd a))
 
@@ -102,7 +102,7 @@ module _ (i : Inside) (reads : StatementReads i.levels i.statement) (c : Context
       in
       subst (BodyRead c (suc i.levels) label p k ts) (same_ok l.2)
       (body_found c (suc i.levels) label p k ts b l.0.next front l.0.rest whole (omega (arith, t.1))
-      (if_stands c.standing label x.0.value s.0.value l.0.value fits placed) (may_return b tt tt c.in_unit)
+      (if_stands c.standing label x.0.value s.0.value l.0.value fits placed) (may_return b tt tt c.in_on_unit)
       (none front l.0.rest whole)
       (n, _, refl, word, (cs.0, ss.0, es.0, refl, (cs.3, first_spelled, second_spelled))) g.1)
 
@@ -111,16 +111,16 @@ module _ (i : Inside) (reads : StatementReads i.levels i.statement) (c : Context
   on_inside word placed y h =
       let x = bind_ok (condition_at (p + 1) us) _ y h in
       let cs = condition_reads (p + 1) us x.0 x.1 in
-      let s = bind_ok (i.statement the_unit x.0.next (k + 1) x.0.rest) _ y x.2 in
-      let ss = (reads the_unit x.0.next (k + 1) x.0.rest s.0 s.1).0 in
+      let s = bind_ok (i.statement the_on_unit x.0.next (k + 1) x.0.rest) _ y x.2 in
+      let ss = (reads the_on_unit x.0.next (k + 1) x.0.rest s.0 s.1).0 in
       let t = two (p + 1) x.0.next s.0.next us x.0.rest s.0.rest cs.0 ss.0 cs.1 cs.2 ss.1 ss.2 in
       let front : Tokens = Word n ∷ (cs.0 ++ ss.0) in
       let whole : ts ≡ front ++ s.0.rest = first ∙ ap (λ vs. Word n ∷ vs) t.0 in
       let b : Body = body.On x.0.value s.0.value in
-      let inner = subst (λ q. SpellsStatement the_unit i.levels q (k + 1) ss.0 s.0.value) cs.2 ss.3 in
+      let inner = subst (λ q. SpellsStatement the_on_unit i.levels q (k + 1) ss.0 s.0.value) cs.2 ss.3 in
       subst (BodyRead c (suc i.levels) label p k ts) (same_ok s.2)
       (body_found c (suc i.levels) label p k ts b s.0.next front s.0.rest whole (omega (arith, t.1))
-      (on_stands c.standing label x.0.value s.0.value fits placed) (may_return b tt tt c.in_unit)
+      (on_stands c.standing label x.0.value s.0.value fits placed) (may_return b tt tt c.in_on_unit)
       (none front s.0.rest whole) (n, _, refl, word, (cs.0, ss.0, refl, cs.3, inner)) (λ a. absurd a))
 
 procedure_inside : (i : Inside) → StatementReads i.levels i.statement → (c : Context) (label : Option Identifier) (p k : ℕ) (ts us : Tokens) (n : Name) → ts ≡ Word n ∷ us → NoneBegins p ts
@@ -145,7 +145,7 @@ procedure_inside i reads c (Some name) p k ts us n first none word placed y h =
     (body_found c (suc i.levels) (Some name) p k ts b l.0.next front l.0.rest whole
     (omega (arith, f.2, hs.2, length-append hs.0 (Sign Semicolon ∷ f.0)))
     (procedure_stands c.standing name x.0.value l.0.value.statements l.0.value.end hs.4 placed)
-    (may_return b tt tt c.in_unit) (none front l.0.rest whole)
+    (may_return b tt tt c.in_on_unit) (none front l.0.rest whole)
     (n, _, refl, word, (hs.0, g.0, g.1, ends, hs.3, hs.5, statements, g.4, g.5)) (λ a. absurd a))
 
 -- and where a level is opened

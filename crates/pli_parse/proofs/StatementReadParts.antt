@@ -2,7 +2,7 @@
 use Rattle.std.proofs.Common.{◌≡◌, ◌+◌, ℕ, Bool, true, false, cond, [], ◌∷◌, ◌++◌, Option, Some, None, Result, Ok, length, codes, refl, ap, ◌∙◌, subst, arith}
 use Rattle.pli_base.specs.Name.{Name}
 use Rattle.pli_base.specs.laws.NameLaws.{equal_from_pointwise}
-use Rattle.pli_base.specs.Words.{Tokens, same_name, is_open, behind}
+use Rattle.pli_base.specs.Words.{Tokens, same_name, is_open, rest_after}
 use Rattle.pli_base.specs.Results.{◌>>=◌}
 use Rattle.pli_base.specs.Reading.{Front, read_as, enclosed, if_open}
 use Rattle.pli_base.specs.Syntax.{Expression}
@@ -28,10 +28,10 @@ abbrev pub MaybeEnclosed : {A : Type 0} → (ℕ → Tokens → A → Type 0) �
 MaybeEnclosed Spells p ts None = ts ≡ []
 MaybeEnclosed Spells p ts (Some x) = SpellsEnclosed Spells p ts x
 
-pub open_reads : {A : Type 0} (one : ℕ → Tokens → Result (Front A) Fault) (Spells : ℕ → Tokens → A → Type 0) → Reads one Spells → Reads (λ p ts. if_open one p ts (behind is_open ts)) (MaybeEnclosed Spells)
-open_reads one Spells reads p ts y h = by (behind is_open ts) refl h
+pub open_reads : {A : Type 0} (one : ℕ → Tokens → Result (Front A) Fault) (Spells : ℕ → Tokens → A → Type 0) → Reads one Spells → Reads (λ p ts. if_open one p ts (rest_after is_open ts)) (MaybeEnclosed Spells)
+open_reads one Spells reads p ts y h = by (rest_after is_open ts) refl h
   where
-    by : (o : Option Tokens) → behind is_open ts ≡ o → if_open one p ts o ≡ Ok y → SpellsFront (MaybeEnclosed Spells) p ts y
+    by : (o : Option Tokens) → rest_after is_open ts ≡ o → if_open one p ts o ≡ Ok y → SpellsFront (MaybeEnclosed Spells) p ts y
     by None e g = subst (SpellsFront (MaybeEnclosed Spells) p ts) (same_ok g) ([], refl, omega arith, refl)
     by (Some us) e g =
         let m = mapped_ok Some (enclosed (one (p + 1) us)) y g in
@@ -50,7 +50,7 @@ condition_reads p (Word n ∷ us) y h = by (condition_of n) refl h
 condition_reads p (t ∷ us) y h = cc
 
 -- the range of an iteration
--- an expression behind the word, and behind it another behind the other word
+-- an expression after the word, and after it another after the other word
 range_two : (levels : ℕ) (w : RangeWord) (other : Name) (make : Expression → Option Expression → Range)
     → ((p : ℕ) (front rest : Tokens) (x : Expression) (y : Option Expression) → SpellsOutermost levels (p + 1) front x
     → SpellsOptional other (SpellsOutermost levels) (p + 1 + length front) rest y → SpellsRange levels p (Word (range_spelling w) ∷ (front ++ rest)) (Some (make x y)))

@@ -1,4 +1,4 @@
--- What is read is spelled so: allocations, and what stands behind PUT and CALL.
+-- What is read is spelled so: allocations, and what stands after PUT and CALL.
 use Rattle.std.proofs.Common.{◌≡◌, ◌+◌, inl, inr, ℕ, suc, [], ◌∷◌, ◌++◌, Option, Some, None, Result, Ok, length, codes, refl, ap, ◌∙◌, sym, subst, arith}
 use Rattle.pli_base.specs.Words.{Tokens}
 use Rattle.pli_base.specs.Results.{◌>>=◌}
@@ -25,7 +25,7 @@ SpellsPlace levels = SpellsEnclosed (SpellsReferenceAlone levels)
 place_reads : (levels : ℕ) → Reads (parenthesized (reference_in levels)) (SpellsPlace levels)
 place_reads levels = parenthesized_reads (reference_in levels) (SpellsReferenceAlone levels) (reference_reads levels)
 
--- a part behind its word
+-- a part after its word
 part_read : (levels p : ℕ) (w : PlaceWord) (ts us : Tokens) → place_first ts ≡ Some (w, us)
     → (r : Front Reference)
     → parenthesized (reference_in levels) (p + 1) us ≡ Ok r
@@ -49,7 +49,7 @@ both_read levels bound n area target p ts y h = by (place_first ts) h
     by (Some (InWord, us)) g = cc
     by (Some (SetWord, us)) g = cc
 
--- behind IN
+-- after IN
 abbrev AreaThen : (levels : ℕ) → Identifier → Reference → ℕ → Tokens → Allocation → Type 0
 AreaThen levels n area p ts a = (a.name ≡ n) × (a.area ≡ Some area) × SpellsOptional (codes "SET") (SpellsPlace levels) p ts a.target
 
@@ -66,7 +66,7 @@ area_read levels bound n area p ts y h = by (place_first ts) refl h
         let both = both_read levels bound n area r.0.value r.0.next r.0.rest y r.2 in
         subst (SpellsFront (AreaThen levels n area) p ts) both (f.0, f.1, f.2, (refl, refl, f.3))
 
--- behind SET
+-- after SET
 abbrev TargetThen : (levels : ℕ) → Identifier → Reference → ℕ → Tokens → Allocation → Type 0
 TargetThen levels n target p ts a = (a.name ≡ n) × (a.target ≡ Some target) × SpellsOptional (codes "IN") (SpellsPlace levels) p ts a.area
 
@@ -83,11 +83,11 @@ target_read levels bound n target p ts y h = by (place_first ts) refl h
         let both = both_read levels bound n r.0.value target r.0.next r.0.rest y r.2 in
         subst (SpellsFront (TargetThen levels n target) p ts) both (f.0, f.1, f.2, (refl, refl, f.3))
 
--- behind the name
+-- after the name
 abbrev Placed : (levels : ℕ) → Identifier → ℕ → Tokens → Allocation → Type 0
 Placed levels n p ts a = (a.name ≡ n) × SpellsPlaced levels p ts a.area a.target
 
--- a part behind its word, and then the other
+-- a part after its word, and then the other
 parts_read : (levels p : ℕ) (w : PlaceWord) (n : Identifier) (ts us : Tokens) → place_first ts ≡ Some (w, us)
     → (next : Front Reference → Result (Front Allocation) Fault)
     (Then : Reference → ℕ → Tokens → Allocation → Type 0)

@@ -1,4 +1,4 @@
--- What is read is spelled so: what stands behind PUT and CALL.
+-- What is read is spelled so: what stands after PUT and CALL.
 use Rattle.std.proofs.Common.{◌≡◌, ◌+◌, inl, inr, ℕ, suc, Bool, true, false, List, [], ◌∷◌, ◌++◌, Option, Some, None, Ok, length, codes, refl, ap, ◌∙◌, subst, arith}
 use Rattle.pli_base.specs.Words.{Tokens}
 use Rattle.pli_base.specs.Reading.{Front}
@@ -24,7 +24,7 @@ items_read : (levels : ℕ) → Reads (parenthesized (list_at Commas (expression
 items_read levels =
     parenthesized_reads (list_at Commas (expression_in levels)) (SpellsListed Commas (SpellsOutermost levels)) (list_reads (expression_in levels) (SpellsOutermost levels) (expression_reads levels))
 
--- the items behind LIST
+-- the items after LIST
 items_spelled : (levels p : ℕ) (us : Tokens) (items : List Expression) → SpellsItemList levels (p + 1) us items → SpellsItems levels p (Word (codes "LIST") ∷ us) items
 items_spelled levels p us [] h = absurd h.2
 items_spelled levels p us (e ∷ es) h = (us, refl, h)
@@ -39,7 +39,7 @@ both_read levels bound e es p ts y h = by (put_first ts) h
     by (Some (SkipWord, us)) g = cc
     by (Some (ListWord, us)) g = cc
 
--- behind SKIP
+-- after SKIP
 abbrev SkipThen : (levels p : ℕ) → Tokens → Body → Type 0
 SkipThen levels p ts b = (items : List Expression) × (b ≡ Put true items) × SpellsItems levels p ts items
 
@@ -64,7 +64,7 @@ skip_read levels bound p ts y h = by (put_first ts) refl h
           (r.0.value, refl, items_spelled levels p f.0 r.0.value f.3),
         )
 
--- behind LIST
+-- after LIST
 abbrev ListThen : (levels : ℕ) → List Expression → ℕ → Tokens → Body → Type 0
 ListThen levels items p ts b = (skip : Bool) × (b ≡ Put skip items) × SpellsSkip ts skip
 
@@ -78,12 +78,12 @@ list_read levels bound e es p ts y h = by (put_first ts) refl h
         subst (SpellsFront (ListThen levels (e ∷ es)) p ts) (both_read levels bound e es (p + 1) us y g) (Word (codes "SKIP") ∷ [], put_begins ts us SkipWord is, omega arith, (true, refl, refl))
     by (Some (ListWord, us)) is g = cc
 
--- the items, and SKIP behind them
-list_behind : (levels bound : ℕ) (items : List Expression) (p : ℕ) (front : Tokens) → SpellsItems levels p (Word (codes "LIST") ∷ front) items → Reads (put_from levels (suc (suc bound)) false items) (ListThen levels items)
-list_behind levels bound [] p front spelled q vs y h = cc
-list_behind levels bound (e ∷ es) p front spelled q vs y h = list_read levels bound e es q vs y h
+-- the items, and SKIP after them
+list_after : (levels bound : ℕ) (items : List Expression) (p : ℕ) (front : Tokens) → SpellsItems levels p (Word (codes "LIST") ∷ front) items → Reads (put_from levels (suc (suc bound)) false items) (ListThen levels items)
+list_after levels bound [] p front spelled q vs y h = cc
+list_after levels bound (e ∷ es) p front spelled q vs y h = list_read levels bound e es q vs y h
 
--- behind PUT
+-- after PUT
 abbrev pub IsPut : (levels p : ℕ) → Tokens → Body → Type 0
 IsPut levels p ts b = (skip : Bool) × (items : List Expression) × (b ≡ Put skip items) × SpellsPut levels p ts skip items
 
@@ -105,7 +105,7 @@ put_reads levels p ts y h = by (put_first ts) refl h
         let r = bind_ok (parenthesized (list_at Commas (expression_in levels)) (p + 1) us) _ y g in
         let f = items_read levels (p + 1) us r.0 r.1 in
         let spelled = items_spelled levels p f.0 r.0.value f.3 in
-        let m = list_behind levels 0 r.0.value p f.0 spelled r.0.next r.0.rest y r.2 in
+        let m = list_after levels 0 r.0.value p f.0 spelled r.0.next r.0.rest y r.2 in
         let place : r.0.next ≡ p + length (Word (codes "LIST") ∷ f.0) = omega (arith, f.2) in
         let t = two p r.0.next y.next ts r.0.rest y.rest (Word (codes "LIST") ∷ f.0) m.0 (put_begins ts us ListWord e ∙ ap (λ vs. Word (codes "LIST") ∷ vs) f.1) place m.1 m.2 in (
           (Word (codes "LIST") ∷ f.0) ++ m.0,

@@ -1,7 +1,7 @@
 -- What is read is spelled so: the statements in which none stands.
 use Rattle.std.proofs.Common.{◌≡◌, ◌+◌, inl, inr, ℕ, [], ◌∷◌, ◌++◌, Option, Some, None, Result, Ok, length, codes, refl, ap, ◌∙◌, sym, subst, arith, append_assoc}
 use Rattle.pli_base.specs.Name.{Name}
-use Rattle.pli_base.specs.Words.{Tokens, is_open, behind, SpellsIdentifier}
+use Rattle.pli_base.specs.Words.{Tokens, is_open, rest_after, SpellsIdentifier}
 use Rattle.pli_base.specs.Reading.{Front, read_as, mapped, if_open}
 use Rattle.pli_base.specs.Syntax.{Expression}
 use Rattle.pli_base.specs.declared.code.Code.TheVariants.{NotAStatement}
@@ -32,9 +32,9 @@ use Rattle.pli_parse_declaration.specs.declared.list.Separator.TheVariants.{Comm
 
 -- a body that may stand where it does
 abbrev pub BodySpelled : Context → (levels : ℕ) → (label : Option Identifier) → (p k : ℕ) → Tokens → Body → Type 0
-BodySpelled c levels label p k ts b = StandsIn c.standing label b × MayReturn c.in_unit b × IsOfItsKind p ts b × SpellsBody c levels label p k ts b
+BodySpelled c levels label p k ts b = StandsIn c.standing label b × MayReturn c.in_on_unit b × IsOfItsKind p ts b × SpellsBody c levels label p k ts b
 
--- the front of the tokens spells it, and where it awaits an ELSE none stands behind it
+-- the front of the tokens spells it, and where it awaits an ELSE none stands after it
 abbrev pub BodyRead : Context → (levels : ℕ) → (label : Option Identifier) → (p k : ℕ) → Tokens → Front Body → Type 0
 BodyRead c levels label p k ts y = SpellsFront (λ q us b. BodySpelled c levels label q k us b) p ts y × (BodyAwaitsElse y.value → else_first y.rest ≡ None)
 
@@ -45,7 +45,7 @@ NoneBegins p ts = (front rest : Tokens) → ts ≡ front ++ rest → BeginsAssig
 -- a body in front of what is left
 pub body_found : (c : Context) (levels : ℕ) (label : Option Identifier) (p k : ℕ) (ts : Tokens) (b : Body)
     (q : ℕ) (front rest : Tokens) → ts ≡ front ++ rest → q ≡ p + length front → StandsIn c.standing label b
-    → MayReturn c.in_unit b → IsOfItsKind p front b → SpellsBody c levels label p k front b
+    → MayReturn c.in_on_unit b → IsOfItsKind p front b → SpellsBody c levels label p k front b
     → (BodyAwaitsElse b → else_first rest ≡ None)
     → BodyRead c levels label p k ts (record { value = b; next = q; rest = rest })
 body_found c levels label p k ts b q front rest whole place stands may kind spelled awaits =
@@ -79,7 +79,7 @@ module _ (c : Context) (levels : ℕ) (label : Option Identifier) (p k : ℕ) (f
           ls.0 ++ (Sign Equals ∷ (rs.0 ++ Sign Semicolon ∷ [])),
           all.0,
           all.1,
-          (plain_stands label b tt tt (λ n. n) (λ n. (n, tt)) c.standing fits, may_return b tt tt c.in_unit, begins, (ls.0, rs.0, refl, ls.2, ls.3, right)),
+          (plain_stands label b tt tt (λ n. n) (λ n. (n, tt)) c.standing fits, may_return b tt tt c.in_on_unit, begins, (ls.0, rs.0, refl, ls.2, ls.3, right)),
         ),
         λ a. absurd a,
       )
@@ -92,7 +92,7 @@ module _ (c : Context) (levels : ℕ) (label : Option Identifier) (p k : ℕ) (f
           Sign Semicolon ∷ [],
           shape,
           refl,
-          (plain_stands label body.Null tt tt (λ n. n) (λ n. (n, tt)) c.standing fits, may_return body.Null tt tt c.in_unit, none (Sign Semicolon ∷ []) us shape, refl),
+          (plain_stands label body.Null tt tt (λ n. n) (λ n. (n, tt)) c.standing fits, may_return body.Null tt tt c.in_on_unit, none (Sign Semicolon ∷ []) us shape, refl),
         ),
         λ a. absurd a,
       )
@@ -113,7 +113,7 @@ module _ (c : Context) (levels : ℕ) (label : Option Identifier) (p k : ℕ) (f
           omega (arith, t.1),
           (
             plain_stands label (body.Goto i.0.value) tt tt (λ n. n) (λ n. (n, tt)) c.standing fits,
-            may_return (body.Goto i.0.value) tt tt c.in_unit,
+            may_return (body.Goto i.0.value) tt tt c.in_on_unit,
             none front y.rest whole,
             (Word (codes "GO") ∷ Word (codes "TO") ∷ f.0, refl, inr (f.0, refl, f.3)),
           ),
@@ -121,7 +121,7 @@ module _ (c : Context) (levels : ℕ) (label : Option Identifier) (p k : ℕ) (f
         λ a. absurd a,
       )
 
-  -- behind a keyword of one word
+  -- after a keyword of one word
   module _ (ts us : Tokens) (n : Name) (first : ts ≡ Word n ∷ us) (none : NoneBegins p ts) where
     -- up to the `;`
     closed_read : {A : Type 0} (f : A → Body) (one : ℕ → Tokens → Result (Front A) Fault) (Spells : ℕ → Tokens → A → Type 0) → Reads one Spells
@@ -147,7 +147,7 @@ module _ (c : Context) (levels : ℕ) (label : Option Identifier) (p k : ℕ) (f
         → BodyRead c levels label p k ts y
     plain_read f one Spells reads plain so awaits y h =
         closed_read f one Spells reads (λ front x s not.
-        let stands = plain_fits label (f x) (plain x) c.standing c.in_unit fits in
+        let stands = plain_fits label (f x) (plain x) c.standing c.in_on_unit fits in
         let spelled = so front x s not in (stands.0, stands.1, spelled.0, spelled.1))
         (λ front x s a. awaits x a) y h
 
@@ -202,7 +202,7 @@ module _ (c : Context) (levels : ℕ) (label : Option Identifier) (p k : ℕ) (f
     made_read {A = A} {B = B} make one Spells reads plain so awaits y h =
         closed_read (λ b. b) one (λ q vs b. (a : A) × (z : B) × (b ≡ make a z) × Spells q vs a z) reads
         (λ front b s not.
-        let stands = plain_fits label (make s.0 s.1) (plain s.0 s.1) c.standing c.in_unit fits in
+        let stands = plain_fits label (make s.0 s.1) (plain s.0 s.1) c.standing c.in_on_unit fits in
         let spelled = so front s.0 s.1 s.3 not in
         subst (BodySpelled c levels label p k (Word n ∷ front ++ Sign Semicolon ∷ [])) (sym s.2)
         (stands.0, stands.1, spelled.0, spelled.1))
@@ -224,12 +224,12 @@ module _ (c : Context) (levels : ℕ) (label : Option Identifier) (p k : ℕ) (f
     value_so q vs None s = s
     value_so q vs (Some e) s = s
 
-    pub return_read : keyword_of n ≡ Some words.Return → misplacement c words.Return (is_labelled label) c.in_unit ≡ None
-        → (y : Front Body) → closing body.Return (if_open (expression_in levels) (p + 1) us (behind is_open us)) ≡ Ok y → BodyRead c levels label p k ts y
+    pub return_read : keyword_of n ≡ Some words.Return → misplacement c words.Return (is_labelled label) c.in_on_unit ≡ None
+        → (y : Front Body) → closing body.Return (if_open (expression_in levels) (p + 1) us (rest_after is_open us)) ≡ Ok y → BodyRead c levels label p k ts y
     return_read word placed y h =
-        closed_read body.Return (λ q vs. if_open (expression_in levels) q vs (behind is_open vs)) (MaybeEnclosed (SpellsOutermost levels)) (open_reads (expression_in levels) (SpellsOutermost levels) (expression_reads levels))
+        closed_read body.Return (λ q vs. if_open (expression_in levels) q vs (rest_after is_open vs)) (MaybeEnclosed (SpellsOutermost levels)) (open_reads (expression_in levels) (SpellsOutermost levels) (expression_reads levels))
         (λ front x s not.
-        let stands = return_stands c.standing c.in_unit label x fits placed in (stands.0, stands.1, not, (n, _, refl, word, (front, refl, value_so (p + 1) front x s))))
+        let stands = return_stands c.standing c.in_on_unit label x fits placed in (stands.0, stands.1, not, (n, _, refl, word, (front, refl, value_so (p + 1) front x s))))
         (λ front x s a. a) y h
 
     pub declare_read : keyword_of n ≡ Some words.Declare → standing_misplaced c.standing words.Declare (is_labelled label) ≡ None → (y : Front Body) → mapped body.Declare (declaration_at (p + 1) us) ≡ Ok y → BodyRead c levels label p k ts y
@@ -242,7 +242,7 @@ module _ (c : Context) (levels : ℕ) (label : Option Identifier) (p k : ℕ) (f
             Word n ∷ f.0,
             whole,
             omega (arith, f.2),
-            (declare_stands c.standing label m.0.value placed, may_return (body.Declare m.0.value) tt tt c.in_unit, none (Word n ∷ f.0) m.0.rest whole, (n, f.0, refl, word, f.3)),
+            (declare_stands c.standing label m.0.value placed, may_return (body.Declare m.0.value) tt tt c.in_on_unit, none (Word n ∷ f.0) m.0.rest whole, (n, f.0, refl, word, f.3)),
           ),
           λ a. absurd a,
         )

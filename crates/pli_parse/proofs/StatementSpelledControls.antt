@@ -1,7 +1,7 @@
 -- What is spelled so is read: the range and the control of a DO group.
 use Rattle.std.proofs.Common.{⊎_elim, ◌⊎◌, inl, inr, ◌≡◌, ◌+◌, ℕ, Bool, true, false, cond, [], ◌∷◌, ◌++◌, Option, Some, None, Result, Ok, length, codes, refl, ap, ◌∙◌, sym, subst, arith, append_assoc, length-append}
 use Rattle.pli_base.specs.Name.{Name}
-use Rattle.pli_base.specs.Words.{Tokens, same_name, behind}
+use Rattle.pli_base.specs.Words.{Tokens, same_name, rest_after}
 use Rattle.pli_base.specs.Results.{◌>>=◌}
 use Rattle.pli_base.specs.Reading.{Front, read_as, mapped, taken}
 use Rattle.pli_base.specs.Syntax.{Expression, Reference, Named}
@@ -14,7 +14,7 @@ use Rattle.pli_parse_declaration.proofs.DeclarationReadAgain.{Anyhow, placed}
 use Rattle.pli_base.specs.Statements.{Range, To, By, Repeat, Control, While, Iterate}
 use Rattle.pli_parse_statement.specs.StatementGrammar.{SpellsOptional, SpellsEnclosed, SpellsRange, BeginsWithWhile, SpellsControl}
 use Rattle.pli_parse_statement.specs.StatementReading.{expression_in, parenthesized, is_equals, optional_at, RangeWord, ToWord, ByWord, RepeatWord, range_word, range_first, range_from, range_at, Conditioned, Iterated, specified, control_from, control_at}
-use Rattle.pli_parse_statement.specs.StatementWords.{behind_word}
+use Rattle.pli_parse_statement.specs.StatementWords.{after_word}
 use Rattle.pli_parse.proofs.StatementSpelledTools.{name_is}
 use Rattle.pli_parse.proofs.WordsFirst.{range_spelling, range_there}
 use Rattle.pli_parse.proofs.StatementSpelledParts.{expression_again, reference_again, optional_again, enclosed_expression}
@@ -33,25 +33,25 @@ no_range : (more : Tokens) → EndsRange more → range_first more ≡ None
 unfolding range_first range_word
 no_range = ends_both (λ more. range_first more ≡ None) (λ zs. refl) (λ zs. refl)
 
-no_by : (more : Tokens) → EndsRange more → behind_word (codes "BY") more ≡ None
-unfolding behind_word
-no_by = ends_both (λ more. behind_word (codes "BY") more ≡ None) (λ zs. refl) (λ zs. refl)
+no_by : (more : Tokens) → EndsRange more → after_word (codes "BY") more ≡ None
+unfolding after_word
+no_by = ends_both (λ more. after_word (codes "BY") more ≡ None) (λ zs. refl) (λ zs. refl)
 
-no_to : (more : Tokens) → EndsRange more → behind_word (codes "TO") more ≡ None
-unfolding behind_word
-no_to = ends_both (λ more. behind_word (codes "TO") more ≡ None) (λ zs. refl) (λ zs. refl)
+no_to : (more : Tokens) → EndsRange more → after_word (codes "TO") more ≡ None
+unfolding after_word
+no_to = ends_both (λ more. after_word (codes "TO") more ≡ None) (λ zs. refl) (λ zs. refl)
 
--- an optional part ends an expression, as what stands behind it does
+-- an optional part ends an expression, as what stands after it does
 optional_ends : {A : Type 0} (word : Name) (Spells : ℕ → Tokens → A → Type 0) (p : ℕ) (ts more : Tokens) (o : Option A) → SpellsOptional word Spells p ts o → EndsExpression more → EndsExpression (ts ++ more)
 optional_ends word Spells p ts more None shape ends = subst (λ us. EndsExpression (us ++ more)) (sym shape) ends
 optional_ends word Spells p ts more (Some x) (us, shape, spelled) ends = subst (λ us. EndsExpression (us ++ more)) (sym shape) (refl, refl)
 
--- an expression behind the word, and behind it another behind the other word
+-- an expression after the word, and after it another after the other word
 two_again : (levels : ℕ) (w : RangeWord) (other : Name) (make : Expression → Option Expression → Range) (p : ℕ) (ts front rest more : Tokens) (x : Expression) (y : Option Expression)
     → ((us vs : Tokens) → range_from levels p us (Some (w, vs))
     ≡ (expression_in levels (p + 1) vs >>= λ a. optional_at other (expression_in levels) a.next a.rest >>= λ z. read_as (Some (make a.value z.value)) z.next z.rest))
     → ts ≡ Word (range_spelling w) ∷ front ++ rest → SpellsOutermost levels (p + 1) front x → SpellsOptional other (SpellsOutermost levels) (p + 1 + length front) rest y
-    → behind_word other more ≡ None → EndsExpression more → range_at levels p (ts ++ more) ≡ read_as (Some (make x y)) (p + length ts) more
+    → after_word other more ≡ None → EndsExpression more → range_at levels p (ts ++ more) ≡ read_as (Some (make x y)) (p + length ts) more
 unfolding range_at
 two_again levels w other make p ts front rest more x y step shape first second none stops =
     let whole : ts ++ more ≡ Word (range_spelling w) ∷ front ++ (rest ++ more) = ap (λ us. us ++ more) shape ∙ ap (λ us. Word (range_spelling w) ∷ us) (append_assoc front rest more) in
@@ -90,8 +90,8 @@ while_ends_range : {A : Type 0} (Spells : ℕ → Tokens → A → Type 0) (p : 
 while_ends_range Spells p ts more None shape = inl (more, ap (λ us. us ++ Sign Semicolon ∷ more) shape)
 while_ends_range Spells p ts more (Some x) (us, shape, spelled) = inr (us ++ Sign Semicolon ∷ more, ap (λ vs. vs ++ Sign Semicolon ∷ more) shape)
 
-no_while : (more : Tokens) → behind_word (codes "WHILE") (Sign Semicolon ∷ more) ≡ None
-unfolding behind_word
+no_while : (more : Tokens) → after_word (codes "WHILE") (Sign Semicolon ∷ more) ≡ None
+unfolding after_word
 no_while more = refl
 
 -- a variable's name that is no WHILE before a `(`
@@ -105,14 +105,14 @@ iterated n (Sign OpenParenthesis ∷ us) never = by (same_name n (codes "WHILE")
 iterated n [] never = refl
 iterated n (t ∷ us) never = refl
 
--- what begins with WHILE and `(` does so whatever stands behind
+-- what begins with WHILE and `(` does so whatever follows
 while_shorter : (ts more : Tokens) → BeginsWithWhile (ts ++ Sign Semicolon ∷ more) → BeginsWithWhile ts
 while_shorter [] more (us, e) = cc
 while_shorter (u ∷ []) more (us, e) = cc
 while_shorter (u ∷ v ∷ ts) more (us, e) = (ts, cc)
 
 equals_taken : (p : ℕ) (zs : Tokens) → taken is_equals BadDo p (Sign Equals ∷ zs) ≡ Ok zs
-unfolding taken behind
+unfolding taken rest_after
 equals_taken p zs = refl
 
 while_specified : (us : Tokens) → specified (Word (codes "WHILE") ∷ Sign OpenParenthesis ∷ us) ≡ Conditioned (Sign OpenParenthesis ∷ us)
@@ -126,18 +126,18 @@ unspecified : (levels p : ℕ) (more : Tokens) → control_at levels p (Sign Sem
 unfolding control_at specified
 unspecified levels p more = refl
 
--- an iteration, behind its variable and behind its first value
-abbrev behind_range : (levels : ℕ) → Reference → ℕ → Expression → Front (Option Range) → Result (Front (Option Control)) Fault
-behind_range levels variable equals first x = optional_at (codes "WHILE") (parenthesized (expression_in levels)) x.next x.rest >>= λ c. read_as (Some (Iterate variable equals first x.value c.value)) c.next c.rest
+-- an iteration, after its variable and after its first value
+abbrev after_range : (levels : ℕ) → Reference → ℕ → Expression → Front (Option Range) → Result (Front (Option Control)) Fault
+after_range levels variable equals first x = optional_at (codes "WHILE") (parenthesized (expression_in levels)) x.next x.rest >>= λ c. read_as (Some (Iterate variable equals first x.value c.value)) c.next c.rest
 
-abbrev behind_first : (levels : ℕ) → Reference → ℕ → Front Expression → Result (Front (Option Control)) Fault
-behind_first levels variable equals x = range_at levels x.next x.rest >>= behind_range levels variable equals x.value
+abbrev after_first : (levels : ℕ) → Reference → ℕ → Front Expression → Result (Front (Option Control)) Fault
+after_first levels variable equals x = range_at levels x.next x.rest >>= after_range levels variable equals x.value
 
-abbrev behind_equals : (levels : ℕ) → Reference → ℕ → Tokens → Result (Front (Option Control)) Fault
-behind_equals levels variable equals us = expression_in levels (equals + 1) us >>= behind_first levels variable equals
+abbrev after_equals : (levels : ℕ) → Reference → ℕ → Tokens → Result (Front (Option Control)) Fault
+after_equals levels variable equals us = expression_in levels (equals + 1) us >>= after_first levels variable equals
 
-abbrev behind_variable : (levels : ℕ) → Front Reference → Result (Front (Option Control)) Fault
-behind_variable levels x = taken is_equals BadDo x.next x.rest >>= behind_equals levels x.value x.next
+abbrev after_variable : (levels : ℕ) → Front Reference → Result (Front (Option Control)) Fault
+after_variable levels x = taken is_equals BadDo x.next x.rest >>= after_equals levels x.value x.next
 
 -- before a `;`
 pub control_again : (levels p : ℕ) (ts more : Tokens) (c : Option Control) → SpellsControl levels p ts c → control_at levels p (ts ++ Sign Semicolon ∷ more) ≡ read_as c (p + length ts) (Sign Semicolon ∷ more)
@@ -163,10 +163,10 @@ control_again levels p ts more (Some (Iterate variable equals first range condit
     let made : Option Control = Some (Iterate variable equals first range condition) in
     ap (control_from levels p (ts ++ tail)) is
     ∙ ap (λ us. control_from levels p us Iterated) whole
-    ∙ ap (λ r. r >>= behind_variable levels) (reference_again levels p vs (Sign Equals ∷ (fs ++ (rs ++ (cs ++ tail)))) variable target refl)
-    ∙ ap (λ r. r >>= behind_equals levels variable q) (equals_taken q (fs ++ (rs ++ (cs ++ tail))))
-    ∙ ap (λ r. r >>= behind_first levels variable q) (expression_again levels (q + 1) fs (rs ++ (cs ++ tail)) first value (range_ends levels one rs (cs ++ tail) range limits (range_ends_expression (cs ++ tail) ends)))
-    ∙ ap (λ r. r >>= behind_range levels variable q first) (range_again levels one rs (cs ++ tail) range limits ends)
+    ∙ ap (λ r. r >>= after_variable levels) (reference_again levels p vs (Sign Equals ∷ (fs ++ (rs ++ (cs ++ tail)))) variable target refl)
+    ∙ ap (λ r. r >>= after_equals levels variable q) (equals_taken q (fs ++ (rs ++ (cs ++ tail))))
+    ∙ ap (λ r. r >>= after_first levels variable q) (expression_again levels (q + 1) fs (rs ++ (cs ++ tail)) first value (range_ends levels one rs (cs ++ tail) range limits (range_ends_expression (cs ++ tail) ends)))
+    ∙ ap (λ r. r >>= after_range levels variable q first) (range_again levels one rs (cs ++ tail) range limits ends)
     ∙ ap (λ r. r >>= λ c. read_as (Some (Iterate variable q first range c.value)) c.next c.rest)
     (optional_again (codes "WHILE") (parenthesized (expression_in levels)) (SpellsEnclosed (SpellsOutermost levels)) Anyhow (enclosed_expression levels) (one + length rs) cs tail condition while (no_while more, tt))
     ∙ ap (λ (e : ℕ). read_as (Some (Iterate variable e first range condition)) (one + length rs + length cs) tail) (sym at)

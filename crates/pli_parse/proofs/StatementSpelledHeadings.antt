@@ -1,7 +1,7 @@
 -- What is spelled so is read: the heading of a procedure, and the end of a block.
 use Rattle.std.proofs.Common.{◌≡◌, ◌+◌, ◌<◌, ℕ, suc, zero, List, [], ◌∷◌, ◌++◌, Option, Some, None, Result, length, codes, refl, ap, ◌∙◌, sym, subst, arith, append_assoc, length-append}
 use Rattle.pli_base.specs.Name.{Name}
-use Rattle.pli_base.specs.Words.{Tokens, is_open, behind, SpellsIdentifier}
+use Rattle.pli_base.specs.Words.{Tokens, is_open, rest_after, SpellsIdentifier}
 use Rattle.pli_base.specs.Results.{◌>>=◌}
 use Rattle.pli_base.specs.Reading.{Front, read_as, mapped, taken, if_open, or_none}
 use Rattle.pli_base.specs.declared.syntax.Identifier.{Identifier}
@@ -10,7 +10,7 @@ use Rattle.pli_base.specs.declared.token.Sign.TheVariants.{Semicolon, OpenParent
 use Rattle.pli_base.specs.declared.token.TokenText.TheVariants.{Word, Sign}
 use Rattle.pli_parse_declaration.specs.DeclarationGrammar.{SpellsListed}
 use Rattle.pli_parse_declaration.specs.DeclarationReading.{list_at, identifier_at}
-use Rattle.pli_parse_declaration.proofs.DeclarationReadAgain.{Anyhow, NoOpen, ListEnds, placed, open_behind, no_open_word, enclosed_again, commas_close, identifier_again}
+use Rattle.pli_parse_declaration.proofs.DeclarationReadAgain.{Anyhow, NoOpen, ListEnds, placed, open_after, no_open_word, enclosed_again, commas_close, identifier_again}
 use Rattle.pli_parse_declaration.proofs.DeclarationItemsAgain.{returned_again}
 use Rattle.pli_base.specs.Statements.{ProcedureOption, Main, Returns, Recursive, Heading}
 use Rattle.pli_parse_statement.specs.StatementGrammar.{SpellsParameters, SpellsOption, SpellsOptions, SpellsHeading}
@@ -21,19 +21,19 @@ use Rattle.pli_parse_declaration.specs.declared.list.Separator.TheVariants.{Comm
 
 -- parameters, or none
 parameters_again : (p : ℕ) (ts more : Tokens) (is : List Identifier) → SpellsParameters p ts is → NoOpen more
-    → (o : Option (List Identifier)) × (or_none o ≡ is) × (if_open (list_at Commas identifier_at) p (ts ++ more) (behind is_open (ts ++ more)) ≡ read_as o (p + length ts) more)
+    → (o : Option (List Identifier)) × (or_none o ≡ is) × (if_open (list_at Commas identifier_at) p (ts ++ more) (rest_after is_open (ts ++ more)) ≡ read_as o (p + length ts) more)
 parameters_again p ts more [] shape stops = (
   None,
   refl,
-  ap (λ us. if_open (list_at Commas identifier_at) p (us ++ more) (behind is_open (us ++ more))) shape
+  ap (λ us. if_open (list_at Commas identifier_at) p (us ++ more) (rest_after is_open (us ++ more))) shape
       ∙ ap (λ o. if_open (list_at Commas identifier_at) p more o) stops
       ∙ placed None p (p + length ts) more (omega (arith, ap length shape)),
 )
 parameters_again p ts more (i ∷ is) (us, shape, spelled) stops = (
   Some (i ∷ is),
   refl,
-  ap (λ vs. if_open (list_at Commas identifier_at) p (vs ++ more) (behind is_open (vs ++ more))) shape
-      ∙ ap (λ o. if_open (list_at Commas identifier_at) p ((Sign OpenParenthesis ∷ us ++ Sign CloseParenthesis ∷ []) ++ more) o) (open_behind ((us ++ Sign CloseParenthesis ∷ []) ++ more))
+  ap (λ vs. if_open (list_at Commas identifier_at) p (vs ++ more) (rest_after is_open (vs ++ more))) shape
+      ∙ ap (λ o. if_open (list_at Commas identifier_at) p ((Sign OpenParenthesis ∷ us ++ Sign CloseParenthesis ∷ []) ++ more) o) (open_after ((us ++ Sign CloseParenthesis ∷ []) ++ more))
       ∙ ap (λ r. mapped Some r)
       (enclosed_again (list_at Commas identifier_at) (SpellsListed Commas SpellsIdentifier) (ListEnds Commas Anyhow)
       (commas_again identifier_at SpellsIdentifier Anyhow identifier_again (λ zs. tt) (λ q vs x s. omega (arith, ap length s.0))) (λ zs. (commas_close zs, tt)) p us more (i ∷ is) spelled)
@@ -45,7 +45,7 @@ unfolding option_first
 no_option more = refl
 
 main_read : (p : ℕ) (more : Tokens) → main_at p (Sign OpenParenthesis ∷ Word (codes "MAIN") ∷ Sign CloseParenthesis ∷ more) ≡ read_as Main (p + 1 + 1 + 1) more
-unfolding main_at parenthesized taken behind
+unfolding main_at parenthesized taken rest_after
 main_read p more = refl
 
 -- one option, and what more reads
@@ -91,7 +91,7 @@ options_again (o ∷ os) (suc bound) p ts more (front, rest, shape, spelled, lat
     ∙ placed (o ∷ os) (p + length front + length rest) (p + length ts) tail (omega (arith, ap length shape, length-append front rest))
 
 pub no_open_semicolon : (zs : Tokens) → NoOpen (Sign Semicolon ∷ zs)
-unfolding behind
+unfolding rest_after
 no_open_semicolon zs = refl
 
 options_no_open : (os : List ProcedureOption) (ts more : Tokens) → SpellsOptions ts os → NoOpen (ts ++ Sign Semicolon ∷ more)

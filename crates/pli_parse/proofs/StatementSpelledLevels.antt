@@ -10,11 +10,11 @@ use Rattle.pli_base.specs.declared.token.TokenText.TheVariants.{Word, Sign}
 use Rattle.pli_parse_declaration.proofs.DeclarationReadAgain.{placed}
 use Rattle.pli_base.specs.Statements.{Heading, Control, Alternative, AlternativeAwaitsElse, Statement, Numbered, Body, Null, Assign, Declare, Procedure, Begin, Do, If, On, Revert, Signal, Stop, Allocate, Free, Call, Goto, Return, Put, Statements, BodyAwaitsElse}
 use Rattle.pli_parse_statement.specs.StatementGrammar.{IsOfItsKind, StandsIn, MayReturn, SpellsLabel, SpellsEnd, SpellsStatement, SpellsBody, SpellsStatements}
-use Rattle.pli_parse_statement.specs.StatementReading.{StatementReader, Inside, deeper, has_semicolon, label_at, bad_label, second_label, begin_at, do_at, if_at, on_at, procedure_at, behind_label, begun, statement_of, inside_of, else_first}
+use Rattle.pli_parse_statement.specs.StatementReading.{StatementReader, Inside, deeper, has_semicolon, label_at, bad_label, second_label, begin_at, do_at, if_at, on_at, procedure_at, after_label, begun, statement_of, inside_of, else_first}
 use Rattle.pli_parse_statement.specs.StatementWords.{Context, standing, begins_assignment}
 use Rattle.pli_parse_statement.specs.declared.keyword.Keyword.TheVariants as words
 use Rattle.pli_parse_statement.specs.declared.keyword.StatementStanding.{StatementStanding}
-use Rattle.pli_parse_statement.specs.declared.keyword.StatementStanding.TheVariants.{InBlock, InGroup, AsClause, AsUnit}
+use Rattle.pli_parse_statement.specs.declared.keyword.StatementStanding.TheVariants.{InBlock, InGroup, AsClause, AsOnUnit}
 use Rattle.pli_base.specs.declared.statement.Condition.{Condition}
 use Rattle.pli_parse.proofs.StatementSpelledTools.{HasSemicolon, semicolon_front, no_assignment_begins}
 use Rattle.pli_parse.proofs.StatementSpelledStarts.{Started, no_label}
@@ -68,8 +68,8 @@ module _ (levels : ℕ) (inside : Option Inside) (again : InsideAgain (suc level
       ∙ ap (λ l. procedure_at found l k (p + 1) (us ++ more)) place.0
       ∙ procedure_again levels again.0 again.2 (p + 1) k end us s.0 s.1 s.2 more heading statements s.3 s.4 s.5 s.6 (subst (λ l. SpellsEnd l s.2) place.0 s.7) s.8)
 
--- every statement, behind its label
-body_again : (levels : ℕ) (inside : Option Inside) → InsideAgain levels inside → (c : Context) (label : Option Identifier) (p k : ℕ) (ts more : Tokens) (b : Body) → StandsIn c.standing label b → MayReturn c.in_unit b
+-- every statement, after its label
+body_again : (levels : ℕ) (inside : Option Inside) → InsideAgain levels inside → (c : Context) (label : Option Identifier) (p k : ℕ) (ts more : Tokens) (b : Body) → StandsIn c.standing label b → MayReturn c.in_on_unit b
     → IsOfItsKind p ts b → SpellsBody c levels label p k ts b → HasSemicolon ts → (BodyAwaitsElse b → else_first more ≡ None) → BodyRead levels inside c label p k ts more b
 body_again levels inside again c label p k ts more Null stands may kind spelled has awaits = null_read levels inside c label p k ts more spelled (no_assignment_begins p ts more has kind)
 body_again levels inside again c label p k ts more (Assign target equals value) stands may kind (ls, rs, shape, at, left, right) has awaits =
@@ -129,7 +129,7 @@ label_stands s None b q rest more stands started = refl
 label_stands InBlock (Some l) b q rest more stands started = ap (λ (x : Front (Option Identifier)). second_label q x.value) (no_label q rest more started)
 label_stands InGroup (Some l) b q rest more stands started = ap (λ (x : Front (Option Identifier)). second_label q x.value) (no_label q rest more started)
 label_stands AsClause (Some l) b q rest more stands started = absurd (some_none l (clause_label (Some l) b stands))
-label_stands AsUnit (Some l) b q rest more stands started = absurd (some_none l stands.0)
+label_stands AsOnUnit (Some l) b q rest more stands started = absurd (some_none l stands.0)
 
 -- a statement with its label
 step_again : (levels : ℕ) (inside : Option Inside) → InsideAgain levels inside → StatementAgain levels (statement_of levels inside)
@@ -137,15 +137,15 @@ unfolding statement_of
 step_again levels inside again c p k ts more (Numbered number label at body) spelled awaits = by spelled
   where
     by : SpellsStatement c levels p k ts (Numbered number label at body) → begun levels inside c p k (ts ++ more) (has_semicolon (ts ++ more)) ≡ read_as (Numbered number label at body) (p + length ts) more
-    by (front, rest, shape, named, numbered, place, stands, may, kind, behind) =
+    by (front, rest, shape, named, numbered, place, stands, may, kind, after) =
         let q : ℕ = p + length front in
-        let started = body_started c levels label q k rest body kind behind in
+        let started = body_started c levels label q k rest body kind after in
         let whole : ts ++ more ≡ front ++ (rest ++ more) = ap (λ us. us ++ more) shape ∙ append_assoc front rest more in
         let x : Front (Option Identifier) = labelled label q (rest ++ more) in
-        ap (begun levels inside c p k (ts ++ more)) (semicolon_front ts more (statement_semicolon c levels p k ts (Numbered number label at body) (front, rest, shape, named, numbered, place, stands, may, kind, behind)))
-        ∙ ap (λ (y : Front (Option Identifier)). behind_label levels inside c k y (bad_label c.standing y y.value)) (ap (label_at p) whole ∙ label_found label p front rest more named started)
-        ∙ ap (behind_label levels inside c k x) (label_stands c.standing label body q rest more stands started)
-        ∙ ap (mapped (Numbered k label q)) (body_again levels inside again c label q k rest more body stands may kind behind (body_semicolon c levels label q k rest body behind) awaits)
+        ap (begun levels inside c p k (ts ++ more)) (semicolon_front ts more (statement_semicolon c levels p k ts (Numbered number label at body) (front, rest, shape, named, numbered, place, stands, may, kind, after)))
+        ∙ ap (λ (y : Front (Option Identifier)). after_label levels inside c k y (bad_label c.standing y y.value)) (ap (label_at p) whole ∙ label_found label p front rest more named started)
+        ∙ ap (after_label levels inside c k x) (label_stands c.standing label body q rest more stands started)
+        ∙ ap (mapped (Numbered k label q)) (body_again levels inside again c label q k rest more body stands may kind after (body_semicolon c levels label q k rest body after) awaits)
         ∙ ap (λ (m : ℕ). read_as (Numbered m label q body) (q + length rest) more) (sym numbered)
         ∙ ap (λ (m : ℕ). read_as (Numbered number label m body) (q + length rest) more) (sym place)
         ∙ placed (Numbered number label at body) (q + length rest) (p + length ts) more (omega (arith, ap length shape, length-append front rest))

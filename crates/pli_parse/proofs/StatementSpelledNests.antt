@@ -1,7 +1,7 @@
 -- What is spelled so is read: lists of statements, and the statements that contain others, where the law holds one level deeper.
 use Rattle.std.proofs.Common.{⊎_elim, ◌⊎◌, inl, inr, ◌≡◌, ◌+◌, ◌<◌, ℕ, suc, zero, false, [], ◌∷◌, ◌++◌, Option, Some, None, Result, Ok, option_map, length, codes, refl, ap, ◌∙◌, sym, subst, arith, append_assoc, length-append}
 use Rattle.pli_base.specs.Name.{Name}
-use Rattle.pli_base.specs.Words.{Tokens, is_word, is_semicolon, behind}
+use Rattle.pli_base.specs.Words.{Tokens, is_word, is_semicolon, rest_after}
 use Rattle.pli_base.specs.Results.{◌>>=◌}
 use Rattle.pli_base.specs.Reading.{Front, read_as, mapped, taken}
 use Rattle.pli_base.specs.Syntax.{Expression}
@@ -15,9 +15,9 @@ use Rattle.pli_parse_expression.specs.Expressions.{SpellsOutermost}
 use Rattle.pli_parse_declaration.proofs.DeclarationReadAgain.{placed}
 use Rattle.pli_parse_declaration.proofs.DeclarationItemsAgain.{semicolon_taken}
 use Rattle.pli_base.specs.Statements.{Heading, Control, Statement, Numbered, Body, If, On, Do, Begin, Procedure, Statements, Ended, Before, Alternative, NoElse, Else, count, list_count, AwaitsElse, BodyAwaitsElse, AlternativeAwaitsElse}
-use Rattle.pli_parse_statement.specs.StatementGrammar.{SpellsCondition, SpellsControl, SpellsHeading, SpellsEnd, IsUnitBody, SpellsStatement, SpellsStatements, SpellsAlternative}
+use Rattle.pli_parse_statement.specs.StatementGrammar.{SpellsCondition, SpellsControl, SpellsHeading, SpellsEnd, IsOnUnitBody, SpellsStatement, SpellsStatements, SpellsAlternative}
 use Rattle.pli_parse_statement.specs.StatementReading.{heading_at, StatementReader, Inside, has_semicolon, label_at, Listing, ending_at, EndsHere, Another, next_of, before, list_by, list_from, list_in, else_by, else_first, alternative_from, if_at, on_at, do_at, begin_at, inner_list, procedure_at}
-use Rattle.pli_parse_statement.specs.StatementWords.{Context, standing, the_unit, a_procedure, keyword_of, behind_word, up_to_semicolon, is_assigned, begins_assignment, first_kind, kind_of}
+use Rattle.pli_parse_statement.specs.StatementWords.{Context, standing, the_on_unit, a_procedure, keyword_of, after_word, up_to_semicolon, is_assigned, begins_assignment, first_kind, kind_of}
 use Rattle.pli_parse_statement.specs.declared.keyword.StatementStanding.TheVariants.{InBlock, InGroup, AsClause}
 use Rattle.pli_base.specs.declared.statement.Condition.{Condition}
 use Rattle.pli_parse.proofs.StatementSpelledParts.{expression_again, condition_again}
@@ -66,11 +66,11 @@ unfolding next_of has_semicolon label_at kind_of begins_assignment up_to_semicol
 named_next n more = refl
 
 end_no_else : (more : Tokens) → else_first (Word (codes "END") ∷ Sign Semicolon ∷ more) ≡ None
-unfolding else_first label_at begins_assignment up_to_semicolon is_assignment accepts behind_word
+unfolding else_first label_at begins_assignment up_to_semicolon is_assignment accepts after_word
 end_no_else more = refl
 
 named_no_else : (n : Name) (more : Tokens) → else_first (Word (codes "END") ∷ Word n ∷ Sign Semicolon ∷ more) ≡ None
-unfolding else_first label_at begins_assignment up_to_semicolon is_assignment accepts behind_word
+unfolding else_first label_at begins_assignment up_to_semicolon is_assignment accepts after_word
 named_no_else n more = refl
 
 abbrev EndFound : Option Identifier → ℕ → Tokens → Tokens → Type 0
@@ -98,9 +98,9 @@ end_found label p ts more spelled = by label spelled
           ap (λ us. else_first (us ++ more)) shape ∙ named_no_else l.name more,
         )) either
 
--- a statement behind ELSE
+-- a statement after ELSE
 else_semicolon : (us : Tokens) → else_first (Word (codes "ELSE") ∷ Sign Semicolon ∷ us) ≡ Some (Sign Semicolon ∷ us)
-unfolding else_first label_at begins_assignment up_to_semicolon is_assignment accepts behind_word
+unfolding else_first label_at begins_assignment up_to_semicolon is_assignment accepts after_word
 else_semicolon us = refl
 
 two_words : (n m : Name) (us : Tokens) → begins_assignment (Word n ∷ Word m ∷ us) ≡ false
@@ -112,7 +112,7 @@ two_words n m us = by (up_to_semicolon us)
     by (Some vs) = refl
 
 else_word : (n : Name) (us : Tokens) → else_first (Word (codes "ELSE") ∷ Word n ∷ us) ≡ Some (Word n ∷ us)
-unfolding else_first label_at behind_word
+unfolding else_first label_at after_word
 else_word n us = ap (λ a. else_by false a (Some (Word n ∷ us))) (two_words (codes "ELSE") n us)
 
 else_there : (us more : Tokens) → FirstToken us → else_first (Word (codes "ELSE") ∷ us ++ more) ≡ Some (us ++ more)
@@ -121,14 +121,14 @@ else_there us more first =
     (λ s. subst (λ vs. else_first (Word (codes "ELSE") ∷ vs ++ more) ≡ Some (vs ++ more)) (sym s.2) (else_word s.0 (s.1 ++ more))) first
 
 then_taken : (p : ℕ) (zs : Tokens) → taken (is_word (codes "THEN")) ThenExpected p (Word (codes "THEN") ∷ zs) ≡ Ok zs
-unfolding taken behind
+unfolding taken rest_after
 then_taken p zs = refl
 
-unit_awaits : (body : Body) → IsUnitBody body → BodyAwaitsElse body → ⊥
+unit_awaits : (body : Body) → IsOnUnitBody body → BodyAwaitsElse body → ⊥
 unit_awaits (If condition consequence alternative) u a = u
 unit_awaits body u a = a
 
--- the law for a statement where so many levels may be opened: an ELSE behind an IF that has none would be that IF's
+-- the law for a statement where so many levels may be opened: an ELSE after an IF that has none would be that IF's
 abbrev pub StatementAgain : ℕ → StatementReader → Type 0
 StatementAgain levels one = (c : Context) (p k : ℕ) (ts more : Tokens) (s : Statement) → SpellsStatement c levels p k ts s → (AwaitsElse s → else_first more ≡ None)
     → one c p k (ts ++ more) ≡ read_as s (p + length ts) more
@@ -199,28 +199,28 @@ module _ (n : ℕ) (one : StatementReader) (again : StatementAgain n one) where
       let place : ℕ = q + length cs + 1 in
       let last = alternative_again c (place + length ss) (j + count consequence) es more consequence alternative third awaits in
       ap (if_at inside c q j) whole
-      ∙ ap (λ r. r >>= behind_condition c j) (expression_again n q cs (Word (codes "THEN") ∷ tail) condition first (refl, refl))
-      ∙ ap (λ r. r >>= λ vs. one (standing AsClause c) place j vs >>= behind_then c j condition) (then_taken (q + length cs) tail)
-      ∙ ap (λ r. r >>= behind_then c j condition) (again (standing AsClause c) place j ss (es ++ more) consequence second last.1)
+      ∙ ap (λ r. r >>= after_condition c j) (expression_again n q cs (Word (codes "THEN") ∷ tail) condition first (refl, refl))
+      ∙ ap (λ r. r >>= λ vs. one (standing AsClause c) place j vs >>= after_then c j condition) (then_taken (q + length cs) tail)
+      ∙ ap (λ r. r >>= after_then c j condition) (again (standing AsClause c) place j ss (es ++ more) consequence second last.1)
       ∙ ap (λ r. r >>= λ alternative. read_as (If condition consequence alternative.value) alternative.next alternative.rest) last.0
       ∙ placed (If condition consequence alternative) (place + length ss + length es) (q + length us) more
       (omega (arith, ap length shape, length-append cs (Word (codes "THEN") ∷ (ss ++ es)), length-append ss es))
     where
-      behind_then : Context → ℕ → Expression → Front Statement → Result (Front Body) Fault
-      behind_then c j condition consequence =
+      after_then : Context → ℕ → Expression → Front Statement → Result (Front Body) Fault
+      after_then c j condition consequence =
           alternative_from inside c consequence.next (j + count consequence.value) consequence.rest (else_first consequence.rest) >>= λ alternative. read_as (If condition consequence.value alternative.value) alternative.next alternative.rest
 
-      behind_condition : Context → ℕ → Front Expression → Result (Front Body) Fault
-      behind_condition c j condition = taken (is_word (codes "THEN")) ThenExpected condition.next condition.rest >>= λ us. one (standing AsClause c) (condition.next + 1) j us >>= behind_then c j condition.value
+      after_condition : Context → ℕ → Front Expression → Result (Front Body) Fault
+      after_condition c j condition = taken (is_word (codes "THEN")) ThenExpected condition.next condition.rest >>= λ us. one (standing AsClause c) (condition.next + 1) j us >>= after_then c j condition.value
 
-  pub on_again : (q j : ℕ) (us cs ss more : Tokens) (condition : Condition) (unit : Statement) → us ≡ cs ++ ss → SpellsCondition cs condition → SpellsStatement the_unit n (q + length cs) j ss unit
+  pub on_again : (q j : ℕ) (us cs ss more : Tokens) (condition : Condition) (unit : Statement) → us ≡ cs ++ ss → SpellsCondition cs condition → SpellsStatement the_on_unit n (q + length cs) j ss unit
       → on_at inside q j (us ++ more) ≡ read_as (On condition unit) (q + length us) more
   unfolding on_at
   on_again q j us cs ss more condition (Numbered number label at body) shape is spelled =
       ap (on_at inside q j) (ap (λ vs. vs ++ more) shape ∙ append_assoc cs ss more)
-      ∙ ap (λ r. r >>= λ x. one the_unit x.next j x.rest >>= λ u. read_as (On x.value u.value) u.next u.rest) (condition_again q cs (ss ++ more) condition is tt)
+      ∙ ap (λ r. r >>= λ x. one the_on_unit x.next j x.rest >>= λ u. read_as (On x.value u.value) u.next u.rest) (condition_again q cs (ss ++ more) condition is tt)
       ∙ ap (λ r. r >>= λ u. read_as (On condition u.value) u.next u.rest)
-      (again the_unit (q + length cs) j ss more (Numbered number label at body) spelled (λ a. absurd (unit_awaits body spelled.6.1 a)))
+      (again the_on_unit (q + length cs) j ss more (Numbered number label at body) spelled (λ a. absurd (unit_awaits body spelled.6.1 a)))
       ∙ placed (On condition (Numbered number label at body)) (q + length cs + length ss) (q + length us) more (omega (arith, ap length shape, length-append cs ss))
 
   pub begin_again : (c : Context) (label : Option Identifier) (q j end : ℕ) (us ss es more : Tokens) (statements : Statements) → us ≡ Sign Semicolon ∷ (ss ++ es) → SpellsStatements (standing InBlock c) n (q + 1) j ss statements

@@ -16,7 +16,7 @@ use Rattle.pli_base.specs.declared.token.TokenText.TheVariants.{Word, Sign}
 use Rattle.pli_parse_expression.specs.Expressions.{SpellsReferenceAlone, EndsReference}
 use Rattle.pli_parse_expression.specs.Operators.{joining_at}
 use Rattle.pli_parse_expression.specs.Reading as expressions
-use Rattle.pli_parse_expression.specs.Reading.{counted, Reader, arguments_at, argument_of, joined_from, parts_behind, part_behind, reference_of, reference_at}
+use Rattle.pli_parse_expression.specs.Reading.{counted, Reader, arguments_at, argument_of, joined_from, parts_after, part_after, reference_of, reference_at}
 use Rattle.pli_parse_expression.proofs.SpelledIsRead.{reference_is_read}
 use Rattle.pli_parse_expression.proofs.ReadingTools as tools
 use Rattle.pli_parse_fault.proofs.StepLemmas as steps
@@ -58,7 +58,7 @@ module _ (levels : ℕ) (n : Identifier) where
       let gone = ap (λ us. places_from levels (suc bound) x p (us ++ more)) shape in
       (suc bound, omega arith, gone ∙ ap (λ q. places_from levels (suc bound) x q more) place)
 
-  -- where a part stands behind its word
+  -- where a part stands after its word
   part_placed : (bound p : ℕ) (w : PlaceWord) (x : Allocation) (made : Reference → Allocation) (r : Reference)
       (ts us more : Tokens) → ts ≡ Word (place_spelling w) ∷ us
       → SpellsEnclosed (SpellsReferenceAlone levels) (p + 1) us r
@@ -158,11 +158,11 @@ joined_ends : (one : Option Reader) (bound count p : ℕ) (ts : Tokens) (y : Fro
 unfolding joined_from
 joined_ends one bound count p ts y h alone = by (joining_at ts) h
   where
-    by : (o : Option (Joining × Tokens)) → parts_behind one (joined_from one bound) count p ts o ≡ Ok y → (y.next ≡ p) × (y.rest ≡ ts)
+    by : (o : Option (Joining × Tokens)) → parts_after one (joined_from one bound) count p ts o ≡ Ok y → (y.next ≡ p) × (y.rest ≡ ts)
     by None g = let e = steps.same_ok g in (sym (ap (λ (z : Front (Counted JoinedParts)). z.next) e), sym (ap (λ (z : Front (Counted JoinedParts)). z.rest) e))
     by (Some x) g = part (name_first x.1) g
       where
-        part : (o : Option (Name × Tokens)) → part_behind one (joined_from one bound) x.0 count (p + 1) x.1 o ≡ Ok y → (y.next ≡ p) × (y.rest ≡ ts)
+        part : (o : Option (Name × Tokens)) → part_after one (joined_from one bound) x.0 count (p + 1) x.1 o ≡ Ok y → (y.next ≡ p) × (y.rest ≡ ts)
         part None g = absurd (tools.wanted_none NameExpected (p + 1) x.1 y g)
         part (Some n) g =
             let f = steps.bind_ok (arguments_at one count (p + 1 + 1) n.1) _ y g in

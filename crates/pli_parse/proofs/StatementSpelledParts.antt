@@ -1,7 +1,7 @@
 -- What is spelled so is read: parts of statements.
 use Rattle.std.proofs.Common.{◌≡◌, ◌+◌, ◌<◌, ℕ, cond, [], ◌∷◌, ◌++◌, Some, None, Result, length, refl, ap, ◌∙◌, sym, subst, arith, append_assoc, length-append}
 use Rattle.pli_base.specs.Name.{Name}
-use Rattle.pli_base.specs.Words.{Tokens, behind}
+use Rattle.pli_base.specs.Words.{Tokens, rest_after}
 use Rattle.pli_base.specs.Results.{◌>>=◌}
 use Rattle.pli_base.specs.Reading.{Front, read_as, mapped, enclosed}
 use Rattle.pli_base.specs.Syntax.{Expression, Referred, Constant, Parenthesized, Prefix, Infix, Reference, Named}
@@ -16,7 +16,7 @@ use Rattle.pli_parse_declaration.specs.DeclarationReading.{list_at}
 use Rattle.pli_parse_declaration.proofs.DeclarationReadAgain.{ReadAgain, Anyhow, ListEnds, placed, open_taken, enclosed_again, listed_again, comma_goes, commas_close}
 use Rattle.pli_parse_statement.specs.StatementGrammar.{SpellsCondition, SpellsClosed, SpellsEnclosed, SpellsOptional}
 use Rattle.pli_parse_statement.specs.StatementReading.{uncounted, expression_in, reference_in, stopped, closing, parenthesized, condition_from, condition_at, if_word, optional_at}
-use Rattle.pli_parse_statement.specs.StatementWords.{behind_word}
+use Rattle.pli_parse_statement.specs.StatementWords.{after_word}
 use Rattle.pli_parse.proofs.StatementSpelledTools.{same_again}
 use Rattle.pli_parse_declaration.specs.Separators.{separated}
 use Rattle.pli_parse_declaration.specs.declared.list.Separator.TheVariants.{Commas}
@@ -39,7 +39,7 @@ pub stopped_again : {A : Type 0} (x : A) (p : ℕ) (more : Tokens) → stopped x
 unfolding stopped
 stopped_again x p more = ap (λ r. r >>= λ us. read_as x (p + 1) us) (semicolon_taken p more)
 
--- what is read, and the `;` behind it
+-- what is read, and the `;` after it
 pub closing_again : {A B : Type 0} (f : A → B) (one : ℕ → Tokens → Result (Front A) Fault) (Spells : ℕ → Tokens → A → Type 0) (Ends : Tokens → Type 0) → ReadAgain one Spells Ends → ((zs : Tokens) → Ends (Sign Semicolon ∷ zs))
     → (p : ℕ) (ts more : Tokens) (x : A) → SpellsClosed (λ us. Spells p us x) ts → closing f (one p (ts ++ more)) ≡ read_as (f x) (p + length ts) more
 closing_again f one Spells Ends again ends p ts more x (us, shape, spelled) =
@@ -58,13 +58,13 @@ parenthesized_again one Spells Ends again closes p ts more x (us, shape, spelled
     ∙ enclosed_again one Spells Ends again closes p us more x spelled
     ∙ placed x (p + length (Sign OpenParenthesis ∷ us ++ Sign CloseParenthesis ∷ [])) (p + length ts) more (ap (λ (vs : Tokens). p + length vs) (sym shape))
 
-pub word_behind : (w : Name) (us : Tokens) → behind_word w (Word w ∷ us) ≡ Some us
-unfolding behind_word
-word_behind w us = ap (λ b. cond b (Some us) None) (same_again w)
+pub word_after : (w : Name) (us : Tokens) → after_word w (Word w ∷ us) ≡ Some us
+unfolding after_word
+word_after w us = ap (λ b. cond b (Some us) None) (same_again w)
 
--- behind a word, or not there
+-- after a word, or not there
 pub optional_again : {A : Type 0} (word : Name) (one : ℕ → Tokens → Result (Front A) Fault) (Spells : ℕ → Tokens → A → Type 0) (Ends : Tokens → Type 0) → ReadAgain one Spells Ends
-    → ReadAgain (optional_at word one) (SpellsOptional word Spells) (λ more. (behind_word word more ≡ None) × Ends more)
+    → ReadAgain (optional_at word one) (SpellsOptional word Spells) (λ more. (after_word word more ≡ None) × Ends more)
 unfolding optional_at
 optional_again word one Spells Ends again p ts more None shape stops =
     ap (λ us. optional_at word one p (us ++ more)) shape
@@ -72,7 +72,7 @@ optional_again word one Spells Ends again p ts more None shape stops =
     ∙ placed None p (p + length ts) more (omega (arith, ap length shape))
 optional_again word one Spells Ends again p ts more (Some x) (us, shape, spelled) stops =
     ap (λ vs. optional_at word one p (vs ++ more)) shape
-    ∙ ap (if_word one p (Word word ∷ (us ++ more))) (word_behind word (us ++ more))
+    ∙ ap (if_word one p (Word word ∷ (us ++ more))) (word_after word (us ++ more))
     ∙ ap (mapped Some) (again (p + 1) us more x spelled stops.1)
     ∙ placed (Some x) (p + 1 + length us) (p + length ts) more (omega (arith, ap length shape))
 
@@ -83,7 +83,7 @@ commas_again one Spells Ends again ends some p ts more xs spelled stops =
     listed_again Commas one Spells Ends again (λ q us zs x s. (comma_goes (us ++ zs), ends (us ++ zs))) some xs (length (ts ++ more) + 1) p ts more spelled stops (omega arith)
 
 pub commas_stop : (zs : Tokens) → separated Commas (Sign Semicolon ∷ zs) ≡ None
-unfolding behind
+unfolding rest_after
 commas_stop zs = refl
 
 -- what spells an expression or a reference has a token

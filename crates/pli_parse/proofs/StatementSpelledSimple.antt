@@ -1,7 +1,7 @@
 -- What is spelled so is read: statements that contain no others.
 use Rattle.std.proofs.Common.{⊎_elim, ◌≡◌, ◌+◌, ℕ, Bool, true, false, cond, List, [], ◌∷◌, ◌++◌, Option, Some, None, Result, Ok, length, codes, refl, ap, ◌∙◌, sym, subst, arith, append_assoc, length-append}
 use Rattle.pli_base.specs.Name.{Name}
-use Rattle.pli_base.specs.Words.{Tokens, is_open, behind, SpellsIdentifier}
+use Rattle.pli_base.specs.Words.{Tokens, is_open, rest_after, SpellsIdentifier}
 use Rattle.pli_base.specs.Results.{◌>>=◌}
 use Rattle.pli_base.specs.Reading.{Front, read_as, mapped, taken, if_open}
 use Rattle.pli_base.specs.Syntax.{Expression, Reference, Arguments}
@@ -14,16 +14,16 @@ use Rattle.pli_parse_expression.specs.Expressions.{SpellsOutermost, SpellsRefere
 use Rattle.pli_base.specs.Declarations.{Item}
 use Rattle.pli_parse_declaration.specs.DeclarationGrammar.{Anywhere, SpellsListed, SpellsDeclaration}
 use Rattle.pli_parse_declaration.specs.DeclarationReading.{list_at, identifier_at}
-use Rattle.pli_parse_declaration.proofs.DeclarationReadAgain.{Anyhow, ListEnds, placed, open_behind, enclosed_again, identifier_again}
+use Rattle.pli_parse_declaration.proofs.DeclarationReadAgain.{Anyhow, ListEnds, placed, open_after, enclosed_again, identifier_again}
 use Rattle.pli_parse_declaration.proofs.DeclarationItemsAgain.{declaration_again}
 use Rattle.pli_base.specs.Statements.{Allocation, Heading, Control, Statement, Statements, Alternative, Body, Null, Assign, Declare, Procedure, Do, If, On, Revert, Signal, Stop, Allocate, Free, Call, Goto, Return, Put}
-use Rattle.pli_parse_statement.specs.StatementGrammar.{BeginsAssignment, SpellsKeyed, SpellsClosed, SpellsCondition, SpellsAllocation, SpellsCall, SpellsGoto, SpellsValue, SpellsPut, IsUnitBody, StandsIn, MayReturn}
-use Rattle.pli_parse_statement.specs.StatementReading.{expression_in, reference_in, stopped, closing, is_equals, assignment_at, condition_at, allocation_at, put_at, call_at, Inside, is_labelled, unit_misplaced, standing_misplaced, misplacement, keyed_at, unless_misplaced, body_from}
+use Rattle.pli_parse_statement.specs.StatementGrammar.{BeginsAssignment, SpellsKeyed, SpellsClosed, SpellsCondition, SpellsAllocation, SpellsCall, SpellsGoto, SpellsValue, SpellsPut, IsOnUnitBody, StandsIn, MayReturn}
+use Rattle.pli_parse_statement.specs.StatementReading.{expression_in, reference_in, stopped, closing, is_equals, assignment_at, condition_at, allocation_at, put_at, call_at, Inside, is_labelled, on_unit_misplaced, standing_misplaced, misplacement, keyed_at, unless_misplaced, body_from}
 use Rattle.pli_parse_statement.specs.StatementWords.{Context, begins_assignment, Assigns, Empty, Keyed, first_kind, kind_of}
 use Rattle.pli_parse_statement.specs.declared.keyword.Keyword.{Keyword}
 use Rattle.pli_parse_statement.specs.declared.keyword.Keyword.TheVariants as words
 use Rattle.pli_parse_statement.specs.declared.keyword.StatementStanding.{StatementStanding}
-use Rattle.pli_parse_statement.specs.declared.keyword.StatementStanding.TheVariants.{InBlock, InGroup, AsClause, AsUnit}
+use Rattle.pli_parse_statement.specs.declared.keyword.StatementStanding.TheVariants.{InBlock, InGroup, AsClause, AsOnUnit}
 use Rattle.pli_base.specs.declared.statement.Condition.{Condition}
 use Rattle.pli_parse.proofs.StatementSpelledTools.{assignment_begins}
 use Rattle.pli_parse.proofs.StatementSpelledParts.{expression_again, reference_again, condition_again, stopped_again, closing_again, commas_again, commas_stop, references_again}
@@ -35,17 +35,17 @@ use Rattle.pli_parse_declaration.specs.declared.list.Separator.TheVariants.{Comm
 -- where statements may stand
 
 stands_each : (k : Keyword) (l : Bool) → standing_misplaced InBlock k l ≡ None → standing_misplaced InGroup k l ≡ None → standing_misplaced AsClause k l ≡ None
-    → (s : StatementStanding) → (s ≡ AsUnit → unit_misplaced k ≡ None) → standing_misplaced s k l ≡ None
+    → (s : StatementStanding) → (s ≡ AsOnUnit → on_unit_misplaced k ≡ None) → standing_misplaced s k l ≡ None
 stands_each k l block group clause InBlock unit = block
 stands_each k l block group clause InGroup unit = group
 stands_each k l block group clause AsClause unit = clause
-stands_each k l block group clause AsUnit unit = unit refl
+stands_each k l block group clause AsOnUnit unit = unit refl
 
-no_unit : (s : StatementStanding) (label : Option Identifier) (b : Body) → StandsIn s label b → (IsUnitBody b → ⊥) → s ≡ AsUnit → ⊥
-no_unit s label b stands never e = never (subst (λ s. StandsIn s label b) e stands).1
+no_on_unit : (s : StatementStanding) (label : Option Identifier) (b : Body) → StandsIn s label b → (IsOnUnitBody b → ⊥) → s ≡ AsOnUnit → ⊥
+no_on_unit s label b stands never e = never (subst (λ s. StandsIn s label b) e stands).1
 
 abbrev pub Placed : Context → Option Identifier → Keyword → Type 0
-Placed c label k = misplacement c k (is_labelled label) c.in_unit ≡ None
+Placed c label k = misplacement c k (is_labelled label) c.in_on_unit ≡ None
 
 pub procedure_placed : (c : Context) (label : Option Identifier) (heading : Heading) (statements : Statements) (end : ℕ) → StandsIn c.standing label (Procedure heading statements end) → (label ≡ Some heading.name) × Placed c label words.Procedure
 procedure_placed c label heading statements end stands = by c.standing stands
@@ -54,7 +54,7 @@ procedure_placed c label heading statements end stands = by c.standing stands
     by InBlock e = (e, ap (λ l. standing_misplaced InBlock words.Procedure (is_labelled l)) e)
     by InGroup e = absurd e
     by AsClause e = absurd e
-    by AsUnit e = absurd e.1
+    by AsOnUnit e = absurd e.1
 
 pub declare_placed : (c : Context) (label : Option Identifier) (items : List Item) → StandsIn c.standing label (Declare items) → Placed c label words.Declare
 declare_placed c label items stands = by c.standing stands
@@ -63,26 +63,26 @@ declare_placed c label items stands = by c.standing stands
     by InBlock e = ap (λ l. standing_misplaced InBlock words.Declare (is_labelled l)) e
     by InGroup e = ap (λ l. standing_misplaced InGroup words.Declare (is_labelled l)) e
     by AsClause e = absurd e
-    by AsUnit e = absurd e.1
+    by AsOnUnit e = absurd e.1
 
 pub begin_placed : (c : Context) (label : Option Identifier) → Placed c label words.Begin
 begin_placed c label = stands_each words.Begin (is_labelled label) refl refl refl c.standing (λ e. refl)
 
 pub do_placed : (c : Context) (label : Option Identifier) (control : Option Control) (statements : Statements) (end : ℕ) → StandsIn c.standing label (Do control statements end) → Placed c label words.Do
-do_placed c label control statements end stands = stands_each words.Do (is_labelled label) refl refl refl c.standing (λ e. absurd (no_unit c.standing label (Do control statements end) stands (λ n. n) e))
+do_placed c label control statements end stands = stands_each words.Do (is_labelled label) refl refl refl c.standing (λ e. absurd (no_on_unit c.standing label (Do control statements end) stands (λ n. n) e))
 
 pub if_placed : (c : Context) (label : Option Identifier) (condition : Expression) (consequence : Statement) (alternative : Alternative) → StandsIn c.standing label (If condition consequence alternative) → Placed c label words.If
-if_placed c label condition consequence alternative stands = stands_each words.If (is_labelled label) refl refl refl c.standing (λ e. absurd (no_unit c.standing label (If condition consequence alternative) stands (λ n. n) e))
+if_placed c label condition consequence alternative stands = stands_each words.If (is_labelled label) refl refl refl c.standing (λ e. absurd (no_on_unit c.standing label (If condition consequence alternative) stands (λ n. n) e))
 
 pub on_placed : (c : Context) (label : Option Identifier) (condition : Condition) (unit : Statement) → StandsIn c.standing label (On condition unit) → Placed c label words.On
-on_placed c label condition unit stands = stands_each words.On (is_labelled label) refl refl refl c.standing (λ e. absurd (no_unit c.standing label (On condition unit) stands (λ n. n) e))
+on_placed c label condition unit stands = stands_each words.On (is_labelled label) refl refl refl c.standing (λ e. absurd (no_on_unit c.standing label (On condition unit) stands (λ n. n) e))
 
-return_placed : (c : Context) (label : Option Identifier) (value : Option Expression) → StandsIn c.standing label (Return value) → MayReturn c.in_unit (Return value) → Placed c label words.Return
-return_placed c label value stands may = by c.in_unit may
+return_placed : (c : Context) (label : Option Identifier) (value : Option Expression) → StandsIn c.standing label (Return value) → MayReturn c.in_on_unit (Return value) → Placed c label words.Return
+return_placed c label value stands may = by c.in_on_unit may
   where
     by : (u : Bool) → MayReturn u (Return value) → misplacement c words.Return (is_labelled label) u ≡ None
     by true m = absurd m
-    by false m = stands_each words.Return (is_labelled label) refl refl refl c.standing (λ e. absurd (no_unit c.standing label (Return value) stands (λ n. n) e))
+    by false m = stands_each words.Return (is_labelled label) refl refl refl c.standing (λ e. absurd (no_on_unit c.standing label (Return value) stands (λ n. n) e))
 
 kind_keyed : (k : Keyword) (n : Name) (us ts : Tokens) → ts ≡ Word n ∷ us → first_kind (Word n ∷ us) ≡ Keyed k us → begins_assignment ts ≡ false → kind_of ts ≡ Keyed k us
 unfolding kind_of
@@ -101,7 +101,7 @@ unfolding kind_of first_kind
 kind_empty us h = ap (λ b. cond b Assigns (Empty us)) h
 
 equals_taken : (p : ℕ) (zs : Tokens) → taken is_equals NotAStatement p (Sign Equals ∷ zs) ≡ Ok zs
-unfolding taken behind
+unfolding taken rest_after
 equals_taken p zs = refl
 
 -- what closes at a `;`
@@ -114,16 +114,16 @@ closing_read f one Spells x p ts more (us, shape, spelled) reads =
     ∙ placed (f x) (p + length us + 1) (p + length ts) more (omega (arith, ap length shape, length-append us (Sign Semicolon ∷ [])))
 
 value_again : (levels p : ℕ) (v : Option Expression) (ts more : Tokens) → SpellsValue levels p ts v
-    → if_open (expression_in levels) p (ts ++ Sign Semicolon ∷ more) (behind is_open (ts ++ Sign Semicolon ∷ more)) ≡ read_as v (p + length ts) (Sign Semicolon ∷ more)
+    → if_open (expression_in levels) p (ts ++ Sign Semicolon ∷ more) (rest_after is_open (ts ++ Sign Semicolon ∷ more)) ≡ read_as v (p + length ts) (Sign Semicolon ∷ more)
 value_again levels p None ts more shape =
     let tail : Tokens = Sign Semicolon ∷ more in
-    ap (λ us. if_open (expression_in levels) p (us ++ tail) (behind is_open (us ++ tail))) shape
+    ap (λ us. if_open (expression_in levels) p (us ++ tail) (rest_after is_open (us ++ tail))) shape
     ∙ ap (λ o. if_open (expression_in levels) p tail o) (no_open_semicolon more)
     ∙ placed None p (p + length ts) tail (omega (arith, ap length shape))
 value_again levels p (Some e) ts more (us, shape, spelled) =
     let tail : Tokens = Sign Semicolon ∷ more in
-    ap (λ vs. if_open (expression_in levels) p (vs ++ tail) (behind is_open (vs ++ tail))) shape
-    ∙ ap (λ o. if_open (expression_in levels) p ((Sign OpenParenthesis ∷ us ++ Sign CloseParenthesis ∷ []) ++ tail) o) (open_behind ((us ++ Sign CloseParenthesis ∷ []) ++ tail))
+    ap (λ vs. if_open (expression_in levels) p (vs ++ tail) (rest_after is_open (vs ++ tail))) shape
+    ∙ ap (λ o. if_open (expression_in levels) p ((Sign OpenParenthesis ∷ us ++ Sign CloseParenthesis ∷ []) ++ tail) o) (open_after ((us ++ Sign CloseParenthesis ∷ []) ++ tail))
     ∙ ap (mapped Some) (enclosed_again (expression_in levels) (SpellsOutermost levels) EndsExpression (expression_again levels) (λ zs. (refl, refl)) p us tail e spelled)
     ∙ placed (Some e) (p + length (Sign OpenParenthesis ∷ us ++ Sign CloseParenthesis ∷ [])) (p + length ts) tail (ap (λ (vs : Tokens). p + length vs) (sym shape))
 
@@ -144,7 +144,7 @@ assignment_again levels p target equals value ls rs ts more shape at left right 
     ∙ placed (Assign target equals value) (q + 1 + length rs + 1) (p + length ts) more (omega (arith, ap length shape, length-append ls (Sign Equals ∷ (rs ++ Sign Semicolon ∷ [])), length-append rs (Sign Semicolon ∷ [])))
 
 module _ (levels : ℕ) (inside : Option Inside) (c : Context) (label : Option Identifier) (p k : ℕ) where
-  -- what is read behind the label
+  -- what is read after the label
   abbrev pub BodyRead : Tokens → Tokens → Body → Type 0
   BodyRead ts more b = body_from levels inside c label p k (ts ++ more) (kind_of (ts ++ more)) ≡ read_as b (p + length ts) more
 
@@ -212,10 +212,10 @@ module _ (levels : ℕ) (inside : Option Inside) (c : Context) (label : Option I
       (λ us s. closing_read (λ x. x) (call_at levels) (λ us. SpellsCall levels (p + 1) us name a) (Call name a) (p + 1) us more s (λ vs t. call_again levels (p + 1) vs (Sign Semicolon ∷ more) name a t refl))
 
   pub return_read : (v : Option Expression) (ts more : Tokens) → SpellsKeyed words.Return (SpellsClosed (λ us. SpellsValue levels (p + 1) us v)) ts → begins_assignment (ts ++ more) ≡ false
-      → StandsIn c.standing label (Return v) → MayReturn c.in_unit (Return v) → BodyRead ts more (Return v)
+      → StandsIn c.standing label (Return v) → MayReturn c.in_on_unit (Return v) → BodyRead ts more (Return v)
   return_read v ts more spelled other stands may =
       keyed_read words.Return _ ts more (Return v) spelled other (return_placed c label v stands may)
-      (λ us s. closing_read Return (λ q vs. if_open (expression_in levels) q vs (behind is_open vs)) (λ us. SpellsValue levels (p + 1) us v) v (p + 1) us more s (λ vs t. value_again levels (p + 1) v vs more t))
+      (λ us s. closing_read Return (λ q vs. if_open (expression_in levels) q vs (rest_after is_open vs)) (λ us. SpellsValue levels (p + 1) us v) v (p + 1) us more s (λ vs t. value_again levels (p + 1) v vs more t))
 
   pub put_read : (skip : Bool) (items : List Expression) (ts more : Tokens) → SpellsKeyed words.Put (SpellsClosed (λ us. SpellsPut levels (p + 1) us skip items)) ts → begins_assignment (ts ++ more) ≡ false
       → BodyRead ts more (Put skip items)

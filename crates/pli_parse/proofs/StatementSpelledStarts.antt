@@ -1,4 +1,4 @@
--- How a statement that is spelled begins: with a `;`, or with a word behind which no `:` stands. So it has no label, is no END and no ELSE.
+-- How a statement that is spelled begins: with a `;`, or with a word after which no `:` stands. So it has no label, is no END and no ELSE.
 use Rattle.std.proofs.Common.{⊎_elim, ◌⊎◌, inr, ◌≡◌, ◌+◌, ℕ, Bool, true, false, cond, List, [], ◌∷◌, ◌++◌, Option, Some, None, length, codes, refl, ap, ◌∙◌, sym, subst, append_assoc}
 use Rattle.pli_base.specs.Name.{Name}
 use Rattle.pli_base.specs.Words.{Tokens, same_name, SpellsIdentifier}
@@ -16,7 +16,7 @@ use Rattle.pli_parse_declaration.specs.DeclarationGrammar.{SpellsListed, SpellsL
 use Rattle.pli_base.specs.Statements.{Heading, Control, While, Iterate, Allocation, ProcedureOption, Main, Returns, Recursive}
 use Rattle.pli_parse_statement.specs.StatementGrammar.{BeginsAssignment, SpellsKeyed, SpellsClosed, SpellsParameters, SpellsOptions, SpellsHeading, SpellsControl, SpellsAllocation, SpellsSkip, SpellsItems, SpellsPut, SpellsValue, SpellsGoto}
 use Rattle.pli_parse_statement.specs.StatementReading.{label_at, has_semicolon, is_labelled, Another, next_by, next_of, else_by, else_first}
-use Rattle.pli_parse_statement.specs.StatementWords.{keyword_of, behind_word, begins_assignment, StatementKind, Assigns, Keyed, word_kind, first_kind, kind_of}
+use Rattle.pli_parse_statement.specs.StatementWords.{keyword_of, after_word, begins_assignment, StatementKind, Assigns, Keyed, word_kind, first_kind, kind_of}
 use Rattle.pli_parse_statement.specs.declared.keyword.Keyword.{Keyword}
 use Rattle.pli_parse_statement.specs.declared.keyword.Keyword.TheVariants.{End}
 use Rattle.pli_parse_statement.specs.declared.keyword.Keyword.TheVariants as words
@@ -59,7 +59,7 @@ arguments_not_colon : (a : Arguments) (p : ℕ) (ts us : Tokens) → SpellsArgum
 arguments_not_colon Absent p ts us shape h = subst (λ vs. NotColon (vs ++ us)) (sym shape) h
 arguments_not_colon (Given list) p ts us spelled h = subst (λ vs. NotColon (vs ++ us)) (sym spelled.1) tt
 
--- the target of an assignment is a word, behind which no `:` stands
+-- the target of an assignment is a word, after which no `:` stands
 pub target_word : (levels p : ℕ) (ts us : Tokens) (r : Reference) → SpellsReferenceAlone levels p ts r → NotColon us → (n : Name) × (vs : Tokens) × (ts ++ us ≡ Word n ∷ vs) × NotColon vs
 target_word levels p ts us (Named name arguments parts) ((front, rest, shape, at, args, joined), fits) h = (
   name.name,
@@ -88,7 +88,7 @@ item_not_colon p ts i (ls, ns, ds, rs, shape, level, names, dims, attributes) =
 pub declaration_not_colon : (p : ℕ) (ts : Tokens) (items : List Item) → SpellsDeclaration p ts items → NotColon ts
 declaration_not_colon p ts items (us, shape, spelled) = subst NotColon (sym shape) (not_colon_front us _ (listed_not_colon SpellsItem item_not_colon p us items spelled))
 
--- with a `;` behind it
+-- with a `;` after it
 pub closed_not_colon : (Spells : Tokens → Type 0) → ((us : Tokens) → Spells us → NotColon (us ++ Sign Semicolon ∷ [])) → (ts : Tokens) → SpellsClosed Spells ts → NotColon ts
 closed_not_colon Spells one ts (us, shape, spelled) = subst NotColon (sym shape) (one us spelled)
 
@@ -178,7 +178,7 @@ keyed_started k Spells ts other (n, us, shape, word, spelled) stands =
     inr (n, us, shape, stands us spelled, inr (keyword_not_else n k word, λ more. subst NotEnd (sym (ap (λ vs. first_kind (vs ++ more)) shape ∙ keyword_kind n (us ++ more) k word)) (keyed_not_end k (us ++ more) other)))
 
 pub go_kinds : (us : Tokens) → first_kind (Word (codes "GO") ∷ Word (codes "TO") ∷ us) ≡ Keyed words.GoTo us
-unfolding first_kind keyword_of behind_word
+unfolding first_kind keyword_of after_word
 go_kinds us = refl
 
 pub goto_started : (p : ℕ) (ts : Tokens) (label : Identifier) → SpellsClosed (λ us. SpellsGoto p us label) ts → Started ts
@@ -216,11 +216,11 @@ else_assigned true o = refl
 else_assigned false o = refl
 
 semicolon_no_else : (us : Tokens) → else_first (Sign Semicolon ∷ us) ≡ None
-unfolding else_first behind_word
+unfolding else_first after_word
 semicolon_no_else us = else_none (is_labelled (label_at 0 (Sign Semicolon ∷ us)).value) (begins_assignment (Sign Semicolon ∷ us))
 
 word_no_else : (n : Name) (us : Tokens) → same_name n (codes "ELSE") ≡ false → else_first (Word n ∷ us) ≡ None
-unfolding else_first behind_word
+unfolding else_first after_word
 word_no_else n us h =
     ap (λ b. else_by (is_labelled (label_at 0 (Word n ∷ us)).value) (begins_assignment (Word n ∷ us)) (cond b (Some us) None)) h
     ∙ else_none (is_labelled (label_at 0 (Word n ∷ us)).value) (begins_assignment (Word n ∷ us))
@@ -228,7 +228,7 @@ word_no_else n us h =
 assigned_no_else : (ts : Tokens) → begins_assignment ts ≡ true → else_first ts ≡ None
 unfolding else_first
 assigned_no_else ts h =
-    ap (λ b. else_by (is_labelled (label_at 0 ts).value) b (behind_word (codes "ELSE") ts)) h ∙ else_assigned (is_labelled (label_at 0 ts).value) (behind_word (codes "ELSE") ts)
+    ap (λ b. else_by (is_labelled (label_at 0 ts).value) b (after_word (codes "ELSE") ts)) h ∙ else_assigned (is_labelled (label_at 0 ts).value) (after_word (codes "ELSE") ts)
 
 -- and is no ELSE
 pub no_else : (ts more : Tokens) → Started ts → else_first (ts ++ more) ≡ None

@@ -50,7 +50,7 @@ pub semicolon_back : (ts more : Tokens) → HasSemicolon more → HasSemicolon (
 semicolon_back [] more h = h
 semicolon_back (t ∷ ts) more h = semicolon_later t (ts ++ more) (semicolon_back ts more h)
 
--- the first `;` of tokens, whatever stands behind them
+-- the first `;` of tokens, whatever stands after them
 abbrev pub FirstSemicolon : Tokens → Tokens → Type 0
 FirstSemicolon ts more = (us : Tokens) × (vs : Tokens) × (ts ≡ us ++ tokens.Sign signs.Semicolon ∷ vs) × (up_to_semicolon (ts ++ more) ≡ Some us)
 
@@ -81,7 +81,7 @@ unfolding up_to_semicolon
 up_to_first [] rest h = refl
 up_to_first (t ∷ front) rest h = other_first t (front ++ tokens.Sign signs.Semicolon ∷ rest) h.0 ∙ ap (option_map (λ us. t ∷ us)) (up_to_first front rest h.1)
 
--- what begins an assignment is found to, whatever stands behind
+-- what begins an assignment is found to, whatever follows
 pub assignment_begins : (p : ℕ) (ts more : Tokens) → BeginsAssignment p ts → begins_assignment (ts ++ more) ≡ true
 unfolding begins_assignment
 assignment_begins p ts more (front, rest, shape, assigns) =

@@ -60,7 +60,7 @@ inside_there levels = refl
 abbrev made : Heading → Statements → ℕ → ExternalProcedure
 made heading statements end = record { heading = heading; statements = statements; end = end }
 
--- what stands behind PROCEDURE, and more behind the unit
+-- what stands after PROCEDURE, and more after the unit
 external_again : (u : ExternalProcedure) (hs ss es us more : Tokens) → us ≡ hs ++ (Sign Semicolon ∷ (ss ++ es)) → u.heading.number ≡ 1 → SpellsHeading 3 hs u.heading → SpellsStatements a_procedure 63 (3 + length hs + 1) 2 ss u.statements
     → SpellsEnd (Some u.heading.name) es → u.end ≡ 2 + list_count u.statements → external_at u.heading.name (us ++ more) ≡ finished u (3 + length us) more
 unfolding external_at
@@ -82,7 +82,7 @@ name_and_procedure : (m n : Name) (us : Tokens) → is_procedure n ≡ true → 
 unfolding misplaced
 name_and_procedure m n us h = ap (λ b. cond b None (Some 2)) h
 
--- the unit, and more behind it
+-- the unit, and more after it
 pub unit_front : (ts more : Tokens) (u : ExternalProcedure) → SpellsUnit ts u → unit_of (ts ++ more) ≡ finished u (length ts) more
 unfolding unit_of
 unit_front ts more u (n, hs, ss, es, shape, word, at, number, heading, spelled, ends, end) =
@@ -90,8 +90,8 @@ unit_front ts more u (n, hs, ss, es, shape, word, at, number, heading, spelled, 
     let m : Name = u.heading.name.name in
     let whole : Tokens = Word m ∷ Sign Colon ∷ Word n ∷ (us ++ more) in
     let split : us ++ more ≡ hs ++ (Sign Semicolon ∷ ((ss ++ es) ++ more)) = append_assoc hs (Sign Semicolon ∷ (ss ++ es)) more in
-    let behind : HasSemicolon (us ++ more) = subst HasSemicolon (sym split) (semicolon_back hs (Sign Semicolon ∷ ((ss ++ es) ++ more)) (semicolon_first ((ss ++ es) ++ more))) in
-    let has : HasSemicolon whole = semicolon_later (Word m) (Sign Colon ∷ Word n ∷ (us ++ more)) (semicolon_later (Sign Colon) (Word n ∷ (us ++ more)) (semicolon_later (Word n) (us ++ more) behind)) in
+    let after : HasSemicolon (us ++ more) = subst HasSemicolon (sym split) (semicolon_back hs (Sign Semicolon ∷ ((ss ++ es) ++ more)) (semicolon_first ((ss ++ es) ++ more))) in
+    let has : HasSemicolon whole = semicolon_later (Word m) (Sign Colon ∷ Word n ∷ (us ++ more)) (semicolon_later (Sign Colon) (Word n ∷ (us ++ more)) (semicolon_later (Word n) (us ++ more) after)) in
     let place : 3 + length us ≡ length ts = omega (arith, ap length shape) in
     ap (λ vs. unit_of (vs ++ more)) shape
     ∙ ap (λ o. unit_from o (has_semicolon whole) whole) (name_and_procedure m n (us ++ more) (procedure_word n word))

@@ -17,7 +17,7 @@ use Rattle.pli_parse_expression.proofs.TokensRise.{expression_rises, reference_r
 use Rattle.pli_parse_declaration.specs.declared.list.Separator.TheVariants.{Commas}
 use Rattle.pli_parse_declaration.specs.DeclarationGrammar.{SpellsListed}
 use Rattle.pli_parse_declaration.proofs.DeclarationTokens.{Rise, listed_rise, declaration_rises, identifier_rises}
-use Rattle.pli_parse_statement.specs.StatementWords.{Context, standing, the_unit, a_procedure}
+use Rattle.pli_parse_statement.specs.StatementWords.{Context, standing, the_on_unit, a_procedure}
 use Rattle.pli_parse_statement.specs.StatementReading.{statement_at, unit_of}
 use Rattle.pli_parse_statement.specs.StatementGrammar.{SpellsEnclosed, SpellsOptional, SpellsParameters, SpellsRange, SpellsControl, SpellsPlaced, SpellsAllocation, SpellsItems, SpellsPut, SpellsValue, SpellsLabel, SpellsStatement, SpellsBody, SpellsStatements, SpellsAlternative, SpellsUnit}
 use Rattle.pli_parse_statement.specs.declared.keyword.StatementStanding.TheVariants.{InBlock, InGroup, AsClause}
@@ -49,7 +49,7 @@ parameters_rise : Rise (tokens_of_each name_tokens) SpellsParameters
 parameters_rise p ts [] spelled = none_rises p ts
 parameters_rise p ts (i ∷ is) spelled = enclosed_rises (tokens_of_each name_tokens) (SpellsListed Commas SpellsIdentifier) (listed_rise name_tokens Commas SpellsIdentifier identifier_rises) p ts (i ∷ is) spelled
 
--- an expression behind a word, and behind it another behind a word
+-- an expression after a word, and after it another after a word
 two_rise : (levels p : ℕ) (w v : Name) (ts front rest : Tokens) (x : Expression) (y : Option Expression) → ts ≡ Word w ∷ front ++ rest → SpellsOutermost levels (p + 1) front x → SpellsOptional v (SpellsOutermost levels) (p + 1 + length front) rest y
     → Rises p (expression_tokens x ++ tokens_of_some expression_tokens y) (p + length ts)
 two_rise levels p w v ts front rest x y shape first second =
@@ -85,7 +85,7 @@ control_rises levels p ts (Some (Iterate variable equals first range condition))
     in
     rises_on (reference_tokens variable) (equals ∷ (expression_tokens first ++ (tokens_of_some range_tokens range ++ tokens_of_some expression_tokens condition))) p a equals (p + length ts) (omega arith) (alone_rises levels p vs variable target) (omega arith, middle)
 
--- a reference behind IN or SET
+-- a reference after IN or SET
 place_rises : (levels : ℕ) (w : Name) → Rise (tokens_of_some reference_tokens) (SpellsOptional w (SpellsEnclosed (SpellsReferenceAlone levels)))
 place_rises levels w = optional_rises reference_tokens w (SpellsEnclosed (SpellsReferenceAlone levels)) (enclosed_rises reference_tokens (SpellsReferenceAlone levels) (alone_rises levels))
 
@@ -145,9 +145,9 @@ label_rises : Rise (tokens_of_some name_tokens) SpellsLabel
 label_rises p ts None spelled = none_rises p ts
 label_rises p ts (Some l) spelled = (omega (arith, spelled.1), omega (arith, spelled.1, ap length spelled.0))
 
--- a statement's first token, and what stands behind its keyword
+-- a statement's first token, and what stands after its keyword
 keyed_rises : (xs : List ℕ) (p q : ℕ) (ts us : Tokens) (n : Name) → ts ≡ Word n ∷ us → p + 1 ≤ q → (front : Tokens) → q + length front ≤ p + 1 + length us → Rises q xs (q + length front) → Rises p (p ∷ xs) (p + length ts)
-keyed_rises xs p q ts us n shape behind front within h = (omega arith, inner_rises xs (p + 1) q (p + length ts) front behind (omega (arith, ap length shape)) h)
+keyed_rises xs p q ts us n shape after front within h = (omega arith, inner_rises xs (p + 1) q (p + length ts) front after (omega (arith, ap length shape)) h)
 
 closed_rises : (xs : List ℕ) (p : ℕ) (ts us vs : Tokens) (n : Name) → ts ≡ Word n ∷ us → us ≡ vs ++ Sign Semicolon ∷ [] → Rises (p + 1) xs (p + 1 + length vs) → Rises p (p ∷ xs) (p + length ts)
 closed_rises xs p ts us vs n shape closed h = keyed_rises xs p (p + 1) ts us n shape (omega arith) vs (omega (arith, ap length closed, length-append vs (Sign Semicolon ∷ []))) h
@@ -205,7 +205,7 @@ mutual
       )
   body_rises c zero label p k ts (On condition unit) (n, us, shape, word, (cs, ss, whole, is, inner)) = absurd inner
   body_rises c (suc levels) label p k ts (On condition unit) (n, us, shape, word, (cs, ss, whole, is, inner)) =
-      keyed_rises (statement_tokens unit) p (p + 1 + length cs) ts us n shape (omega arith) ss (omega (arith, ap length whole, length-append cs ss)) (statement_rises the_unit levels (p + 1 + length cs) (k + 1) ss unit inner)
+      keyed_rises (statement_tokens unit) p (p + 1 + length cs) ts us n shape (omega arith) ss (omega (arith, ap length whole, length-append cs ss)) (statement_rises the_on_unit levels (p + 1 + length cs) (k + 1) ss unit inner)
   body_rises c levels label p k ts (Revert condition) (n, us, shape, word, spelled) = bare_rises p ts us n shape
   body_rises c levels label p k ts (Signal condition) (n, us, shape, word, spelled) = bare_rises p ts us n shape
   body_rises c levels label p k ts Stop (n, us, shape, word, spelled) = bare_rises p ts us n shape

@@ -19,10 +19,10 @@ use Rattle.pli_parse_expression.specs.Operators.{nesting_limit}
 use Rattle.pli_parse_fault.proofs.ReadingFaults.{fault_of}
 use Rattle.pli_parse_fault.proofs.StepLemmas.{same_err}
 use Rattle.pli_parse.proofs.StatementFaults.{heading_stands}
-use Rattle.pli_parse.proofs.StatementFaultPlaces.{UnitStands, IsBehindUnit, list_in_stands, statement_stands, inside_sound, external_stands, statement_told}
+use Rattle.pli_parse.proofs.StatementFaultPlaces.{UnitStands, IsAfterUnit, list_in_stands, statement_stands, inside_sound, external_stands, statement_told}
 use Rattle.pli_parse.proofs.StatementRead.{statement_reads, inside_reads, IsProcedure, procedure_stands, external_front}
 use Rattle.pli_parse.proofs.StatementSpelledUnits.{inside_there, unit_front}
-use Rattle.pli_parse.specs.UnitFaults.{can_head, HasNoProcedure, HasTextBehind}
+use Rattle.pli_parse.specs.UnitFaults.{can_head, HasNoProcedure, HasTextAfter}
 
 at_same : {a b : ℕ} → ◌≡◌ {A = Option ℕ} (Some a) (Some b) → a ≡ b
 at_same h = cc
@@ -85,20 +85,20 @@ pub no_procedure_told : (ts : Tokens) (p : ℕ) → HasNoProcedure ts p → unit
 unfolding unit_of
 no_procedure_told ts p h = ap (λ o. unit_from o (has_semicolon ts) ts) (misplaced_there ts p h)
 
--- what a fault behind PROCEDURE is not
+-- what a fault after PROCEDURE is not
 not_of_part : (code : Code) (p : ℕ) (ts : Tokens) (f : Fault) → is_of_part code ≡ false
-    → (EndMissing ≡ code → ⊥) → (TextAfterEnd ≡ code → ⊥) → f.code ≡ code → IsToldOf p ts f ⊎ IsBehindUnit p ts f → ⊥
-not_of_part code p ts f never not_ended not_behind e h =
+    → (EndMissing ≡ code → ⊥) → (TextAfterEnd ≡ code → ⊥) → f.code ≡ code → IsToldOf p ts f ⊎ IsAfterUnit p ts f → ⊥
+not_of_part code p ts f never not_ended not_after e h =
     ⊎_elim
     (λ told. ⊎_elim (λ here. differ (sym never ∙ ap is_of_part (sym e) ∙ here.2)) (λ end. not_ended (sym end.0 ∙ e)) told)
-    (λ behind. not_behind (sym behind.0 ∙ e)) h
+    (λ after. not_after (sym after.0 ∙ e)) h
   where
     differ : false ≡ true → ⊥
     differ g = cc
 
 -- of a unit that has begun
 begun_stands : (name : Identifier) (t : TokenText) (ts : Tokens) (f : Fault) → external_at name ts ≡ Err f
-    → IsToldOf 2 (t ∷ ts) f ⊎ IsBehindUnit 2 (t ∷ ts) f
+    → IsToldOf 2 (t ∷ ts) f ⊎ IsAfterUnit 2 (t ∷ ts) f
 begun_stands name t ts f h = subst (UnitStands 2 (t ∷ ts)) h (external_stands name t ts)
 
 ended_no_head : EndMissing ≡ NoProcedure → ⊥
@@ -110,7 +110,7 @@ text_no_head e = cc
 ended_no_text : EndMissing ≡ TextAfterEnd → ⊥
 ended_no_text e = cc
 
--- at a fault of a unit there is no procedure, the text ends, or what stands behind PROCEDURE is at fault
+-- at a fault of a unit there is no procedure, the text ends, or what stands after PROCEDURE is at fault
 unit_fault_by : (X : Tokens → Type 0) (f : Fault)
     → ((us : Tokens) (p : ℕ) → misplaced us ≡ Some p → record { code = NoProcedure; at = p } ≡ f → X us)
     → ((us : Tokens) → record { code = EndMissing; at = length us - 1 } ≡ f → X us)
@@ -164,9 +164,9 @@ pub no_semicolon_ahead : (c : Context) (levels p k : ℕ) (ts : Tokens) → has_
 unfolding statement_of
 no_semicolon_ahead c levels p k ts none = ap (begun levels (inside_of levels) c p k ts) none
 
--- text behind the unit
-pub text_behind_told : (ts : Tokens) (p : ℕ) → HasTextBehind ts p → unit_of ts ≡ at_fault TextAfterEnd p
-text_behind_told ts p (front, t, rest, unit, shape, place, spelled) =
+-- text after the unit
+pub text_after_told : (ts : Tokens) (p : ℕ) → HasTextAfter ts p → unit_of ts ≡ at_fault TextAfterEnd p
+text_after_told ts p (front, t, rest, unit, shape, place, spelled) =
     ap unit_of shape ∙ unit_front front (t ∷ rest) unit spelled ∙ ap (λ (q : ℕ). at_fault TextAfterEnd q) (sym place)
 
 bind_err : {A B : Type 0} (r : Result A Fault) (f : A → Result B Fault) (e : Fault) → (r >>= f) ≡ Err e
@@ -193,7 +193,7 @@ in_unit = record { levels = 63; statement = statement_of 63 (inside_of 63) }
 
 external_met : (n : Name) (t : TokenText) (ts : Tokens) (f : Fault) → IsProcedure t
     → external_at (record { name = n; at = 0 }) ts ≡ Err f → f.code ≡ TextAfterEnd
-    → HasTextBehind (Word n ∷ Sign Colon ∷ t ∷ ts) f.at
+    → HasTextAfter (Word n ∷ Sign Colon ∷ t ∷ ts) f.at
 unfolding external_at
 external_met n t ts f procedure h code =
     let name : Identifier = record { name = n; at = 0 } in
@@ -222,8 +222,8 @@ external_met n t ts f procedure h code =
     (bind_err (inner_list in_unit name x.0.next 2 x.0.rest) _ f x.2))
     (bind_err (heading_at name 1 3 ts) _ f (sym there ∙ h))
 
-pub text_behind_met : (ts : Tokens) (f : Fault) → unit_of ts ≡ Err f → f.code ≡ TextAfterEnd → HasTextBehind ts f.at
-text_behind_met ts f h code =
-    unit_fault_by (λ us. HasTextBehind us f.at) f (λ us p e g. absurd (text_no_head (sym code ∙ ap (λ (x : Fault). x.code) (sym g))))
+pub text_after_met : (ts : Tokens) (f : Fault) → unit_of ts ≡ Err f → f.code ≡ TextAfterEnd → HasTextAfter ts f.at
+text_after_met ts f h code =
+    unit_fault_by (λ us. HasTextAfter us f.at) f (λ us p e g. absurd (text_no_head (sym code ∙ ap (λ (x : Fault). x.code) (sym g))))
     (λ us g. absurd (ended_no_text (ap (λ (x : Fault). x.code) g ∙ code)))
     (λ n t us e g. external_met n t us f (procedure_stands n t us e) g code) ts h

@@ -1,4 +1,4 @@
--- The faults of a unit as a whole: where no procedure begins (P1), and where text stands behind the unit
+-- The faults of a unit as a whole: where no procedure begins (P1), and where text stands after the unit
 -- (P10). Tokens are counted from 0.
 use Rattle.std.specs.Prelude.{◌≡◌, ℕ, zero, suc, ◌+◌, ◌<◌, Bool, true, false, [], ◌∷◌, ◌++◌, length}
 use Rattle.pli_base.specs.Statements.{ExternalProcedure}
@@ -27,8 +27,8 @@ HasNoProcedure (u ∷ us) p =
     (front : Tokens) × (t : TokenText) × (rest : Tokens) × (u ∷ us ≡ front ++ t ∷ rest) × (p ≡ length front)
     × (p < 3) × Heads 0 front × (can_head p t ≡ false)
 
--- P10 at p: a front of the tokens spells a unit, and something stands behind it, its first token at p
-abbrev pub HasTextBehind : Tokens → ℕ → Type 0
-HasTextBehind ts p =
+-- P10 at p: a front of the tokens spells a unit, and something stands after it, its first token at p
+abbrev pub HasTextAfter : Tokens → ℕ → Type 0
+HasTextAfter ts p =
     (front : Tokens) × (t : TokenText) × (rest : Tokens) × (unit : ExternalProcedure)
     × (ts ≡ front ++ t ∷ rest) × (p ≡ length front) × SpellsUnit front unit

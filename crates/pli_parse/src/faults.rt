@@ -7,7 +7,7 @@ ghost use Rattle.pli_base.specs.declared.token.Fault.{Fault};
 ghost use Rattle.pli_parse_fault.specs.FaultCodes.{IsToldOf};
 ghost use Rattle.pli_parse_statement.specs.StatementReading.{has_semicolon, statement_at, unit_of};
 ghost use Rattle.pli_parse_statement.specs.StatementWords.{Context};
-ghost use Rattle.pli_parse.specs.UnitFaults.{HasNoProcedure, HasTextBehind};
+ghost use Rattle.pli_parse.specs.UnitFaults.{HasNoProcedure, HasTextAfter};
 
 /// A law: P1 is answered exactly where the text is empty or one of its first three tokens cannot stand, at the first
 /// such.
@@ -27,12 +27,12 @@ pub fn texts_end_too_early()
         has_semicolon ts ≡ false → statement_at levels c p k ts ≡ at_fault EndMissing (p + length ts - 1) }
 {}
 
-/// A law: P10 is answered exactly where a front of the tokens spells a unit and something stands behind it, at its
+/// A law: P10 is answered exactly where a front of the tokens spells a unit and something stands after it, at its
 /// first token.
-#[tactic(auto, using(crate::proofs::UnitFaults::text_behind_told, crate::proofs::UnitFaults::text_behind_met))]
-pub fn text_stands_behind()
-    ensures told { (ts : Tokens) (p : ℕ) → HasTextBehind ts p → unit_of ts ≡ at_fault TextAfterEnd p }
-    ensures met { (ts : Tokens) (f : Fault) → unit_of ts ≡ Err f → f.code ≡ TextAfterEnd → HasTextBehind ts f.at }
+#[tactic(auto, using(crate::proofs::UnitFaults::text_after_told, crate::proofs::UnitFaults::text_after_met))]
+pub fn text_stands_after()
+    ensures told { (ts : Tokens) (p : ℕ) → HasTextAfter ts p → unit_of ts ≡ at_fault TextAfterEnd p }
+    ensures met { (ts : Tokens) (f : Fault) → unit_of ts ≡ Err f → f.code ≡ TextAfterEnd → HasTextAfter ts f.at }
 {}
 
 /// A law: a fault of a statement is never P1 or P10; it stands at one of its tokens, or the text ends too early, and it

@@ -13,15 +13,15 @@ ghost use Rattle.pli_parse.specs.examples.StatementExamples.{LabelThatIsKeyword,
 ghost use Rattle.pli_parse.specs.examples.StatementExamples.{ElseOfBoth, ElseAssigned, ElseLabel, LabelledGroup};
 ghost use Rattle.pli_parse.specs.examples.StatementExamples.{UnitOfGoTo, SetBeforeIn, WholeUnit, NoText};
 ghost use Rattle.pli_parse.specs.examples.StatementExamples.{NoProcedureWord, NoSemicolon, NoSemicolonAhead};
-ghost use Rattle.pli_parse.specs.examples.StatementExamples.{TextBehindEnd, NoValue, GoAlone, NoItem, ListNotClosed};
-ghost use Rattle.pli_parse.specs.examples.StatementExamples.{NumberBehindDo, NumberBehindGoto, NoThen, NameOfNoLabel};
+ghost use Rattle.pli_parse.specs.examples.StatementExamples.{TextAfterUnit, NoValue, GoAlone, NoItem, ListNotClosed};
+ghost use Rattle.pli_parse.specs.examples.StatementExamples.{NumberAfterDo, NumberAfterGoto, NoThen, NameOfNoLabel};
 ghost use Rattle.pli_parse.specs.examples.StatementExamples.{BlockNotEnded, NoEquals, NoResult, NameAsBound, TwoLabels};
 ghost use Rattle.pli_parse.specs.examples.StatementExamples.{LabelOfEnd, ProcedureWithoutLabel, NoCondition};
-ghost use Rattle.pli_parse.specs.examples.StatementExamples.{ReturnInUnit, DeclareBehindThen, ProcedureInGroup};
+ghost use Rattle.pli_parse.specs.examples.StatementExamples.{ReturnInOnUnit, DeclareAfterThen, ProcedureInGroup};
 ghost use Rattle.pli_parse.specs.examples.StatementExamples.{NoPutOption, TwoSkips, GroupTooDeep, ConditionTooDeep};
 ghost use Rattle.pli_parse.specs.examples.StatementExamples.{ByBeforeTo, NumbersInBlock, DeepestGroup, WhileAssigned};
-ghost use Rattle.pli_parse.specs.examples.StatementExamples.{NoProcedureOption, NoMain, TwoAreas, LabelBehindThen};
-ghost use Rattle.pli_parse.specs.examples.StatementExamples.{EndBehindThen, StrayElse, IfBehindOn, LabelOfDeclare};
+ghost use Rattle.pli_parse.specs.examples.StatementExamples.{NoProcedureOption, NoMain, TwoAreas, LabelAfterThen};
+ghost use Rattle.pli_parse.specs.examples.StatementExamples.{EndAfterThen, StrayElse, IfAfterOn, LabelOfDeclare};
 ghost use Rattle.pli_parse.specs.examples.StatementExamples.{NoReturnedValue, NameOfOuterLabel, EndNotEnded};
 
 /// Worked examples of what statements and units are read as, and of faults.
@@ -43,13 +43,13 @@ pub fn worked_examples()
     ensures no_procedure_word { NoProcedureWord }
     ensures no_semicolon { NoSemicolon }
     ensures no_semicolon_ahead { NoSemicolonAhead }
-    ensures text_behind_end { TextBehindEnd }
+    ensures text_after_unit { TextAfterUnit }
     ensures no_value { NoValue }
     ensures go_alone { GoAlone }
     ensures no_item { NoItem }
     ensures list_not_closed { ListNotClosed }
-    ensures number_behind_do { NumberBehindDo }
-    ensures number_behind_goto { NumberBehindGoto }
+    ensures number_after_do { NumberAfterDo }
+    ensures number_after_goto { NumberAfterGoto }
     ensures no_then { NoThen }
     ensures name_of_no_label { NameOfNoLabel }
     ensures block_not_ended { BlockNotEnded }
@@ -60,8 +60,8 @@ pub fn worked_examples()
     ensures label_of_end { LabelOfEnd }
     ensures procedure_without_label { ProcedureWithoutLabel }
     ensures no_condition { NoCondition }
-    ensures return_in_unit { ReturnInUnit }
-    ensures declare_behind_then { DeclareBehindThen }
+    ensures return_in_on_unit { ReturnInOnUnit }
+    ensures declare_after_then { DeclareAfterThen }
     ensures procedure_in_group { ProcedureInGroup }
     ensures no_put_option { NoPutOption }
     ensures two_skips { TwoSkips }
@@ -74,10 +74,10 @@ pub fn worked_examples()
     ensures no_procedure_option { NoProcedureOption }
     ensures no_main { NoMain }
     ensures two_areas { TwoAreas }
-    ensures label_behind_then { LabelBehindThen }
-    ensures end_behind_then { EndBehindThen }
+    ensures label_after_then { LabelAfterThen }
+    ensures end_after_then { EndAfterThen }
     ensures stray_else { StrayElse }
-    ensures if_behind_on { IfBehindOn }
+    ensures if_after_on { IfAfterOn }
     ensures label_of_declare { LabelOfDeclare }
     ensures no_returned_value { NoReturnedValue }
     ensures name_of_outer_label { NameOfOuterLabel }

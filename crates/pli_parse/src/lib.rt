@@ -9,7 +9,7 @@ mod spelling;
 mod unit;
 
 pub use faults::{
-    no_procedure_begins, statements_have_codes_of_parts, text_stands_behind, texts_end_too_early,
+    no_procedure_begins, statements_have_codes_of_parts, text_stands_after, texts_end_too_early,
 };
 pub use laws::{faults_stand_at_tokens, tokens_of_units_rise, worked_examples};
 pub use pli_base::ParseError;

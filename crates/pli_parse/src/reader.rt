@@ -10,7 +10,7 @@ ghost use Rattle.pli_parse_statement.specs.StatementReading as reading;
 ghost use Rattle.pli_base.specs.Statements as tree;
 ghost use Rattle.pli_parse_statement.specs.StatementWords as grammar;
 ghost use Rattle.pli_parse_statement.specs.answers.StatementAnswers.{heading_view, tree_view, Counts, inside_at};
-ghost use Rattle.pli_parse_statement.specs.answers.StatementAnswers.{listing_view, context_view, kind_view, BehindKind};
+ghost use Rattle.pli_parse_statement.specs.answers.StatementAnswers.{listing_view, context_view, kind_view, AfterKind};
 ghost use Rattle.pli_parse_statement.specs.answers.StatementAnswers.{IsBeginning, words};
 ghost use Rattle.pli_base.specs.answers.FailureAnswers.{Gives};
 ghost use Rattle.pli_base.specs.answers.ReadingAnswers.{Advances, front_view};
@@ -67,7 +67,7 @@ fn stopped(at: u32, texts: &[TokenText]) -> Result<Front<'_, ()>, ParseError>
     Ok(Front::new((), at + 1, rest))
 }
 
-/// What stands behind END: nothing, or the label of the block or group; and `;`.
+/// What stands after END: nothing, or the label of the block or group; and `;`.
 #[tactic(auto, unfolding(pli_parse_statement::specs::StatementReading::ending_at))]
 fn ending_at<'a>(
     label: &Option<Identifier>,
@@ -79,9 +79,9 @@ fn ending_at<'a>(
     ensures place { IfOk result (Advances at texts.now) }
 {
     match texts {
-        [TokenText::Word(name), behind @ ..] => {
+        [TokenText::Word(name), after @ ..] => {
             if is_label(label, name) {
-                stopped(at + 1, behind)
+                stopped(at + 1, after)
             } else {
                 Err(fault(Code::WrongEndName, at))
             }
@@ -117,8 +117,8 @@ pub fn list_in<'a>(
     loop {
         let beginning = beginning_of(alloc, rest)?;
         match next_of(&beginning, rest) {
-            NextStatement::EndsHere(behind) => {
-                let ended = ending_at(label, next + 1, behind)?;
+            NextStatement::EndsHere(after) => {
+                let ended = ending_at(label, next + 1, after)?;
                 let listing = Listing {
                     statements,
                     end: count,
@@ -136,7 +136,7 @@ pub fn list_in<'a>(
     }
 }
 
-/// What stands behind BEGIN.
+/// What stands after BEGIN.
 #[cycle(reader)]
 #[tactic(auto, unfolding(pli_parse_statement::specs::StatementReading::begin_at), using(pli_base::specs::laws::StatementLaws::begin_made))]
 fn begin_at<'a>(
@@ -158,7 +158,7 @@ fn begin_at<'a>(
     let rest = semicolon_taken(at, texts)?;
     let inner = Context {
         standing: StatementStanding::InBlock,
-        in_unit: context.in_unit,
+        in_on_unit: context.in_on_unit,
     };
     let list = list_in(alloc, levels, inner, label, at + 1, number, rest)?;
     let count = list.value.count;
@@ -166,7 +166,7 @@ fn begin_at<'a>(
     Ok(Counted::front(Body::Begin { statements, end }, count, list.next, list.rest))
 }
 
-/// What stands behind DO.
+/// What stands after DO.
 #[cycle(reader)]
 #[tactic(auto, unfolding(pli_parse_statement::specs::StatementReading::do_at), using(pli_base::specs::laws::StatementLaws::do_made))]
 fn do_at<'a>(
@@ -195,7 +195,7 @@ fn do_at<'a>(
     };
     let inner = Context {
         standing: StatementStanding::InGroup,
-        in_unit: context.in_unit,
+        in_on_unit: context.in_on_unit,
     };
     let list = match list_in(alloc, levels, inner, label, control.next + 1, number, rest) {
         Ok(list) => list,
@@ -231,7 +231,7 @@ fn procedure_of(name: Identifier, number: u32, heading: Heading, list: Listing) 
     Body::Procedure(procedure)
 }
 
-/// What stands behind PROCEDURE, inside a unit; `number` is the number of the PROCEDURE.
+/// What stands after PROCEDURE, inside a unit; `number` is the number of the PROCEDURE.
 #[cycle(reader)]
 #[tactic(auto, unfolding(pli_parse_statement::specs::StatementReading::procedure_at))]
 fn procedure_at<'a>(
@@ -255,7 +255,7 @@ fn procedure_at<'a>(
     let heading = heading_at(alloc, at, texts)?;
     let context = Context {
         standing: StatementStanding::InBlock,
-        in_unit: false,
+        in_on_unit: false,
     };
     let list = list_in(
         alloc,
@@ -291,20 +291,20 @@ fn alternative_at<'a>(
     ensures place { IfOk result (λ x. (x.value.count + at ≤ x.next + number)
         × (x.next + length x.rest.now ≡ at + length texts.now)) }
 {
-    let Some(behind) = else_first(alloc, texts)? else {
+    let Some(after) = else_first(alloc, texts)? else {
         return Ok(Counted::front(None, number, at, texts));
     };
     let inner = Context {
         standing: StatementStanding::AsClause,
-        in_unit: context.in_unit,
+        in_on_unit: context.in_on_unit,
     };
-    let read = statement_at(alloc, levels, inner, at + 1, number, behind)?;
+    let read = statement_at(alloc, levels, inner, at + 1, number, after)?;
     let count = read.value.count;
     let alternative = Box::new(alloc, read.value.tree)?;
     Ok(Counted::front(Some(alternative), count, read.next, read.rest))
 }
 
-/// What stands behind IF.
+/// What stands after IF.
 #[cycle(reader)]
 #[tactic(auto, unfolding(pli_parse_statement::specs::StatementReading::if_at), using(pli_base::specs::laws::StatementLaws::if_made))]
 fn if_at<'a>(
@@ -323,8 +323,8 @@ fn if_at<'a>(
     ensures place { IfOk result (Counts at number texts.now) }
 {
     let condition = expression_in(alloc, levels, at, texts)?;
-    let behind = match word_taken(b"THEN", Code::ThenExpected, condition.next, condition.rest) {
-        Ok(behind) => behind,
+    let after = match word_taken(b"THEN", Code::ThenExpected, condition.next, condition.rest) {
+        Ok(after) => after,
         Err(error) => {
             drop(condition);
             return Err(error);
@@ -332,9 +332,9 @@ fn if_at<'a>(
     };
     let inner = Context {
         standing: StatementStanding::AsClause,
-        in_unit: context.in_unit,
+        in_on_unit: context.in_on_unit,
     };
-    let first = match statement_at(alloc, levels, inner, condition.next + 1, number, behind) {
+    let first = match statement_at(alloc, levels, inner, condition.next + 1, number, after) {
         Ok(first) => first,
         Err(error) => {
             drop(condition);
@@ -361,7 +361,7 @@ fn if_at<'a>(
     }
 }
 
-/// What stands behind ON.
+/// What stands after ON.
 #[cycle(reader)]
 #[tactic(auto, unfolding(pli_parse_statement::specs::StatementReading::on_at), using(pli_base::specs::laws::StatementLaws::on_made))]
 fn on_at<'a>(
@@ -379,8 +379,8 @@ fn on_at<'a>(
 {
     let condition = condition_at(at, texts)?;
     let inner = Context {
-        standing: StatementStanding::AsUnit,
-        in_unit: true,
+        standing: StatementStanding::AsOnUnit,
+        in_on_unit: true,
     };
     let read = statement_at(alloc, levels, inner, condition.next, number, condition.rest)?;
     let count = read.value.count;
@@ -392,7 +392,7 @@ fn on_at<'a>(
     Ok(Counted::front(body, count, read.next, read.rest))
 }
 
-/// A statement behind its keyword at `at`.
+/// A statement after its keyword at `at`.
 #[cycle(reader)]
 #[tactic(auto, unfolding(pli_parse_statement::specs::StatementReading::inside_of))]
 fn keyed_at<'a>(
@@ -427,7 +427,7 @@ fn keyed_at<'a>(
     }
 }
 
-/// A statement of this kind behind its label.
+/// A statement of this kind after its label.
 #[cycle(reader)]
 #[tactic(auto)]
 fn body_at<'a>(
@@ -443,7 +443,7 @@ fn body_at<'a>(
     requires place { at + length texts.now ≤ 200000 }
     requires number { number ≤ at }
     requires kind { kind_view kind ≡ grammar.kind_of texts.now }
-    requires behind { BehindKind (length texts.now) kind }
+    requires after { AfterKind (length texts.now) kind }
     ensures value { Gives (front_view (tree_view body_view)) result
         (body_from levels (inside_of levels) (context_view context) label.now at number texts.now
         (grammar.kind_of texts.now)) }
@@ -494,7 +494,7 @@ pub fn statement_at<'a>(
 
 /// A statement that begins with this.
 #[cycle(reader)]
-#[tactic(auto, unfolding(pli_parse_statement::specs::StatementReading::statement_of), using(crate::proofs::StatementBeginnings::behind_label))]
+#[tactic(auto, unfolding(pli_parse_statement::specs::StatementReading::statement_of), using(crate::proofs::StatementBeginnings::after_label))]
 fn statement_begun<'a>(
     alloc: Global,
     levels: u32,

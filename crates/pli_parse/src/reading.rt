@@ -9,7 +9,7 @@ ghost use Rattle.pli_parse_statement.specs.StatementWords.{Context};
 ghost use Rattle.pli_parse_statement.specs.StatementReading.{statement_at, else_first, unit_of};
 ghost use Rattle.pli_parse_statement.specs.StatementGrammar.{SpellsStatement, SpellsUnit};
 
-/// A law: what is read is spelled so, of the unit, and of a statement, which the front of the tokens spells. Behind a
+/// A law: what is read is spelled so, of the unit, and of a statement, which the front of the tokens spells. After a
 /// statement that awaits an ELSE none stands.
 #[tactic(auto, using(crate::proofs::StatementRead::unit_reads, crate::proofs::StatementRead::statement_spelled, crate::proofs::StatementRead::none_awaited))]
 pub fn units_read_are_spelled()

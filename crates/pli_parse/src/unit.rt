@@ -44,7 +44,7 @@ fn misplaced(texts: &[TokenText]) -> Option<u32>
     }
 }
 
-/// The external procedure of this name, behind PROCEDURE.
+/// The external procedure of this name, after PROCEDURE.
 #[tactic(auto, unfolding(pli_parse_statement::specs::StatementReading::external_at, pli_parse_statement::specs::StatementReading::inside_of), using(pli_base::specs::laws::StatementLaws::unit_made))]
 fn external_at(
     alloc: Global,
@@ -57,7 +57,7 @@ fn external_at(
     let heading = heading_at(alloc, 3, texts)?;
     let context = Context {
         standing: StatementStanding::InBlock,
-        in_unit: false,
+        in_on_unit: false,
     };
     let label = Some(*name);
     let list = list_in(

@@ -10,12 +10,12 @@ use Rattle.pli_base.specs.declared.token.TokenText.TheVariants.{Word}
 use Rattle.pli_base.specs.Declarations as tree
 use Rattle.pli_base.specs.declared.declaration.WrittenBounds.{WrittenBounds}
 use Rattle.pli_parse_declaration.specs.DeclarationWords.{attribute_word, with_rest, attribute_first, if_first, with_attribute}
-use Rattle.pli_base.specs.Words.{behind}
+use Rattle.pli_base.specs.Words.{rest_after}
 use Rattle.pli_parse_declaration.specs.DeclarationReading.{listed_after, listed_at, list_at, bounds_at, dimensions_at, extent_at, length_at, scaled_at, precision_at, name_at, area_at, locator_at, values_at, simple_of, parameters_at, entry_from, entry_at, returned_at, attribute_from, attribute_at, attributes_from, attributes_at, level_at, names_at, item_at, items_at}
 use Rattle.pli_base.specs.Reading.{read_as, mapped, enclosed, if_open, or_none}
 use Rattle.pli_parse_declaration.specs.declared.list.Separator.{Separator}
 use Rattle.pli_parse_declaration.specs.declared.list.Separator.TheVariants.{Commas, Periods, Nothing}
-use Rattle.pli_parse_declaration.specs.Separators.{separated, behind_separator}
+use Rattle.pli_parse_declaration.specs.Separators.{separated, after_separator}
 use Rattle.pli_parse_declaration.specs.DeclarationGrammar.{SpellsList, SpellsOptional, SpellsBounds, SpellsItems, EndsItems}
 use Rattle.pli_parse_declaration.specs.ItemEnds.{OptionEnds, SimpleEnds, AttributeEnds, DimensionsEnd, LastEnds, AttributesEnd, ItemEnds, ItemsEnd}
 use Rattle.pli_parse_declaration.specs.declared.word.SimpleWord.{SimpleWord}
@@ -32,10 +32,10 @@ use Rattle.pli_parse_declaration.proofs.DeclarationItemsAgain.{items_before, ite
 abbrev EndsRead : {A : Type 0} → (one : ℕ → Tokens → Result (Front A) Fault) → (Ends : A → Tokens → Type 0) → Type 0
 EndsRead {A = A} one Ends = (p : ℕ) (ts : Tokens) (x : Front A) → one p ts ≡ Ok x → Ends x.value x.rest
 
-optional_ends : {A : Type 0} (one : ℕ → Tokens → Result (Front A) Fault) → EndsRead (λ p ts. if_open one p ts (behind is_open ts)) OptionEnds
-optional_ends {A = A} one p ts y h = by (behind is_open ts) refl h
+optional_ends : {A : Type 0} (one : ℕ → Tokens → Result (Front A) Fault) → EndsRead (λ p ts. if_open one p ts (rest_after is_open ts)) OptionEnds
+optional_ends {A = A} one p ts y h = by (rest_after is_open ts) refl h
   where
-    by : (o : Option Tokens) → behind is_open ts ≡ o → if_open one p ts o ≡ Ok y → OptionEnds y.value y.rest
+    by : (o : Option Tokens) → rest_after is_open ts ≡ o → if_open one p ts o ≡ Ok y → OptionEnds y.value y.rest
     by None e g = subst (λ (z : Front (Option A)). OptionEnds z.value z.rest) (same_ok g) e
     by (Some us) e g =
         let m = mapped_ok Some (enclosed (one (p + 1) us)) y g in
@@ -57,8 +57,8 @@ module _ {A : Type 0} (s : Separator) (one : ℕ → Tokens → Result (Front A)
       → (o : Option Tokens) → separated s x.rest ≡ o → (y : Front (List A)) → listed_after s more x o ≡ Ok y → ListEnded s Ends y
   after_ends more more_ends x end None e y h = subst (ListEnded s Ends) (same_ok h) (x.value, [], refl, e, end)
   after_ends more more_ends x end (Some us) e y h =
-      let g = bind_ok (more (behind_separator s x.next) us) _ y h in
-      let r = more_ends (behind_separator s x.next) us g.0 g.1 in
+      let g = bind_ok (more (after_separator s x.next) us) _ y h in
+      let r = more_ends (after_separator s x.next) us g.0 g.1 in
       let last : LastEnds Ends (x.value ∷ r.0 ∷ r.1) g.0.rest = subst (λ zs. LastEnds Ends zs g.0.rest) r.2 r.4 in
       subst (ListEnded s Ends) (same_ok g.2) (x.value, g.0.value, refl, r.3, subst (λ zs. LastEnds Ends (x.value ∷ zs) g.0.rest) (sym r.2) last)
 
@@ -72,7 +72,7 @@ module _ {A : Type 0} (s : Separator) (one : ℕ → Tokens → Result (Front A)
 dimensions_end : EndsRead dimensions_at DimensionsEnd
 unfolding dimensions_at
 dimensions_end p ts y h =
-    let m = mapped_ok or_none (if_open (list_at Commas bounds_at) p ts (behind is_open ts)) y h in
+    let m = mapped_ok or_none (if_open (list_at Commas bounds_at) p ts (rest_after is_open ts)) y h in
     let f = optional_reads (list_at Commas bounds_at) (SpellsList Commas SpellsBounds) (list_reads Commas bounds_at SpellsBounds bounds_reads) p ts m.0 m.1 in
     subst (λ (z : Front (List WrittenBounds)). DimensionsEnd z.value z.rest) m.2 (by m.0.rest m.0.value f.0 f.3 (optional_ends (list_at Commas bounds_at) p ts m.0 m.1))
   where
@@ -121,9 +121,9 @@ simple_ends words.Builtin = bare_ends tree.Builtin (λ ts. tt)
 
 entry_ends : EndsRead entry_at OptionEnds
 unfolding entry_at
-entry_ends p ts y h = by (behind is_open ts) refl h
+entry_ends p ts y h = by (rest_after is_open ts) refl h
   where
-    by : (o : Option Tokens) → behind is_open ts ≡ o → entry_from p ts o ≡ Ok y → OptionEnds y.value y.rest
+    by : (o : Option Tokens) → rest_after is_open ts ≡ o → entry_from p ts o ≡ Ok y → OptionEnds y.value y.rest
     by None e g = subst (λ (z : Front (Option (List tree.ParameterDescription))). OptionEnds z.value z.rest) (same_ok g) e
     by (Some us) e g =
         let m = mapped_ok Some (parameters_at (p + 1) us) y g in
@@ -139,7 +139,7 @@ attribute_ends p ts y h = by (attribute_first ts) h
     by (Some (attribute.Entry, us)) g = made_ends tree.Entry entry_at OptionEnds AttributeEnds entry_ends (λ x vs e. e) (p + 1) us y g
     by (Some (attribute.Returns, us)) g = made_ends tree.Returns returned_at (λ x vs. Unit {0}) AttributeEnds (λ q vs x e. tt) (λ x vs e. tt) (p + 1) us y g
 
--- attributes behind dimensions
+-- attributes after dimensions
 attributes_end : (dims : List WrittenBounds) (p : ℕ) (ts : Tokens) (y : Front (List tree.Attribute)) → DimensionsEnd dims ts → attributes_at p ts ≡ Ok y → (with_attribute y.rest ≡ None) × AttributesEnd dims y.value y.rest
 unfolding attributes_at
 attributes_end dims p ts y before h = by (with_attribute ts) refl h
@@ -165,8 +165,8 @@ pub items_end : (p : ℕ) (ts : Tokens) (x : Front (List tree.Item)) → items_a
 items_end p ts x h = let r = listed_ends Commas item_at ItemEnds item_ends (length ts + 1) p ts x h in (r.3, r.4)
 
 -- the first token alone decides
-first_decides : (fits : TokenText → Bool) (us more : Tokens) → behind fits (us ++ more) ≡ None → behind fits us ≡ None
-unfolding behind
+first_decides : (fits : TokenText → Bool) (us more : Tokens) → rest_after fits (us ++ more) ≡ None → rest_after fits us ≡ None
+unfolding rest_after
 first_decides fits [] more h = refl
 first_decides fits (t ∷ us) more h = by (fits t) h
   where
@@ -221,7 +221,7 @@ items_front items us more h =
     (first_decides is_comma us more h.0, last_front ItemEnds items us more (λ i g. (no_keyword us more g.0, attributes_front i.dimensions i.attributes us more g.1)) h.1)
 
 ends_alone : EndsItems []
-unfolding behind attribute_first
+unfolding rest_after attribute_first
 ends_alone = (refl, refl, refl)
 
 pub items_longest : (p : ℕ) (ts : Tokens) (x : Front (List tree.Item)) → items_at p ts ≡ Ok x

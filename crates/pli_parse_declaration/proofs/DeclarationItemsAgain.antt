@@ -1,7 +1,7 @@
 -- What is spelled so is read: attributes, descriptions and items.
 use Rattle.std.proofs.Common.{⊎_elim, ◌⊎◌, inl, inr, ◌≡◌, ◌+◌, ◌<◌, ℕ, true, cond, List, [], ◌∷◌, ◌++◌, Option, Some, None, Result, Ok, length, codes, refl, ap, ◌∙◌, sym, subst, arith, append_assoc, length-append}
 use Rattle.pli_base.specs.Name.{Name}
-use Rattle.pli_base.specs.Words.{Tokens, is_open, is_close, is_semicolon, behind, SpellsIdentifier}
+use Rattle.pli_base.specs.Words.{Tokens, is_open, is_close, is_semicolon, rest_after, SpellsIdentifier}
 use Rattle.pli_base.specs.Results.{◌>>=◌}
 use Rattle.pli_base.specs.Reading.{Front, read_as, mapped, expected, taken, enclosed}
 use Rattle.pli_base.specs.declared.code.Code.TheVariants.{ParenthesisExpected, SemicolonExpected}
@@ -17,7 +17,7 @@ use Rattle.pli_parse_declaration.specs.declared.word.AttributeWord.{AttributeWor
 use Rattle.pli_parse_declaration.specs.declared.word.AttributeWord.TheVariants as attribute
 use Rattle.pli_parse_declaration.specs.ItemEnds.{OptionEnds, AttributeEnds, DimensionsEnd, LastEnds, AttributesEnd, ItemEnds, ItemsEnd}
 use Rattle.pli_parse_fault.proofs.StepLemmas.{same_ok}
-use Rattle.pli_parse_declaration.proofs.DeclarationReadAgain.{ReadAgain, ReadBefore, any_option, any_simple, any_dimensions, any_last, listed_before, dimensions_before, simple_before, Anyhow, NoOpen, ListEnds, no_open_close, no_open_comma, no_open_word, placed, open_taken, open_behind, enclosed_again, listed_again, list_again, comma_goes, commas_close, identifier_again, dimensions_again, simple_again, word_again}
+use Rattle.pli_parse_declaration.proofs.DeclarationReadAgain.{ReadAgain, ReadBefore, any_option, any_simple, any_dimensions, any_last, listed_before, dimensions_before, simple_before, Anyhow, NoOpen, ListEnds, no_open_close, no_open_comma, no_open_word, placed, open_taken, open_after, enclosed_again, listed_again, list_again, comma_goes, commas_close, identifier_again, dimensions_again, simple_again, word_again}
 use Rattle.pli_parse_declaration.proofs.DeclarationRead.{any_place}
 use Rattle.pli_parse_declaration.proofs.DeclarationNestsAgain.{entry_word, returns_word, FirstWord, FirstOfDescription, dimensions_describe, first_no_open, nest_again}
 use Rattle.pli_parse_declaration.specs.declared.list.Separator.TheVariants.{Commas, Nothing}
@@ -65,7 +65,7 @@ list_first Spells first ts (x ∷ y ∷ more) (front, rest, shape, spelled, late
     let f = first front x spelled in
     (f.0, f.1 ++ rest, f.2, shape ∙ ap (λ us. us ++ rest) f.3, f.4)
 
--- what begins with its keyword, where what stands behind that is read
+-- what begins with its keyword, where what stands after that is read
 keyword_again : {A B : Type 0} (from : ℕ → Tokens → Option (AttributeWord × Tokens) → Result (Front B) Fault) (make : A → B)
     (one : ℕ → Tokens → Result (Front A) Fault) (a : A) (k : Name) (w : AttributeWord) (p : ℕ) (ts us more : Tokens)
     → ts ≡ Word k ∷ us → attribute_word k ≡ Some w
@@ -116,13 +116,13 @@ parameter_first ts d (front, rest, shape, dims, attributes) =
 parameters_first : (ts : Tokens) (d : tree.ParameterDescription) (ds : List tree.ParameterDescription) → SpellsList Commas SpellsParameter ts (d ∷ ds) → FirstOfDescription ts
 parameters_first ts d [] spelled zs = parameter_first ts d spelled zs
 parameters_first ts d (e ∷ ds) (front, rest, shape, spelled, later) zs =
-    subst (λ us. (behind is_close us ≡ None) × (begins_description us ≡ true)) (sym (ap (λ us. us ++ zs) shape ∙ append_assoc front (between Commas ++ rest) zs)) (parameter_first front d spelled ((between Commas ++ rest) ++ zs))
+    subst (λ us. (rest_after is_close us ≡ None) × (begins_description us ≡ true)) (sym (ap (λ us. us ++ zs) shape ∙ append_assoc front (between Commas ++ rest) zs)) (parameter_first front d spelled ((between Commas ++ rest) ++ zs))
 
 no_parameters : (p : ℕ) (more : Tokens) → parameters_at p (Sign CloseParenthesis ∷ more) ≡ read_as [] (p + 1) more
-unfolding parameters_at behind
+unfolding parameters_at rest_after
 no_parameters p more = refl
 
-some_parameters : (p : ℕ) (us : Tokens) → behind is_close us ≡ None → begins_description us ≡ true → parameters_at p us ≡ enclosed (list_at Commas parameter_at p us)
+some_parameters : (p : ℕ) (us : Tokens) → rest_after is_close us ≡ None → begins_description us ≡ true → parameters_at p us ≡ enclosed (list_at Commas parameter_at p us)
 unfolding parameters_at
 some_parameters p us none some =
     ap (parameters_from p us) none ∙ ap (λ b. cond b (enclosed (list_at Commas parameter_at p us)) (expected ParenthesisExpected p us)) some
@@ -136,7 +136,7 @@ parameters_again p inner more [] e =
 parameters_again p inner more (d ∷ ds) spelled =
     let e : (inner ++ Sign CloseParenthesis ∷ []) ++ more ≡ inner ++ Sign CloseParenthesis ∷ more = append_assoc inner (Sign CloseParenthesis ∷ []) more in
     let first = parameters_first inner d ds spelled (Sign CloseParenthesis ∷ more) in
-    some_parameters (p + 1) ((inner ++ Sign CloseParenthesis ∷ []) ++ more) (ap (behind is_close) e ∙ first.0) (ap begins_description e ∙ first.1)
+    some_parameters (p + 1) ((inner ++ Sign CloseParenthesis ∷ []) ++ more) (ap (rest_after is_close) e ∙ first.0) (ap begins_description e ∙ first.1)
     ∙ enclosed_again (list_at Commas parameter_at) (Anywhere (SpellsList Commas SpellsParameter)) (ListEnds Commas (ListEnds Nothing NoOpen))
     (list_again Commas parameter_at SpellsParameter (ListEnds Nothing NoOpen) parameter_again (λ q us zs x s. (comma_goes (us ++ zs), (no_attribute_comma (us ++ zs), no_open_comma (us ++ zs)))) parameter_some)
     (λ zs. (commas_close zs, (no_attribute_close zs, no_open_close zs))) p inner more (d ∷ ds) spelled
@@ -147,7 +147,7 @@ entry_again p ts more None e stops =
     ap (λ us. entry_at p (us ++ more)) e ∙ ap (entry_from p more) stops ∙ placed None p (p + length ts) more (omega (arith, ap length e))
 entry_again p ts more (Some ds) (inner, shape, spelled) stops =
     ap (λ us. entry_at p (us ++ more)) shape
-    ∙ ap (entry_from p ((Sign OpenParenthesis ∷ inner ++ Sign CloseParenthesis ∷ []) ++ more)) (open_behind ((inner ++ Sign CloseParenthesis ∷ []) ++ more))
+    ∙ ap (entry_from p ((Sign OpenParenthesis ∷ inner ++ Sign CloseParenthesis ∷ []) ++ more)) (open_after ((inner ++ Sign CloseParenthesis ∷ []) ++ more))
     ∙ ap (mapped Some) (parameters_again p inner more ds spelled)
     ∙ placed (Some ds) (p + length (Sign OpenParenthesis ∷ inner ++ Sign CloseParenthesis ∷ [])) (p + length ts) more (ap (λ (us : Tokens). p + length us) (sym shape))
 
@@ -191,7 +191,7 @@ attributes_before p ts more (a ∷ rest) spelled stops =
     (λ q us zs x s. let g = word_goes us zs (attribute_begins us x s) in (g.0, λ y. any_attribute y (us ++ zs) g.1)) (λ q us x s. first_some us (attribute_begins us x s)) (a ∷ rest) (length (ts ++ more) + 1) p ts more
     (any_place Nothing SpellsAttribute (a ∷ rest) 0 p ts spelled) stops (omega arith)
 
--- attributes open no parenthesis; without them what stands behind the item decides
+-- attributes open no parenthesis; without them what stands after the item decides
 attributes_end : (dims : _) (ts more : Tokens) (attributes : List tree.Attribute) → SpellsAttributes ts attributes → AttributesEnd dims attributes more → DimensionsEnd dims (ts ++ more)
 attributes_end dims ts more [] e stops = subst (λ us. DimensionsEnd dims (us ++ more)) (sym e) stops
 attributes_end dims ts more (a ∷ rest) spelled stops = any_dimensions dims (ts ++ more) (first_no_open ts more (list_first SpellsAttribute attribute_begins ts (a ∷ rest) spelled))
@@ -226,11 +226,11 @@ names_again : ReadAgain names_at SpellsNames Anyhow
 unfolding names_at
 names_again p ts more names spelled stops =
     ⊎_elim
-    (λ s. ap (names_from p (ts ++ more)) (ap (λ us. behind is_open (us ++ more)) s.2.0 ∙ no_open_word s.0.name more)
+    (λ s. ap (names_from p (ts ++ more)) (ap (λ us. rest_after is_open (us ++ more)) s.2.0 ∙ no_open_word s.0.name more)
     ∙ ap (mapped (λ x. x ∷ [])) (identifier_again p ts more s.0 s.2 tt)
     ∙ ap (λ (xs : List Identifier). read_as xs (p + length ts) more) (sym s.1))
     (λ s. ap (λ us. names_at p (us ++ more)) s.1
-    ∙ ap (names_from p ((Sign OpenParenthesis ∷ s.0 ++ Sign CloseParenthesis ∷ []) ++ more)) (open_behind ((s.0 ++ Sign CloseParenthesis ∷ []) ++ more))
+    ∙ ap (names_from p ((Sign OpenParenthesis ∷ s.0 ++ Sign CloseParenthesis ∷ []) ++ more)) (open_after ((s.0 ++ Sign CloseParenthesis ∷ []) ++ more))
     ∙ enclosed_again (list_at Commas identifier_at) (SpellsListed Commas SpellsIdentifier) (ListEnds Commas Anyhow)
     (λ q us zs xs t ends. listed_again Commas identifier_at SpellsIdentifier Anyhow identifier_again (λ r vs ws x u. (comma_goes (vs ++ ws), tt)) (λ r vs x u. omega (arith, ap length u.0)) xs (length (us ++ zs) + 1) q us zs t ends (omega arith))
     (λ zs. (commas_close zs, tt)) p s.0 more names s.2
@@ -276,11 +276,11 @@ pub items_again : ReadAgain items_at SpellsItems EndsItems
 items_again p ts more items spelled stops = items_before p ts more items spelled (stops.0, any_last ItemEnds items more (λ i. any_item i more stops.1 stops.2))
 
 semicolon_ends : (zs : Tokens) → EndsItems (Sign Semicolon ∷ zs)
-unfolding behind attribute_first
+unfolding rest_after attribute_first
 semicolon_ends zs = (refl, refl, refl)
 
 pub semicolon_taken : (p : ℕ) (zs : Tokens) → taken is_semicolon SemicolonExpected p (Sign Semicolon ∷ zs) ≡ Ok zs
-unfolding taken behind
+unfolding taken rest_after
 semicolon_taken p zs = refl
 
 pub declaration_again : ReadAgain declaration_at SpellsDeclaration Anyhow

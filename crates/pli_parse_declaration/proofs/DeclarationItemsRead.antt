@@ -1,6 +1,6 @@
 -- What is read is spelled so: attributes, descriptions and items.
 use Rattle.std.proofs.Common.{◌≡◌, ◌+◌, ℕ, Bool, true, false, cond, List, [], ◌∷◌, ◌++◌, Option, Some, None, Result, Ok, length, codes, refl, ap, ◌∙◌, sym, subst, arith, inl, inr}
-use Rattle.pli_base.specs.Words.{Tokens, is_open, is_close, is_semicolon, behind, SpellsIdentifier}
+use Rattle.pli_base.specs.Words.{Tokens, is_open, is_close, is_semicolon, rest_after, SpellsIdentifier}
 use Rattle.pli_base.specs.Reading.{Front, mapped, expected, taken, enclosed}
 use Rattle.pli_base.specs.declared.code.Code.TheVariants.{ParenthesisExpected, SemicolonExpected}
 use Rattle.pli_base.specs.declared.token.Fault.{Fault}
@@ -105,7 +105,7 @@ parameter_reads p ts y h =
 -- in the parentheses of an ENTRY, up to the `)`
 parameters_spelled : (p : ℕ) (ts us : Tokens) → ts ≡ Sign OpenParenthesis ∷ us → (y : Front (List tree.ParameterDescription)) → parameters_at (p + 1) us ≡ Ok y → SpellsFront (Anywhere (SpellsEnclosed SpellsParameters)) p ts y
 unfolding parameters_at
-parameters_spelled p ts us e y h = by (behind is_close us) refl h
+parameters_spelled p ts us e y h = by (rest_after is_close us) refl h
   where
     listed : (xs : List tree.ParameterDescription) (vs : Tokens) → SpellsList Commas SpellsParameter vs xs → SpellsParameters vs xs
     listed [] vs s = absurd s
@@ -117,7 +117,7 @@ parameters_spelled p ts us e y h = by (behind is_close us) refl h
         (f.0, f.1, f.2, (f.3.0, f.3.1, listed y.value f.3.0 f.3.2))
     some false g = cc
 
-    by : (o : Option Tokens) → behind is_close us ≡ o → parameters_from (p + 1) us o ≡ Ok y → SpellsFront (Anywhere (SpellsEnclosed SpellsParameters)) p ts y
+    by : (o : Option Tokens) → rest_after is_close us ≡ o → parameters_from (p + 1) us o ≡ Ok y → SpellsFront (Anywhere (SpellsEnclosed SpellsParameters)) p ts y
     by (Some vs) f g =
         let place : p + 1 + 1 ≡ p + 2 = omega arith in
         subst (SpellsFront (Anywhere (SpellsEnclosed SpellsParameters)) p ts) (same_ok g) (Sign OpenParenthesis ∷ Sign CloseParenthesis ∷ [], e ∙ ap (λ ws. Sign OpenParenthesis ∷ ws) (close_first us vs f), place, ([], refl, refl))
@@ -125,9 +125,9 @@ parameters_spelled p ts us e y h = by (behind is_close us) refl h
 
 entry_reads : Reads entry_at (Anywhere (SpellsOptional SpellsParameters))
 unfolding entry_at
-entry_reads p ts y h = by (behind is_open ts) refl h
+entry_reads p ts y h = by (rest_after is_open ts) refl h
   where
-    by : (o : Option Tokens) → behind is_open ts ≡ o → entry_from p ts o ≡ Ok y → SpellsFront (Anywhere (SpellsOptional SpellsParameters)) p ts y
+    by : (o : Option Tokens) → rest_after is_open ts ≡ o → entry_from p ts o ≡ Ok y → SpellsFront (Anywhere (SpellsOptional SpellsParameters)) p ts y
     by None e g = subst (SpellsFront (Anywhere (SpellsOptional SpellsParameters)) p ts) (same_ok g) ([], refl, omega arith, refl)
     by (Some us) e g =
         let m = mapped_ok Some (parameters_at (p + 1) us) y g in
@@ -141,7 +141,7 @@ returned_reads p ts y h =
     let f = enclosed_spelled (list_at Nothing described_at) (Anywhere (SpellsList Nothing SpellsDescribed)) described_list p ts g.0 (open_first ts g.0 (taken_ok is_open ParenthesisExpected p ts g.0 g.1)) y g.2 in
     (f.0, f.1, f.2, f.3)
 
--- an attribute behind its word
+-- an attribute after its word
 worded_read : {A : Type 0} (make : A → tree.Attribute) (one : ℕ → Tokens → Result (Front A) Fault) (Spells : Tokens → A → Type 0)
     → Reads one (Anywhere Spells) → (k : List ℕ)
     → ((vs : Tokens) (x : A) → Spells vs x → SpellsAttribute (Word k ∷ vs) (make x))
@@ -192,9 +192,9 @@ level_spelled p (t ∷ ts) = ([], refl, omega arith, refl)
 
 names_reads : Reads names_at SpellsNames
 unfolding names_at
-names_reads p ts y h = by (behind is_open ts) refl h
+names_reads p ts y h = by (rest_after is_open ts) refl h
   where
-    by : (o : Option Tokens) → behind is_open ts ≡ o → names_from p ts o ≡ Ok y → SpellsFront SpellsNames p ts y
+    by : (o : Option Tokens) → rest_after is_open ts ≡ o → names_from p ts o ≡ Ok y → SpellsFront SpellsNames p ts y
     by None e g =
         let m = mapped_ok (λ x. x ∷ []) (identifier_at p ts) y g in
         let f = identifier_reads p ts m.0 m.1 in

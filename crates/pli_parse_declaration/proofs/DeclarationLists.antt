@@ -8,7 +8,7 @@ use Rattle.pli_base.specs.declared.failure.Failure.TheVariants as errors
 use Rattle.pli_parse_declaration.specs.DeclarationReading.{listed_after, listed_at}
 use Rattle.pli_base.specs.declared.failure.Failure.{Failure}
 use Rattle.pli_base.specs.answers.FailureAnswers.{Fails}
-use Rattle.pli_parse_declaration.specs.Separators.{separated, behind_separator}
+use Rattle.pli_parse_declaration.specs.Separators.{separated, after_separator}
 use Rattle.pli_parse_declaration.specs.declared.list.Separator.{Separator}
 
 -- what was read before, and what is still read
@@ -30,12 +30,12 @@ module _ {A : Type 0} (separator : Separator) (one : ℕ → Tokens → Result (
   turned bound x read so_far = sym (ap (λ r. with_done done (r >>= λ y. listed_after separator (listed_at separator one bound) y (separated separator y.rest))) read) ∙ so_far
 
   pub goes_on : (x : Front A) (us : Tokens) → one p ts ≡ Ok x → length us < length ts → separated separator x.rest ≡ Some us → Left separator one done p ts total
-      → Left separator one (done ++ x.value ∷ []) (behind_separator separator x.next) us total
+      → Left separator one (done ++ x.value ∷ []) (after_separator separator x.next) us total
   goes_on x us read less found (zero, small, so_far) = absurd (omega arith)
   goes_on x us read less found (suc bound, small, so_far) = (
     bound,
     omega arith,
-    sym (regroup done x.value (listed_at separator one bound (behind_separator separator x.next) us))
+    sym (regroup done x.value (listed_at separator one bound (after_separator separator x.next) us))
         ∙ sym (ap (λ o. with_done done (listed_after separator (listed_at separator one bound) x o)) found)
         ∙ turned bound x read so_far,
   )

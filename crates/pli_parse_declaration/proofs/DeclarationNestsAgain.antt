@@ -2,7 +2,7 @@
 use Rattle.std.proofs.Common.{◌≡◌, ◌+◌, ◌<◌, ℕ, suc, zero, true, cond, List, [], ◌∷◌, ◌++◌, Some, None, Result, Ok, length, codes, refl, ap, ◌∙◌, sym, subst, arith, append_assoc, length-append}
 use Rattle.std.specs.Prelude.{is_some}
 use Rattle.pli_base.specs.Name.{Name}
-use Rattle.pli_base.specs.Words.{Tokens, is_close, behind}
+use Rattle.pli_base.specs.Words.{Tokens, is_close, rest_after}
 use Rattle.pli_base.specs.Results.{◌>>=◌}
 use Rattle.pli_base.specs.Reading.{Front, read_as, expected}
 use Rattle.pli_base.specs.declared.code.Code.TheVariants.{ParenthesisExpected}
@@ -11,7 +11,7 @@ use Rattle.pli_base.specs.declared.token.Sign.TheVariants.{Comma, OpenParenthesi
 use Rattle.pli_base.specs.declared.token.TokenText.TheVariants.{Word, Sign}
 use Rattle.pli_parse_declaration.specs.DeclarationWords.{data_word, storage_word, nesting_word, attribute_word, attribute_first, begins_description}
 use Rattle.pli_base.specs.Declarations.{SimpleAttribute}
-use Rattle.pli_parse_declaration.specs.DeclarationReading.{simple_of, Walk, description_walk, parameters_walk, entry_walk, word_walk, behind_walk, walk_by, step_at, walked_after, walked, nest_at}
+use Rattle.pli_parse_declaration.specs.DeclarationReading.{simple_of, Walk, description_walk, parameters_walk, entry_walk, word_walk, after_attributes_walk, walk_by, step_at, walked_after, walked, nest_at}
 use Rattle.pli_parse_declaration.specs.DeclarationGrammar.{SpellsDimensions, SpellsSimple, word_of, Part, OneAttribute, Attributes, OneDescription, Descriptions, IsWellFormed, simple, entry, entry_of_none, entry_of, returns_of, last_attribute, more_attributes, description, last_description, more_descriptions}
 use Rattle.pli_base.specs.declared.declaration.WrittenBounds.{WrittenBounds}
 use Rattle.pli_parse_declaration.specs.declared.nest.Open.{Open}
@@ -20,7 +20,7 @@ use Rattle.pli_parse_declaration.specs.declared.nest.Expects.{Expects}
 use Rattle.pli_parse_declaration.specs.declared.nest.Expects.TheVariants as expects
 use Rattle.pli_parse_declaration.specs.declared.word.AttributeWord.{AttributeWord}
 use Rattle.pli_parse_declaration.specs.declared.word.AttributeWord.TheVariants as attribute
-use Rattle.pli_parse_declaration.proofs.DeclarationReadAgain.{NoOpen, no_open_close, no_open_comma, no_open_word, open_taken, open_behind, dimensions_again, simple_again, word_again}
+use Rattle.pli_parse_declaration.proofs.DeclarationReadAgain.{NoOpen, no_open_close, no_open_comma, no_open_word, open_taken, open_after, dimensions_again, simple_again, word_again}
 
 pub entry_word : attribute_word (codes "ENTRY") ≡ Some attribute.Entry
 unfolding attribute_word data_word storage_word nesting_word
@@ -36,7 +36,7 @@ FirstWord ts = (k : Name) × (us : Tokens) × (w : AttributeWord) × (ts ≡ Wor
 
 -- the first token begins a description, and is no `)`
 abbrev pub FirstOfDescription : Tokens → Type 0
-FirstOfDescription ts = (zs : Tokens) → (behind is_close (ts ++ zs) ≡ None) × (begins_description (ts ++ zs) ≡ true)
+FirstOfDescription ts = (zs : Tokens) → (rest_after is_close (ts ++ zs) ≡ None) × (begins_description (ts ++ zs) ≡ true)
 
 abbrev BeginsPart : Part → Tokens → Type 0
 BeginsPart OneAttribute ts = FirstWord ts
@@ -45,11 +45,11 @@ BeginsPart OneDescription ts = FirstOfDescription ts
 BeginsPart Descriptions ts = FirstOfDescription ts
 
 word_describes : (k : Name) (us : Tokens) (w : AttributeWord) → attribute_word k ≡ Some w → FirstOfDescription (Word k ∷ us)
-unfolding behind begins_description
+unfolding rest_after begins_description
 word_describes k us w h zs = (refl, ap is_some (word_again k (us ++ zs) w h))
 
 open_describes : (us : Tokens) → FirstOfDescription (Sign OpenParenthesis ∷ us)
-unfolding behind begins_description
+unfolding rest_after begins_description
 open_describes us zs = (refl, refl)
 
 -- a description begins with its dimensions or its first attribute
@@ -61,7 +61,7 @@ dimensions_describe front rest (b ∷ bs) (inner, e, spelled) first =
 
 front_describes : (ts front rest : Tokens) → ts ≡ front ++ rest → FirstOfDescription front → FirstOfDescription ts
 front_describes ts front rest e first zs =
-    subst (λ us. (behind is_close us ≡ None) × (begins_description us ≡ true)) (sym (ap (λ us. us ++ zs) e ∙ append_assoc front rest zs)) (first (rest ++ zs))
+    subst (λ us. (rest_after is_close us ≡ None) × (begins_description us ≡ true)) (sym (ap (λ us. us ++ zs) e ∙ append_assoc front rest zs)) (first (rest ++ zs))
 
 pub begins : (part : Part) (ts : Tokens) → IsWellFormed part ts → BeginsPart part ts
 begins part ts (simple us a (k, vs, e, word, spelled)) = (k, vs, attribute.Simple (word_of a), e, word)
@@ -102,7 +102,7 @@ word_step bound opens what p k us w h = ap (λ o. run bound (walk_by opens what 
 
 -- a step at `)`
 close_step : (bound : ℕ) (o : Open) (opens : List Open) (p : ℕ) (more : Tokens) → walked (suc bound) (o ∷ opens) expects.More p (Sign CloseParenthesis ∷ more) ≡ walked_after (walked bound) opens expects.More (p + 1) more
-unfolding walked step_at attribute_first behind_walk behind
+unfolding walked step_at attribute_first after_attributes_walk rest_after
 close_step bound opened.Entry opens p more = refl
 close_step bound opened.Returns opens p more = refl
 
@@ -112,7 +112,7 @@ closes r o opens p more (suc bound, small, e) = (bound, omega arith, e ∙ close
 
 -- a step at a comma between descriptions
 comma_step : (bound : ℕ) (opens : List Open) (p : ℕ) (us : Tokens) → walked (suc bound) (opened.Entry ∷ opens) expects.More p (Sign Comma ∷ us) ≡ run bound (description_walk opens (p + 1) us)
-unfolding walked step_at attribute_first behind_walk behind
+unfolding walked step_at attribute_first after_attributes_walk rest_after
 comma_step bound opens p us = refl
 
 entry_alone : (opens : List Open) (p : ℕ) (more : Tokens) → NoOpen more → word_walk opens attribute.Entry p more ≡ Ok (record { opens = opens; expects = expects.More; next = p; rest = more })
@@ -120,13 +120,13 @@ unfolding word_walk
 entry_alone opens p more stops = ap (entry_walk opens p more) stops
 
 entry_without : (opens : List Open) (p : ℕ) (more : Tokens) → word_walk opens attribute.Entry p (Sign OpenParenthesis ∷ Sign CloseParenthesis ∷ more) ≡ Ok (record { opens = opens; expects = expects.More; next = p + 1 + 1; rest = more })
-unfolding word_walk behind
+unfolding word_walk rest_after
 entry_without opens p more = refl
 
-entry_with : (opens : List Open) (p : ℕ) (us : Tokens) → behind is_close us ≡ None → begins_description us ≡ true → word_walk opens attribute.Entry p (Sign OpenParenthesis ∷ us) ≡ description_walk opens (p + 1) us
+entry_with : (opens : List Open) (p : ℕ) (us : Tokens) → rest_after is_close us ≡ None → begins_description us ≡ true → word_walk opens attribute.Entry p (Sign OpenParenthesis ∷ us) ≡ description_walk opens (p + 1) us
 unfolding word_walk
 entry_with opens p us none some =
-    ap (entry_walk opens p (Sign OpenParenthesis ∷ us)) (open_behind us)
+    ap (entry_walk opens p (Sign OpenParenthesis ∷ us)) (open_after us)
     ∙ ap (parameters_walk opens (p + 1) us) none
     ∙ ap (λ b. cond b (description_walk opens (p + 1) us) (expected ParenthesisExpected (p + 1) us)) some
 
@@ -235,7 +235,7 @@ description_again ts front rest bounds e spelled first many opens p bound more s
     (ap (λ us. run bound (description_walk opens p us)) shape ∙ ap (run bound) (dimensions_walked opens p front (rest ++ more) bounds spelled (first_no_open rest more first)))
     (many opened.Entry opens expects.Attribute (p + length front) bound more stops less))
 
--- behind a description and a comma
+-- after a description and a comma
 next_description : (r : Result (Front (Unit {0})) Fault) (opens : List Open) (p : ℕ) (rest more : Tokens) → Again Descriptions rest → NoOpen more → ComesTo r (opened.Entry ∷ opens) p (Sign Comma ∷ rest ++ more)
     → ComesTo r (opened.Entry ∷ opens) (p + 1 + length rest) more
 next_description r opens p rest more many stops (zero, small, e) = absurd (omega arith)

@@ -1,14 +1,14 @@
 -- What is walked through is well formed.
 use Rattle.std.proofs.Common.{◌≡◌, ◌+◌, ℕ, suc, zero, Bool, true, false, cond, List, [], ◌∷◌, ◌++◌, Option, Some, None, Result, Ok, length, codes, refl, ap, ◌∙◌, sym, subst, arith, ◌⊎◌, inl, inr, ⊎_elim, append_assoc, length-append}
 use Rattle.std.proofs.lemmas.List.{append-nil}
-use Rattle.pli_base.specs.Words.{Tokens, is_open, is_close, is_comma, behind}
+use Rattle.pli_base.specs.Words.{Tokens, is_open, is_close, is_comma, rest_after}
 use Rattle.pli_base.specs.Reading.{Front, expected, taken}
 use Rattle.pli_base.specs.declared.code.Code.TheVariants.{ParenthesisExpected}
 use Rattle.pli_base.specs.declared.token.Fault.{Fault}
 use Rattle.pli_base.specs.declared.token.Sign.TheVariants.{Comma, OpenParenthesis, CloseParenthesis}
 use Rattle.pli_base.specs.declared.token.TokenText.TheVariants.{Word, Sign}
 use Rattle.pli_parse_declaration.specs.DeclarationWords.{attribute_first, begins_description}
-use Rattle.pli_parse_declaration.specs.DeclarationReading.{dimensions_at, simple_of, Walk, description_walk, parameters_walk, entry_walk, word_walk, closed_walk, comma_walk, behind_walk, no_word_walk, walk_by, step_at, walked_after, walked, nest_at}
+use Rattle.pli_parse_declaration.specs.DeclarationReading.{dimensions_at, simple_of, Walk, description_walk, parameters_walk, entry_walk, word_walk, closed_walk, comma_walk, after_attributes_walk, no_word_walk, walk_by, step_at, walked_after, walked, nest_at}
 use Rattle.pli_parse_declaration.specs.DeclarationGrammar.{SpellsFront, SpellsDimensions, OneAttribute, Attributes, OneDescription, Descriptions, IsWellFormed, simple, entry, entry_of_none, entry_of, returns_of, last_attribute, more_attributes, description, last_description, more_descriptions}
 use Rattle.pli_base.specs.declared.declaration.WrittenBounds.{WrittenBounds}
 use Rattle.pli_parse_declaration.specs.declared.nest.Open.{Open}
@@ -35,7 +35,7 @@ abbrev pub Starts : Open → Tokens → Type 0
 Starts opened.Returns ts = IsWellFormed Attributes ts
 Starts opened.Entry ts = (front : Tokens) × (rest : Tokens) × (ts ≡ front ++ rest) × IsWellFormed Attributes front × MaybeDescriptions rest
 
--- what stands in a parenthesis behind an attribute
+-- what stands in a parenthesis after an attribute
 abbrev pub Remains : Open → Tokens → Type 0
 Remains opened.Returns ts = MaybeAttributes ts
 Remains opened.Entry ts = (front : Tokens) × (rest : Tokens) × (ts ≡ front ++ rest) × MaybeAttributes front × MaybeDescriptions rest
@@ -120,7 +120,7 @@ module _ (opens : List Open) (p : ℕ) (us : Tokens) (w : Walk) (h : description
       let shape : d.0 ++ c.0 ≡ (d.0 ++ f.0) ++ Sign CloseParenthesis ∷ f.1 = ap (λ vs. d.0 ++ vs) f.2 ∙ sym (append_assoc d.0 f.0 (Sign CloseParenthesis ∷ f.1)) in
       (d.0 ++ f.0, f.1, t.0 ∙ ap (λ vs. vs ++ x.rest) shape, t.1 ∙ ap (λ (vs : Tokens). p + length vs) shape, descriptions_from d.0 f.0 g.0.value d.3 f.3, f.4)
 
--- behind the keyword of an attribute
+-- after the keyword of an attribute
 module _ (opens : List Open) (what : Expects) (live : IsLive opens what) (p : ℕ) (ts us : Tokens) (x : Front (Unit {0})) where
   simple_step : (s : SimpleWord) → attribute_first ts ≡ Some (attribute.Simple s, us) → (w : Walk) → word_walk opens (attribute.Simple s) (p + 1) us ≡ Ok w → Comes w x → Whole opens what p ts x
   unfolding word_walk
@@ -129,10 +129,10 @@ module _ (opens : List Open) (what : Expects) (live : IsLive opens what) (p : �
       let f = simple_spelled p ts us s first g.0 g.1 in
       passed opens what live p ts f.0 g.0.rest g.0.next f.1 f.2 (simple f.0 g.0.value f.3) x (subst (λ v. Comes v x) (sym (same_ok g.2)) comes)
 
-  entry_step : ts ≡ Word (codes "ENTRY") ∷ us → (w : Walk) → entry_walk opens (p + 1) us (behind is_open us) ≡ Ok w → Comes w x → Whole opens what p ts x
-  entry_step first w h comes = opens_or_not (behind is_open us) refl h
+  entry_step : ts ≡ Word (codes "ENTRY") ∷ us → (w : Walk) → entry_walk opens (p + 1) us (rest_after is_open us) ≡ Ok w → Comes w x → Whole opens what p ts x
+  entry_step first w h comes = opens_or_not (rest_after is_open us) refl h
     where
-      empty_or_not : (vs : Tokens) → us ≡ Sign OpenParenthesis ∷ vs → (o : Option Tokens) → behind is_close vs ≡ o → parameters_walk opens (p + 1 + 1) vs o ≡ Ok w → Whole opens what p ts x
+      empty_or_not : (vs : Tokens) → us ≡ Sign OpenParenthesis ∷ vs → (o : Option Tokens) → rest_after is_close vs ≡ o → parameters_walk opens (p + 1 + 1) vs o ≡ Ok w → Whole opens what p ts x
       empty_or_not vs e (Some zs) f g =
           let shape : ts ≡ Word (codes "ENTRY") ∷ Sign OpenParenthesis ∷ Sign CloseParenthesis ∷ zs = first ∙ ap (λ ws. Word (codes "ENTRY") ∷ ws) (e ∙ ap (λ ws. Sign OpenParenthesis ∷ ws) (close_first vs zs f)) in
           let place : p + 1 + 1 + 1 ≡ p + 3 = omega arith in
@@ -149,9 +149,9 @@ module _ (opens : List Open) (what : Expects) (live : IsLive opens what) (p : �
               passed opens what live p ts front (d.1 ++ x.rest) (p + length front) shape refl (entry_of front d.0 refl d.4) x (d.1, refl, place, d.5)
           descriptions_or_not false k = cc
 
-      opens_or_not : (o : Option Tokens) → behind is_open us ≡ o → entry_walk opens (p + 1) us o ≡ Ok w → Whole opens what p ts x
+      opens_or_not : (o : Option Tokens) → rest_after is_open us ≡ o → entry_walk opens (p + 1) us o ≡ Ok w → Whole opens what p ts x
       opens_or_not None e g = passed opens what live p ts (Word (codes "ENTRY") ∷ []) us (p + 1) first refl (entry _ refl) x (subst (λ v. Comes v x) (sym (same_ok g)) comes)
-      opens_or_not (Some vs) e g = empty_or_not vs (open_first us vs e) (behind is_close vs) refl g
+      opens_or_not (Some vs) e g = empty_or_not vs (open_first us vs e) (rest_after is_close vs) refl g
 
   returns_step : ts ≡ Word (codes "RETURNS") ∷ us → (w : Walk) → word_walk opens attribute.Returns (p + 1) us ≡ Ok w → Comes w x → Whole opens what p ts x
   unfolding word_walk
@@ -183,19 +183,19 @@ nothing_remains : (o : Open) → Remains o []
 nothing_remains opened.Returns = inl refl
 nothing_remains opened.Entry = ([], [], refl, inl refl, inl refl)
 
-closed_step : (o : Open) (opens : List Open) (p : ℕ) (ts : Tokens) (w : Walk) (x : Front (Unit {0})) → closed_walk opens p ts (behind is_close ts) ≡ Ok w → Comes w x → Whole (o ∷ opens) expects.More p ts x
-closed_step o opens p ts w x h comes = by (behind is_close ts) refl h
+closed_step : (o : Open) (opens : List Open) (p : ℕ) (ts : Tokens) (w : Walk) (x : Front (Unit {0})) → closed_walk opens p ts (rest_after is_close ts) ≡ Ok w → Comes w x → Whole (o ∷ opens) expects.More p ts x
+closed_step o opens p ts w x h comes = by (rest_after is_close ts) refl h
   where
-    by : (c : Option Tokens) → behind is_close ts ≡ c → closed_walk opens p ts c ≡ Ok w → Whole (o ∷ opens) expects.More p ts x
+    by : (c : Option Tokens) → rest_after is_close ts ≡ c → closed_walk opens p ts c ≡ Ok w → Whole (o ∷ opens) expects.More p ts x
     by (Some us) e g =
         let c = subst (λ v. Comes v x) (sym (same_ok g)) comes in
         (Sign CloseParenthesis ∷ c.0, close_first ts us e ∙ ap (λ vs. Sign CloseParenthesis ∷ vs) c.1, omega (arith, c.2), ([], c.0, refl, nothing_remains o, c.3))
     by None e g = cc
 
-comma_step : (opens : List Open) (p : ℕ) (ts : Tokens) (w : Walk) (x : Front (Unit {0})) → comma_walk opens p ts (behind is_comma ts) ≡ Ok w → Comes w x → Whole (opened.Entry ∷ opens) expects.More p ts x
-comma_step opens p ts w x h comes = by (behind is_comma ts) refl h
+comma_step : (opens : List Open) (p : ℕ) (ts : Tokens) (w : Walk) (x : Front (Unit {0})) → comma_walk opens p ts (rest_after is_comma ts) ≡ Ok w → Comes w x → Whole (opened.Entry ∷ opens) expects.More p ts x
+comma_step opens p ts w x h comes = by (rest_after is_comma ts) refl h
   where
-    by : (c : Option Tokens) → behind is_comma ts ≡ c → comma_walk opens p ts c ≡ Ok w → Whole (opened.Entry ∷ opens) expects.More p ts x
+    by : (c : Option Tokens) → rest_after is_comma ts ≡ c → comma_walk opens p ts c ≡ Ok w → Whole (opened.Entry ∷ opens) expects.More p ts x
     by (Some us) e g =
         let d = described opens (p + 1) us w g x comes in (
           Sign Comma ∷ d.0 ++ Sign CloseParenthesis ∷ d.1,
@@ -205,11 +205,11 @@ comma_step opens p ts w x h comes = by (behind is_comma ts) refl h
         )
     by None e g = closed_step opened.Entry opens p ts w x g comes
 
-behind_step : (opens : List Open) (p : ℕ) (ts : Tokens) (w : Walk) (x : Front (Unit {0})) → behind_walk opens p ts ≡ Ok w → Comes w x → Whole opens expects.More p ts x
-unfolding behind_walk
-behind_step [] p ts w x h comes = cc
-behind_step (opened.Entry ∷ opens) p ts w x h comes = comma_step opens p ts w x h comes
-behind_step (opened.Returns ∷ opens) p ts w x h comes = closed_step opened.Returns opens p ts w x h comes
+after_step : (opens : List Open) (p : ℕ) (ts : Tokens) (w : Walk) (x : Front (Unit {0})) → after_attributes_walk opens p ts ≡ Ok w → Comes w x → Whole opens expects.More p ts x
+unfolding after_attributes_walk
+after_step [] p ts w x h comes = cc
+after_step (opened.Entry ∷ opens) p ts w x h comes = comma_step opens p ts w x h comes
+after_step (opened.Returns ∷ opens) p ts w x h comes = closed_step opened.Returns opens p ts w x h comes
 
 one_step : (opens : List Open) (what : Expects) → IsLive opens what → (p : ℕ) (ts : Tokens) (w : Walk) (x : Front (Unit {0})) → step_at opens what p ts ≡ Ok w → Comes w x → Whole opens what p ts x
 unfolding step_at
@@ -217,7 +217,7 @@ one_step opens what live p ts w x h comes = by (attribute_first ts) refl h
   where
     no_word : (e : Expects) → no_word_walk opens e p ts ≡ Ok w → Whole opens e p ts x
     no_word expects.Attribute g = cc
-    no_word expects.More g = behind_step opens p ts w x g comes
+    no_word expects.More g = after_step opens p ts w x g comes
 
     by : (o : Option (AttributeWord × Tokens)) → attribute_first ts ≡ o → walk_by opens what p ts o ≡ Ok w → Whole opens what p ts x
     by (Some v) e g = word_step opens what live p ts v.1 x v.0 e w g comes

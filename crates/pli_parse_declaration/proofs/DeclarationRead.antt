@@ -2,7 +2,7 @@
 use Rattle.std.proofs.Common.{⊎_elim, ◌≡◌, ◌+◌, ℕ, suc, zero, Bool, true, false, cond, List, [], ◌∷◌, ◌++◌, Option, Some, None, Result, Ok, length, codes, refl, ap, ◌∙◌, sym, subst, arith, ◌⊎◌, inl, inr, append_assoc, length-append}
 use Rattle.pli_base.specs.Name.{Name}
 use Rattle.pli_base.specs.laws.NameLaws.{equal_from_pointwise}
-use Rattle.pli_base.specs.Words.{Tokens, same_name, is_open, is_close, is_comma, behind, name_first, is_colon, SpellsIdentifier}
+use Rattle.pli_base.specs.Words.{Tokens, same_name, is_open, is_close, is_comma, rest_after, name_first, is_colon, SpellsIdentifier}
 use Rattle.pli_base.specs.Results.{◌>>=◌}
 use Rattle.pli_base.specs.Reading.{Front, read_as, mapped, expected, taken, enclosed, if_open, or_none}
 use Rattle.pli_base.specs.declared.code.Code.TheVariants.{ParenthesisExpected, ConstantExpected}
@@ -13,7 +13,7 @@ use Rattle.pli_base.specs.declared.token.TokenText.TheVariants.{Word, Decimal, B
 use Rattle.pli_parse_declaration.specs.DeclarationWords.{data_word, storage_word, nesting_word, word_or, attribute_word, with_rest, attribute_first, is_zero}
 use Rattle.pli_base.specs.Declarations as tree
 use Rattle.pli_parse_declaration.specs.DeclarationReading.{listed_after, listed_at, list_at, number_at, signed, integer_at, bounds_from, stated_at, bounds_at, dimensions_at, extent_at, length_at, with_scale, scaled_at, precision_at, name_at, identifier_at, area_at, locator_at, repeated_at, null_from, value_at, values_at, simple_of}
-use Rattle.pli_parse_declaration.specs.DeclarationGrammar.{SpellsFront, between, SpellsListed, Anywhere, SpellsList, SpellsEnclosed, SpellsOptional, SpellsNumber, SpellsInteger, SpellsBounds, SpellsDimensions, SpellsLength, SpellsScaled, SpellsName, SpellsValue, word_of, SpellsBehind, SpellsSimple}
+use Rattle.pli_parse_declaration.specs.DeclarationGrammar.{SpellsFront, between, SpellsListed, Anywhere, SpellsList, SpellsEnclosed, SpellsOptional, SpellsNumber, SpellsInteger, SpellsBounds, SpellsDimensions, SpellsLength, SpellsScaled, SpellsName, SpellsValue, word_of, SpellsAfter, SpellsSimple}
 use Rattle.pli_base.specs.declared.declaration.Integer.{Integer}
 use Rattle.pli_base.specs.declared.declaration.WrittenBounds.{WrittenBounds}
 use Rattle.pli_base.specs.declared.declaration.WrittenBounds.TheVariants as limits
@@ -26,7 +26,7 @@ use Rattle.pli_parse_declaration.specs.declared.word.AttributeWord.{AttributeWor
 use Rattle.pli_parse_declaration.specs.declared.word.AttributeWord.TheVariants as attribute
 use Rattle.pli_parse_declaration.proofs.DeclarationSteps.{mapped_ok, open_first, close_first, comma_first, colon_first, zero_first, taken_ok, enclosed_ok, two, separator_first, separator_place}
 use Rattle.pli_parse_fault.proofs.StepLemmas.{same_ok, some_same, bind_ok}
-use Rattle.pli_parse_declaration.specs.Separators.{separated, behind_separator}
+use Rattle.pli_parse_declaration.specs.Separators.{separated, after_separator}
 use Rattle.pli_parse_declaration.specs.declared.list.Separator.{Separator}
 use Rattle.pli_parse_declaration.specs.declared.list.Separator.TheVariants.{Commas, Periods}
 
@@ -59,10 +59,10 @@ enclosed_spelled one Spells reads p ts us e y h =
     )
 
 pub optional_reads : {A : Type 0} (one : ℕ → Tokens → Result (Front A) Fault) (Spells : Tokens → A → Type 0) → Reads one (Anywhere Spells)
-    → Reads (λ p ts. if_open one p ts (behind is_open ts)) (Anywhere (SpellsOptional Spells))
-optional_reads {A = A} one Spells reads p ts y h = by (behind is_open ts) refl h
+    → Reads (λ p ts. if_open one p ts (rest_after is_open ts)) (Anywhere (SpellsOptional Spells))
+optional_reads {A = A} one Spells reads p ts y h = by (rest_after is_open ts) refl h
   where
-    by : (o : Option Tokens) → behind is_open ts ≡ o → if_open one p ts o ≡ Ok y → SpellsFront (Anywhere (SpellsOptional Spells)) p ts y
+    by : (o : Option Tokens) → rest_after is_open ts ≡ o → if_open one p ts o ≡ Ok y → SpellsFront (Anywhere (SpellsOptional Spells)) p ts y
     by None e g = subst (SpellsFront (Anywhere (SpellsOptional Spells)) p ts) (same_ok g) ([], refl, omega arith, refl)
     by (Some us) e g =
         let m = mapped_ok Some (enclosed (one (p + 1) us)) y g in
@@ -72,7 +72,7 @@ optional_reads {A = A} one Spells reads p ts y h = by (behind is_open ts) refl h
 -- a list
 module _ {A : Type 0} (s : Separator) (one : ℕ → Tokens → Result (Front A) Fault) (Spells : ℕ → Tokens → A → Type 0) (reads : Reads one Spells) where
   -- a value before those of a list
-  longer : (p : ℕ) (front us : Tokens) (value : A) (values : List A) → Spells p front value → SpellsListed s Spells (behind_separator s (p + length front)) us values → SpellsListed s Spells p (front ++ (between s ++ us)) (value ∷ values)
+  longer : (p : ℕ) (front us : Tokens) (value : A) (values : List A) → Spells p front value → SpellsListed s Spells (after_separator s (p + length front)) us values → SpellsListed s Spells p (front ++ (between s ++ us)) (value ∷ values)
   longer p front us value [] spelled more = absurd more
   longer p front us value (v ∷ values) spelled more = (front, us, refl, spelled, more)
 
@@ -82,17 +82,17 @@ module _ {A : Type 0} (s : Separator) (one : ℕ → Tokens → Result (Front A)
   after_spelled more more_reads p ts front x shape place spelled None e y h =
       subst (SpellsFront (SpellsListed s Spells) p ts) (same_ok h) (front, shape, place, spelled)
   after_spelled more more_reads p ts front x shape place spelled (Some us) e y h =
-      let g = bind_ok (more (behind_separator s x.next) us) _ y h in
-      let m = more_reads (behind_separator s x.next) us g.0 g.1 in
+      let g = bind_ok (more (after_separator s x.next) us) _ y h in
+      let m = more_reads (after_separator s x.next) us g.0 g.1 in
       let first : x.rest ≡ between s ++ us = separator_first s x.rest us e in
-      let a = two p x.next (behind_separator s x.next) ts x.rest us front (between s) shape place first (separator_place s x.next) in
-      let b = two p (behind_separator s x.next) g.0.next ts us g.0.rest (front ++ between s) m.0 a.0 a.1 m.1 m.2 in
+      let a = two p x.next (after_separator s x.next) ts x.rest us front (between s) shape place first (separator_place s x.next) in
+      let b = two p (after_separator s x.next) g.0.next ts us g.0.rest (front ++ between s) m.0 a.0 a.1 m.1 m.2 in
       let grouped : (front ++ between s) ++ m.0 ≡ front ++ (between s ++ m.0) = append_assoc front (between s) m.0 in
       subst (SpellsFront (SpellsListed s Spells) p ts) (same_ok g.2) (
         front ++ (between s ++ m.0),
         b.0 ∙ ap (λ vs. vs ++ g.0.rest) grouped,
         b.1 ∙ ap (λ (vs : Tokens). p + length vs) grouped,
-        longer p front m.0 x.value g.0.value spelled (subst (λ q. SpellsListed s Spells (behind_separator s q) m.0 g.0.value) place m.3),
+        longer p front m.0 x.value g.0.value spelled (subst (λ q. SpellsListed s Spells (after_separator s q) m.0 g.0.value) place m.3),
       )
 
   pub listed_reads : (bound : ℕ) → Reads (listed_at s one bound) (SpellsListed s Spells)
@@ -108,7 +108,7 @@ pub any_place : {A : Type 0} (s : Separator) (Spells : Tokens → A → Type 0) 
 any_place s Spells [] p q ts h = h
 any_place s Spells (x ∷ []) p q ts h = h
 any_place s Spells (x ∷ y ∷ more) p q ts (front, rest, shape, first, later) =
-    (front, rest, shape, first, any_place s Spells (y ∷ more) (behind_separator s (p + length front)) (behind_separator s (q + length front)) rest later)
+    (front, rest, shape, first, any_place s Spells (y ∷ more) (after_separator s (p + length front)) (after_separator s (q + length front)) rest later)
 
 pub list_reads : {A : Type 0} (s : Separator) (one : ℕ → Tokens → Result (Front A) Fault) (Spells : Tokens → A → Type 0) → Reads one (Anywhere Spells) → Reads (list_at s one) (Anywhere (SpellsList s Spells))
 list_reads s one Spells reads p ts y h =
@@ -144,19 +144,19 @@ integer_reads p (Sign Plus ∷ ts) x h = plus_spelled p ts x h
 integer_reads p (Sign Minus ∷ ts) x h = minus_spelled p ts x h
 integer_reads p (t ∷ ts) x h = unsigned_reads p (t ∷ ts) x h
 
--- a value, and more behind a token, if that comes
+-- a value, and more after a token, if that comes
 more_reads : {A B : Type 0} (one : ℕ → Tokens → Result (Front A) Fault) (fits : TokenText → Bool)
     (after : Front A → Option Tokens → Result (Front B) Fault) (Spells : ℕ → Tokens → A → Type 0)
     (SpellsMore : ℕ → Tokens → B → Type 0) → Reads one Spells
-    → ((p : ℕ) (ts : Tokens) (x : Front A) → SpellsFront Spells p ts x → (o : Option Tokens) → behind fits x.rest ≡ o
+    → ((p : ℕ) (ts : Tokens) (x : Front A) → SpellsFront Spells p ts x → (o : Option Tokens) → rest_after fits x.rest ≡ o
     → (y : Front B) → after x o ≡ Ok y → SpellsFront SpellsMore p ts y)
-    → Reads (λ p ts. one p ts >>= λ x. after x (behind fits x.rest)) SpellsMore
+    → Reads (λ p ts. one p ts >>= λ x. after x (rest_after fits x.rest)) SpellsMore
 more_reads one fits after Spells SpellsMore reads so p ts y h =
     let g = bind_ok (one p ts) _ y h in
-    so p ts g.0 (reads p ts g.0 g.1) (behind fits g.0.rest) refl y g.2
+    so p ts g.0 (reads p ts g.0 g.1) (rest_after fits g.0.rest) refl y g.2
 
 bounds_spelled : (p : ℕ) (ts : Tokens) (x : Front Integer) → SpellsFront (Anywhere SpellsInteger) p ts x → (o : Option Tokens)
-    → behind is_colon x.rest ≡ o → (y : Front WrittenBounds) → bounds_from x o ≡ Ok y → SpellsFront (Anywhere SpellsBounds) p ts y
+    → rest_after is_colon x.rest ≡ o → (y : Front WrittenBounds) → bounds_from x o ≡ Ok y → SpellsFront (Anywhere SpellsBounds) p ts y
 bounds_spelled p ts x f None e y g = subst (SpellsFront (Anywhere SpellsBounds) p ts) (same_ok g) (f.0, f.1, f.2, f.3)
 bounds_spelled p ts x f (Some us) e y g =
     let m = mapped_ok (limits.Stated (Some x.value)) (integer_at (x.next + 1) us) y g in
@@ -185,7 +185,7 @@ dimensions_so p ts (Some (b ∷ bs)) s = s
 pub dimensions_reads : Reads dimensions_at (Anywhere SpellsDimensions)
 unfolding dimensions_at
 dimensions_reads =
-    mapped_reads or_none (λ p ts. if_open (list_at Commas bounds_at) p ts (behind is_open ts)) (Anywhere (SpellsOptional (SpellsList Commas SpellsBounds))) (Anywhere SpellsDimensions)
+    mapped_reads or_none (λ p ts. if_open (list_at Commas bounds_at) p ts (rest_after is_open ts)) (Anywhere (SpellsOptional (SpellsList Commas SpellsBounds))) (Anywhere SpellsDimensions)
     (optional_reads (list_at Commas bounds_at) (SpellsList Commas SpellsBounds) (list_reads Commas bounds_at SpellsBounds bounds_reads)) dimensions_so
 
 number_extents : Reads (λ p ts. mapped extent.Stated (number_at p ts)) (Anywhere SpellsLength)
@@ -202,7 +202,7 @@ unfolding length_at
 length_reads = optional_reads extent_at SpellsLength extent_reads
 
 scaled_spelled : (p : ℕ) (ts : Tokens) (x : Front ℕ) → SpellsFront (Anywhere SpellsNumber) p ts x → (o : Option Tokens)
-    → behind is_comma x.rest ≡ o → (y : Front ℕ) → with_scale x o ≡ Ok y → SpellsFront (Anywhere SpellsScaled) p ts y
+    → rest_after is_comma x.rest ≡ o → (y : Front ℕ) → with_scale x o ≡ Ok y → SpellsFront (Anywhere SpellsScaled) p ts y
 scaled_spelled p ts x f None e y g = subst (SpellsFront (Anywhere SpellsScaled) p ts) (same_ok g) (f.0, f.1, f.2, inl f.3)
 scaled_spelled p ts x f (Some us) e y g =
     let m = bind_ok (taken is_zero ConstantExpected (x.next + 1) us) _ y g in
@@ -251,10 +251,10 @@ repeated_spelled p ts y h =
     ap (λ us. us ++ r.0) f.3.1 ∙ ap (λ us. Sign OpenParenthesis ∷ us) (append_assoc f.3.0 (Sign CloseParenthesis ∷ []) r.0) in
     subst (SpellsFront (Anywhere SpellsValue) p (Sign OpenParenthesis ∷ ts)) m.2 (f.0 ++ r.0, b.0, b.1, (f.3.0, r.0, shape, f.3.2, r.3))
 
-null_spelled : (p : ℕ) (ts : Tokens) (y : Front InitialValue) → null_from (p + 1) ts (behind is_open ts) ≡ Ok y → SpellsFront (Anywhere SpellsValue) p (Word (codes "NULL") ∷ ts) y
-null_spelled p ts y h = by (behind is_open ts) refl h
+null_spelled : (p : ℕ) (ts : Tokens) (y : Front InitialValue) → null_from (p + 1) ts (rest_after is_open ts) ≡ Ok y → SpellsFront (Anywhere SpellsValue) p (Word (codes "NULL") ∷ ts) y
+null_spelled p ts y h = by (rest_after is_open ts) refl h
   where
-    by : (o : Option Tokens) → behind is_open ts ≡ o → null_from (p + 1) ts o ≡ Ok y → SpellsFront (Anywhere SpellsValue) p (Word (codes "NULL") ∷ ts) y
+    by : (o : Option Tokens) → rest_after is_open ts ≡ o → null_from (p + 1) ts o ≡ Ok y → SpellsFront (Anywhere SpellsValue) p (Word (codes "NULL") ∷ ts) y
     by None e g = subst (SpellsFront (Anywhere SpellsValue) p (Word (codes "NULL") ∷ ts)) (same_ok g) (Word (codes "NULL") ∷ [], refl, refl, inl refl)
     by (Some us) e g =
         let m = bind_ok (taken is_close ParenthesisExpected (p + 1 + 1) us) _ y g in
@@ -278,7 +278,7 @@ value_reads p (Bits s ∷ ts) y h = subst (SpellsFront (Anywhere SpellsValue) p 
 value_reads p (Sign OpenParenthesis ∷ ts) y h = repeated_spelled p ts y h
 value_reads p (Word n ∷ ts) y h = by (same_name n (codes "NULL")) refl h
   where
-    by : (b : Bool) → same_name n (codes "NULL") ≡ b → cond b (null_from (p + 1) ts (behind is_open ts)) (expected ConstantExpected p (Word n ∷ ts)) ≡ Ok y → SpellsFront (Anywhere SpellsValue) p (Word n ∷ ts) y
+    by : (b : Bool) → same_name n (codes "NULL") ≡ b → cond b (null_from (p + 1) ts (rest_after is_open ts)) (expected ConstantExpected p (Word n ∷ ts)) ≡ Ok y → SpellsFront (Anywhere SpellsValue) p (Word n ∷ ts) y
     by true e g = subst (λ m. SpellsFront (Anywhere SpellsValue) p (Word m ∷ ts) y) (sym (equal_from_pointwise n (codes "NULL") e)) (null_spelled p ts y g)
     by false e g = cc
 value_reads p (t ∷ ts) y h = integer_value_reads p (t ∷ ts) y h
@@ -290,11 +290,11 @@ values_spelled p ts y h =
     let f = enclosed_spelled (list_at Commas value_at) (Anywhere (SpellsList Commas SpellsValue)) (list_reads Commas value_at SpellsValue value_reads) p ts g.0 (open_first ts g.0 (taken_ok is_open ParenthesisExpected p ts g.0 g.1)) y g.2 in
     (f.0, f.1, f.2, f.3)
 
--- a simple attribute behind its keyword
+-- a simple attribute after its keyword
 abbrev pub SpellsOf : SimpleWord → ℕ → Tokens → tree.SimpleAttribute → Type 0
-SpellsOf w p ts a = (word_of a ≡ w) × SpellsBehind ts a
+SpellsOf w p ts a = (word_of a ≡ w) × SpellsAfter ts a
 
-bare_reads : (w : SimpleWord) (a : tree.SimpleAttribute) → word_of a ≡ w → SpellsBehind [] a → Reads (read_as a) (SpellsOf w)
+bare_reads : (w : SimpleWord) (a : tree.SimpleAttribute) → word_of a ≡ w → SpellsAfter [] a → Reads (read_as a) (SpellsOf w)
 bare_reads w a is spelled p ts y h = subst (SpellsFront (SpellsOf w) p ts) (same_ok h) ([], refl, omega arith, (is, spelled))
 
 pub simple_reads : (w : SimpleWord) → Reads (simple_of w) (SpellsOf w)
@@ -329,7 +329,7 @@ word_first (Word k ∷ ts) us w h = by (attribute_word k) refl h
     by None e g = cc
 word_first (t ∷ ts) us w h = cc
 
--- behind its keyword a simple attribute is whole
+-- after its keyword a simple attribute is whole
 pub simple_spelled : (p : ℕ) (ts us : Tokens) (w : SimpleWord) → attribute_first ts ≡ Some (attribute.Simple w, us) → (x : Front tree.SimpleAttribute) → simple_of w (p + 1) us ≡ Ok x → SpellsFront (Anywhere SpellsSimple) p ts x
 simple_spelled p ts us w first x h =
     let k = word_first ts us (attribute.Simple w) first in

@@ -2,7 +2,7 @@
 use Rattle.std.proofs.Common.{⊎_elim, ◌≡◌, ◌+◌, ◌<◌, ℕ, suc, zero, Bool, true, false, List, [], ◌∷◌, ◌++◌, Option, Some, None, Result, Ok, length, codes, refl, ap, ◌∙◌, sym, subst, arith, append_assoc, length-append}
 use Rattle.std.proofs.lemmas.List.{append-nil}
 use Rattle.pli_base.specs.Name.{Name}
-use Rattle.pli_base.specs.Words.{Tokens, is_open, is_close, is_comma, behind, name_first, is_colon, SpellsIdentifier}
+use Rattle.pli_base.specs.Words.{Tokens, is_open, is_close, is_comma, rest_after, name_first, is_colon, SpellsIdentifier}
 use Rattle.pli_base.specs.Results.{◌>>=◌}
 use Rattle.pli_base.specs.Reading.{Front, read_as, mapped, taken, enclosed, if_open, or_none}
 use Rattle.pli_base.specs.declared.code.Code.TheVariants.{ParenthesisExpected}
@@ -12,7 +12,7 @@ use Rattle.pli_base.specs.declared.token.TokenText.TheVariants.{Word, Decimal, S
 use Rattle.pli_parse_declaration.specs.DeclarationWords.{attribute_word, with_rest, attribute_first}
 use Rattle.pli_base.specs.Declarations as tree
 use Rattle.pli_parse_declaration.specs.DeclarationReading.{listed_after, listed_at, list_at, number_at, signed, integer_at, bounds_from, stated_at, bounds_at, dimensions_at, extent_at, length_at, with_scale, scaled_at, precision_at, name_at, identifier_at, area_at, locator_at, repeated_at, null_from, value_at, values_at, simple_of}
-use Rattle.pli_parse_declaration.specs.DeclarationGrammar.{between, SpellsListed, Anywhere, SpellsList, SpellsEnclosed, SpellsOptional, SpellsNumber, SpellsSigned, SpellsInteger, SpellsRange, SpellsBounds, SpellsDimensions, SpellsLength, SpellsScaled, SpellsName, SpellsValue, word_of, SpellsBehind}
+use Rattle.pli_parse_declaration.specs.DeclarationGrammar.{between, SpellsListed, Anywhere, SpellsList, SpellsEnclosed, SpellsOptional, SpellsNumber, SpellsSigned, SpellsInteger, SpellsRange, SpellsBounds, SpellsDimensions, SpellsLength, SpellsScaled, SpellsName, SpellsValue, word_of, SpellsAfter}
 use Rattle.pli_base.specs.declared.declaration.Integer.{Integer}
 use Rattle.pli_base.specs.declared.declaration.WrittenBounds.{WrittenBounds}
 use Rattle.pli_base.specs.declared.declaration.WrittenBounds.TheVariants as limits
@@ -22,7 +22,7 @@ use Rattle.pli_base.specs.declared.declaration.InitialValue.TheVariants as initi
 use Rattle.pli_parse_declaration.specs.declared.word.AttributeWord.{AttributeWord}
 use Rattle.pli_parse_declaration.specs.ItemEnds.{OptionEnds, SimpleEnds, DimensionsEnd, LastEnds}
 use Rattle.pli_parse_declaration.proofs.DeclarationRead.{any_place}
-use Rattle.pli_parse_declaration.specs.Separators.{separated, behind_separator}
+use Rattle.pli_parse_declaration.specs.Separators.{separated, after_separator}
 use Rattle.pli_parse_declaration.specs.declared.list.Separator.{Separator}
 use Rattle.pli_parse_declaration.specs.declared.list.Separator.TheVariants.{Commas, Periods, Nothing}
 
@@ -40,13 +40,13 @@ Anyhow more = Unit {0}
 
 -- no parenthesis opens there
 abbrev pub NoOpen : Tokens → Type 0
-NoOpen more = behind is_open more ≡ None
+NoOpen more = rest_after is_open more ≡ None
 
 abbrev pub NoColon : Tokens → Type 0
-NoColon more = behind is_colon more ≡ None
+NoColon more = rest_after is_colon more ≡ None
 
 abbrev pub NoComma : Tokens → Type 0
-NoComma more = behind is_comma more ≡ None
+NoComma more = rest_after is_comma more ≡ None
 
 -- tokens that open no parenthesis end all of these
 pub any_option : {A : Type 0} (x : Option A) (more : Tokens) → NoOpen more → OptionEnds x more
@@ -77,15 +77,15 @@ abbrev pub ListEnds : Separator → (Tokens → Type 0) → Tokens → Type 0
 ListEnds s Ends more = (separated s more ≡ None) × Ends more
 
 pub no_open_close : (zs : Tokens) → NoOpen (Sign CloseParenthesis ∷ zs)
-unfolding behind
+unfolding rest_after
 no_open_close zs = refl
 
 pub no_open_comma : (zs : Tokens) → NoOpen (Sign Comma ∷ zs)
-unfolding behind
+unfolding rest_after
 no_open_comma zs = refl
 
 pub no_open_word : (k : Name) (zs : Tokens) → NoOpen (Word k ∷ zs)
-unfolding behind
+unfolding rest_after
 no_open_word k zs = refl
 
 -- read to another place that is the same
@@ -93,16 +93,16 @@ pub placed : {A : Type 0} (x : A) (p q : ℕ) (ts : Tokens) → p ≡ q → ◌�
 placed x p q ts e = ap (λ (r : ℕ). read_as x r ts) e
 
 pub close_taken : (p : ℕ) (zs : Tokens) → taken is_close ParenthesisExpected p (Sign CloseParenthesis ∷ zs) ≡ Ok zs
-unfolding taken behind
+unfolding taken rest_after
 close_taken p zs = refl
 
 pub open_taken : (p : ℕ) (zs : Tokens) → taken is_open ParenthesisExpected p (Sign OpenParenthesis ∷ zs) ≡ Ok zs
-unfolding taken behind
+unfolding taken rest_after
 open_taken p zs = refl
 
-pub open_behind : (zs : Tokens) → behind is_open (Sign OpenParenthesis ∷ zs) ≡ Some zs
-unfolding behind
-open_behind zs = refl
+pub open_after : (zs : Tokens) → rest_after is_open (Sign OpenParenthesis ∷ zs) ≡ Some zs
+unfolding rest_after
+open_after zs = refl
 
 -- the inside of parentheses that begin at p
 pub enclosed_again : {A : Type 0} (one : ℕ → Tokens → Result (Front A) Fault) (Spells : ℕ → Tokens → A → Type 0) (Ends : Tokens → Type 0) → ReadAgain one Spells Ends → ((zs : Tokens) → Ends (Sign CloseParenthesis ∷ zs))
@@ -115,14 +115,14 @@ enclosed_again one Spells Ends again closes p inner more x spelled =
     ∙ placed x (p + 1 + length inner + 1) (p + length (Sign OpenParenthesis ∷ inner ++ Sign CloseParenthesis ∷ [])) more (omega (arith, length-append inner (Sign CloseParenthesis ∷ [])))
 
 pub optional_again : {A : Type 0} (one : ℕ → Tokens → Result (Front A) Fault) (Spells : Tokens → A → Type 0) (Ends : Tokens → Type 0) → ReadAgain one (Anywhere Spells) Ends → ((zs : Tokens) → Ends (Sign CloseParenthesis ∷ zs))
-    → ReadBefore (λ p ts. if_open one p ts (behind is_open ts)) (Anywhere (SpellsOptional Spells)) OptionEnds
+    → ReadBefore (λ p ts. if_open one p ts (rest_after is_open ts)) (Anywhere (SpellsOptional Spells)) OptionEnds
 optional_again one Spells Ends again closes p ts more None spelled stops =
-    ap (λ us. if_open one p (us ++ more) (behind is_open (us ++ more))) spelled
+    ap (λ us. if_open one p (us ++ more) (rest_after is_open (us ++ more))) spelled
     ∙ ap (λ o. if_open one p more o) stops
     ∙ placed None p (p + length ts) more (omega (arith, ap length spelled))
 optional_again one Spells Ends again closes p ts more (Some x) (inner, shape, spelled) stops =
-    ap (λ us. if_open one p (us ++ more) (behind is_open (us ++ more))) shape
-    ∙ ap (λ o. if_open one p ((Sign OpenParenthesis ∷ inner ++ Sign CloseParenthesis ∷ []) ++ more) o) (open_behind ((inner ++ Sign CloseParenthesis ∷ []) ++ more))
+    ap (λ us. if_open one p (us ++ more) (rest_after is_open (us ++ more))) shape
+    ∙ ap (λ o. if_open one p ((Sign OpenParenthesis ∷ inner ++ Sign CloseParenthesis ∷ []) ++ more) o) (open_after ((inner ++ Sign CloseParenthesis ∷ []) ++ more))
     ∙ ap (λ r. mapped Some r) (enclosed_again one (Anywhere Spells) Ends again closes p inner more x spelled)
     ∙ placed (Some x) (p + length (Sign OpenParenthesis ∷ inner ++ Sign CloseParenthesis ∷ [])) (p + length ts) more (ap (λ (us : Tokens). p + length us) (sym shape))
 
@@ -141,7 +141,7 @@ module _ {A : Type 0} (s : Separator) (one : ℕ → Tokens → Result (Front A)
       let e : f.0 ++ (f.1 ++ zs) ≡ ts ++ zs = sym (append_assoc f.0 f.1 zs) ∙ ap (λ us. us ++ zs) (sym f.2) in
       subst (λ us. (separated s (between s ++ us) ≡ Some us) × ((y : A) → Ends y (between s ++ us))) e (goes p f.0 (f.1 ++ zs) x f.3)
 
-  place_of : (t : Separator) (p : ℕ) (front rest : Tokens) → behind_separator t (p + length front) + length rest ≡ p + length (front ++ (between t ++ rest))
+  place_of : (t : Separator) (p : ℕ) (front rest : Tokens) → after_separator t (p + length front) + length rest ≡ p + length (front ++ (between t ++ rest))
   place_of Commas p front rest = omega (arith, length-append front (Sign Comma ∷ rest))
   place_of Periods p front rest = omega (arith, length-append front (between Periods ++ rest))
   place_of Nothing p front rest = omega (arith, length-append front rest)
@@ -155,15 +155,15 @@ module _ {A : Type 0} (s : Separator) (one : ℕ → Tokens → Result (Front A)
       ap (λ r. r >>= λ y. listed_after s (listed_at s one bound) y (separated s y.rest)) (again p ts more x spelled stops.1)
       ∙ ap (λ o. listed_after s (listed_at s one bound) (record { value = x; next = p + length ts; rest = more }) o) stops.0
   listed_before (x ∷ y ∷ xs) (suc bound) p ts more (front, rest, shape, spelled, later) stops small =
-      let step = goes_on (behind_separator s (p + length front)) rest more y xs later in
+      let step = goes_on (after_separator s (p + length front)) rest more y xs later in
       let whole : ts ++ more ≡ front ++ (between s ++ (rest ++ more)) = ap (λ us. us ++ more) shape ∙ append_assoc front (between s ++ rest) more ∙ ap (λ us. front ++ us) (append_assoc (between s) rest more) in
       let first : 0 < length front = some p front x spelled in
       let less : length (rest ++ more) < bound = omega (arith, small, ap length whole, length-append front (between s ++ (rest ++ more)), length-append (between s) (rest ++ more)) in
       ap (listed_at s one (suc bound) p) whole
       ∙ ap (λ r. r >>= λ z. listed_after s (listed_at s one bound) z (separated s z.rest)) (again p front (between s ++ (rest ++ more)) x spelled (step.1 x))
       ∙ ap (λ o. listed_after s (listed_at s one bound) (record { value = x; next = p + length front; rest = between s ++ (rest ++ more) }) o) step.0
-      ∙ ap (λ r. r >>= λ z. read_as (x ∷ z.value) z.next z.rest) (listed_before (y ∷ xs) bound (behind_separator s (p + length front)) rest more later stops less)
-      ∙ placed (x ∷ y ∷ xs) (behind_separator s (p + length front) + length rest) (p + length ts) more (place_of s p front rest ∙ ap (λ (us : Tokens). p + length us) (sym shape))
+      ∙ ap (λ r. r >>= λ z. read_as (x ∷ z.value) z.next z.rest) (listed_before (y ∷ xs) bound (after_separator s (p + length front)) rest more later stops less)
+      ∙ placed (x ∷ y ∷ xs) (after_separator s (p + length front) + length rest) (p + length ts) more (place_of s p front rest ∙ ap (λ (us : Tokens). p + length us) (sym shape))
 
 pub listed_again : {A : Type 0} (s : Separator) (one : ℕ → Tokens → Result (Front A) Fault) (Spells : ℕ → Tokens → A → Type 0) (Ends : Tokens → Type 0) → ReadAgain one Spells Ends
     → ((p : ℕ) (ts zs : Tokens) (x : A) → Spells p ts x → (separated s (between s ++ (ts ++ zs)) ≡ Some (ts ++ zs)) × Ends (between s ++ (ts ++ zs))) → ((p : ℕ) (ts : Tokens) (x : A) → Spells p ts x → 0 < length ts)
@@ -177,21 +177,21 @@ pub list_again : {A : Type 0} (s : Separator) (one : ℕ → Tokens → Result (
 list_again s one Spells Ends again goes some p ts more xs spelled stops =
     listed_again s one (Anywhere Spells) Ends again goes some xs (length (ts ++ more) + 1) p ts more (any_place s Spells xs 0 p ts spelled) stops (omega arith)
 
--- behind a comma or a period a list goes on
+-- after a comma or a period a list goes on
 pub comma_goes : (zs : Tokens) → separated Commas (between Commas ++ zs) ≡ Some zs
-unfolding behind
+unfolding rest_after
 comma_goes zs = refl
 
 pub period_goes : (zs : Tokens) → separated Periods (between Periods ++ zs) ≡ Some zs
-unfolding behind
+unfolding rest_after
 period_goes zs = refl
 
 pub commas_close : (zs : Tokens) → separated Commas (Sign CloseParenthesis ∷ zs) ≡ None
-unfolding behind
+unfolding rest_after
 commas_close zs = refl
 
 periods_close : (zs : Tokens) → separated Periods (Sign CloseParenthesis ∷ zs) ≡ None
-unfolding behind
+unfolding rest_after
 periods_close zs = refl
 
 pub number_again : ReadAgain number_at (Anywhere SpellsNumber) Anyhow
@@ -215,18 +215,18 @@ signed_again false p ts more n s =
 pub integer_again : ReadAgain integer_at (Anywhere SpellsInteger) Anyhow
 integer_again p ts more i spelled stops = signed_again i.negative p ts more i.value spelled
 
-colon_behind : (zs : Tokens) → behind is_colon (Sign Colon ∷ zs) ≡ Some zs
-unfolding behind
-colon_behind zs = refl
+colon_after : (zs : Tokens) → rest_after is_colon (Sign Colon ∷ zs) ≡ Some zs
+unfolding rest_after
+colon_after zs = refl
 
 range_again : (low : Option Integer) (high : Integer) (p : ℕ) (ts more : Tokens) → SpellsRange ts low high → NoColon more → stated_at p (ts ++ more) ≡ read_as (limits.Stated low high) (p + length ts) more
 range_again None high p ts more spelled stops =
-    ap (λ r. r >>= λ x. bounds_from x (behind is_colon x.rest)) (integer_again p ts more high spelled tt)
+    ap (λ r. r >>= λ x. bounds_from x (rest_after is_colon x.rest)) (integer_again p ts more high spelled tt)
     ∙ ap (bounds_from (record { value = high; next = p + length ts; rest = more })) stops
 range_again (Some low) high p ts more (ls, hs, shape, lows, highs) stops =
     ap (stated_at p) (ap (λ us. us ++ more) shape ∙ append_assoc ls (Sign Colon ∷ hs) more)
-    ∙ ap (λ r. r >>= λ x. bounds_from x (behind is_colon x.rest)) (integer_again p ls (Sign Colon ∷ hs ++ more) low lows tt)
-    ∙ ap (bounds_from (record { value = low; next = p + length ls; rest = Sign Colon ∷ hs ++ more })) (colon_behind (hs ++ more))
+    ∙ ap (λ r. r >>= λ x. bounds_from x (rest_after is_colon x.rest)) (integer_again p ls (Sign Colon ∷ hs ++ more) low lows tt)
+    ∙ ap (bounds_from (record { value = low; next = p + length ls; rest = Sign Colon ∷ hs ++ more })) (colon_after (hs ++ more))
     ∙ ap (mapped (limits.Stated (Some low))) (integer_again (p + length ls + 1) hs more high highs tt)
     ∙ placed (limits.Stated (Some low) high) (p + length ls + 1 + length hs) (p + length ts) more (omega (arith, ap length shape, length-append ls (Sign Colon ∷ hs)))
 
@@ -268,11 +268,11 @@ bounds_some (limits.Stated low high) ts s = range_some low high ts s
 bounds_some limits.Any ts s = omega (arith, ap length s)
 
 no_colon_comma : (zs : Tokens) → NoColon (Sign Comma ∷ zs)
-unfolding behind
+unfolding rest_after
 no_colon_comma zs = refl
 
 no_colon_close : (zs : Tokens) → NoColon (Sign CloseParenthesis ∷ zs)
-unfolding behind
+unfolding rest_after
 no_colon_close zs = refl
 
 dimensions_so : (p : ℕ) (ts more : Tokens) (bounds : List WrittenBounds) (o : Option (List WrittenBounds)) → or_none o ≡ bounds → SpellsOptional (SpellsList Commas SpellsBounds) ts o → OptionEnds o more
@@ -304,20 +304,20 @@ unfolding length_at
 length_again = optional_again extent_at SpellsLength Anyhow extent_again (λ zs. tt)
 
 no_comma_close : (zs : Tokens) → NoComma (Sign CloseParenthesis ∷ zs)
-unfolding behind
+unfolding rest_after
 no_comma_close zs = refl
 
-zero_scale : (n q : ℕ) (more : Tokens) → with_scale (record { value = n; next = q; rest = Sign Comma ∷ Decimal 0 1 ∷ more }) (behind is_comma (Sign Comma ∷ Decimal 0 1 ∷ more)) ≡ read_as n (q + 2) more
-unfolding taken behind
+zero_scale : (n q : ℕ) (more : Tokens) → with_scale (record { value = n; next = q; rest = Sign Comma ∷ Decimal 0 1 ∷ more }) (rest_after is_comma (Sign Comma ∷ Decimal 0 1 ∷ more)) ≡ read_as n (q + 2) more
+unfolding taken rest_after
 zero_scale n q more = refl
 
 scaled_again : ReadAgain scaled_at (Anywhere SpellsScaled) NoComma
 unfolding scaled_at
 scaled_again p ts more n spelled stops =
     ⊎_elim
-    (λ s. ap (λ r. r >>= λ x. with_scale x (behind is_comma x.rest)) (number_again p ts more n s tt) ∙ ap (with_scale (record { value = n; next = p + length ts; rest = more })) stops)
+    (λ s. ap (λ r. r >>= λ x. with_scale x (rest_after is_comma x.rest)) (number_again p ts more n s tt) ∙ ap (with_scale (record { value = n; next = p + length ts; rest = more })) stops)
     (λ s. ap (scaled_at p) (ap (λ us. us ++ more) s.1 ∙ append_assoc s.0 (Sign Comma ∷ Decimal 0 1 ∷ []) more)
-    ∙ ap (λ r. r >>= λ x. with_scale x (behind is_comma x.rest)) (number_again p s.0 (Sign Comma ∷ Decimal 0 1 ∷ more) n s.2 tt)
+    ∙ ap (λ r. r >>= λ x. with_scale x (rest_after is_comma x.rest)) (number_again p s.0 (Sign Comma ∷ Decimal 0 1 ∷ more) n s.2 tt)
     ∙ zero_scale n (p + length s.0) more
     ∙ placed n (p + length s.0 + 2) (p + length ts) more (omega (arith, ap length s.1, length-append s.0 (Sign Comma ∷ Decimal 0 1 ∷ [])))) spelled
 
@@ -359,7 +359,7 @@ unfolding value_at
 null_alone p more stops = ap (null_from (p + 1) more) stops
 
 null_with : (p : ℕ) (more : Tokens) → value_at p (Word (codes "NULL") ∷ Sign OpenParenthesis ∷ Sign CloseParenthesis ∷ more) ≡ read_as initial.Null (p + 1 + 2) more
-unfolding value_at behind taken
+unfolding value_at rest_after taken
 null_with p more = refl
 
 factor_value : (p : ℕ) (us : Tokens) → value_at p (Sign OpenParenthesis ∷ us) ≡ (enclosed (number_at (p + 1) us) >>= λ factor. mapped (initial.Integer (Some factor.value)) (integer_at factor.next factor.rest))
@@ -406,8 +406,8 @@ values_again p ts more values (inner, shape, spelled) =
 bare_again : (a : tree.SimpleAttribute) (p : ℕ) (ts more : Tokens) → ts ≡ [] → read_as a p (ts ++ more) ≡ read_as a (p + length ts) more
 bare_again a p ts more e = ap (λ us. read_as a p (us ++ more)) e ∙ placed a p (p + length ts) more (omega (arith, ap length e))
 
--- behind its keyword
-pub simple_before : (a : tree.SimpleAttribute) (p : ℕ) (ts more : Tokens) → SpellsBehind ts a → SimpleEnds a more → simple_of (word_of a) p (ts ++ more) ≡ read_as a (p + length ts) more
+-- after its keyword
+pub simple_before : (a : tree.SimpleAttribute) (p : ℕ) (ts more : Tokens) → SpellsAfter ts a → SimpleEnds a more → simple_of (word_of a) p (ts ++ more) ≡ read_as a (p + length ts) more
 unfolding simple_of
 simple_before (tree.Fixed n) p ts more s stops = ap (mapped tree.Fixed) (precision_again p ts more n s stops)
 simple_before (tree.Binary n) p ts more s stops = ap (mapped tree.Binary) (precision_again p ts more n s stops)
@@ -426,7 +426,7 @@ simple_before tree.External p ts more s stops = bare_again tree.External p ts mo
 simple_before tree.Internal p ts more s stops = bare_again tree.Internal p ts more s
 simple_before tree.Builtin p ts more s stops = bare_again tree.Builtin p ts more s
 
-pub simple_again : (a : tree.SimpleAttribute) (p : ℕ) (ts more : Tokens) → SpellsBehind ts a → NoOpen more → simple_of (word_of a) p (ts ++ more) ≡ read_as a (p + length ts) more
+pub simple_again : (a : tree.SimpleAttribute) (p : ℕ) (ts more : Tokens) → SpellsAfter ts a → NoOpen more → simple_of (word_of a) p (ts ++ more) ≡ read_as a (p + length ts) more
 simple_again a p ts more s stops = simple_before a p ts more s (any_simple a more stops)
 
 -- an attribute's keyword is the first token

@@ -1,7 +1,7 @@
 -- Steps of reading, taken apart.
 use Rattle.std.proofs.Common.{◌≡◌, ◌+◌, ℕ, Bool, true, false, cond, [], ◌∷◌, ◌++◌, Option, Some, None, Result, Ok, Err, length, refl, ap, ◌∙◌, sym, arith, append_assoc, length-append}
 use Rattle.std.proofs.lemmas.Bool.{eqb-true}
-use Rattle.pli_base.specs.Words.{Tokens, is_open, is_close, is_comma, is_semicolon, behind, is_colon, is_period}
+use Rattle.pli_base.specs.Words.{Tokens, is_open, is_close, is_comma, is_semicolon, rest_after, is_colon, is_period}
 use Rattle.pli_base.specs.Reading.{Front, mapped, taken, taken_or, enclosed}
 use Rattle.pli_base.specs.declared.code.Code.{Code}
 use Rattle.pli_base.specs.declared.code.Code.TheVariants.{ParenthesisExpected}
@@ -12,7 +12,7 @@ use Rattle.pli_base.specs.declared.token.TokenText.TheVariants.{Decimal, Sign}
 use Rattle.pli_parse_declaration.specs.DeclarationWords.{attribute_first, is_zero, if_first}
 use Rattle.pli_parse_declaration.specs.DeclarationGrammar.{between}
 use Rattle.pli_parse_declaration.specs.declared.word.AttributeWord.{AttributeWord}
-use Rattle.pli_parse_declaration.specs.Separators.{separated, behind_separator}
+use Rattle.pli_parse_declaration.specs.Separators.{separated, after_separator}
 use Rattle.pli_parse_declaration.specs.declared.list.Separator.{Separator}
 use Rattle.pli_parse_declaration.specs.declared.list.Separator.TheVariants.{Commas, Periods, Nothing}
 use Rattle.pli_parse_fault.proofs.StepLemmas.{same_ok, some_same, bind_ok}
@@ -23,8 +23,8 @@ mapped_ok f (Ok x) y h = (x, refl, same_ok h)
 mapped_ok f (Err e) y h = cc
 
 -- the first token fits
-pub first_is : (fits : TokenText → Bool) (ts us : Tokens) → behind fits ts ≡ Some us → (t : TokenText) × (fits t ≡ true) × (ts ≡ t ∷ us)
-unfolding behind
+pub first_is : (fits : TokenText → Bool) (ts us : Tokens) → rest_after fits ts ≡ Some us → (t : TokenText) × (fits t ≡ true) × (ts ≡ t ∷ us)
+unfolding rest_after
 first_is fits [] us h = cc
 first_is fits (t ∷ ts) us h = by (fits t) refl h
   where
@@ -56,37 +56,37 @@ pub semicolon_is : (t : TokenText) → is_semicolon t ≡ true → t ≡ Sign Se
 semicolon_is (Sign Semicolon) h = refl
 semicolon_is t h = cc
 
-pub open_first : (ts us : Tokens) → behind is_open ts ≡ Some us → ts ≡ Sign OpenParenthesis ∷ us
+pub open_first : (ts us : Tokens) → rest_after is_open ts ≡ Some us → ts ≡ Sign OpenParenthesis ∷ us
 open_first ts us h = let f = first_is is_open ts us h in f.2 ∙ ap (λ t. t ∷ us) (open_is f.0 f.1)
 
-pub close_first : (ts us : Tokens) → behind is_close ts ≡ Some us → ts ≡ Sign CloseParenthesis ∷ us
+pub close_first : (ts us : Tokens) → rest_after is_close ts ≡ Some us → ts ≡ Sign CloseParenthesis ∷ us
 close_first ts us h = let f = first_is is_close ts us h in f.2 ∙ ap (λ t. t ∷ us) (close_is f.0 f.1)
 
-pub comma_first : (ts us : Tokens) → behind is_comma ts ≡ Some us → ts ≡ Sign Comma ∷ us
+pub comma_first : (ts us : Tokens) → rest_after is_comma ts ≡ Some us → ts ≡ Sign Comma ∷ us
 comma_first ts us h = let f = first_is is_comma ts us h in f.2 ∙ ap (λ t. t ∷ us) (comma_is f.0 f.1)
 
-pub period_first : (ts us : Tokens) → behind is_period ts ≡ Some us → ts ≡ Sign Period ∷ us
+pub period_first : (ts us : Tokens) → rest_after is_period ts ≡ Some us → ts ≡ Sign Period ∷ us
 period_first ts us h = let f = first_is is_period ts us h in f.2 ∙ ap (λ t. t ∷ us) (period_is f.0 f.1)
 
-pub colon_first : (ts us : Tokens) → behind is_colon ts ≡ Some us → ts ≡ Sign Colon ∷ us
+pub colon_first : (ts us : Tokens) → rest_after is_colon ts ≡ Some us → ts ≡ Sign Colon ∷ us
 colon_first ts us h = let f = first_is is_colon ts us h in f.2 ∙ ap (λ t. t ∷ us) (colon_is f.0 f.1)
 
-pub semicolon_first : (ts us : Tokens) → behind is_semicolon ts ≡ Some us → ts ≡ Sign Semicolon ∷ us
+pub semicolon_first : (ts us : Tokens) → rest_after is_semicolon ts ≡ Some us → ts ≡ Sign Semicolon ∷ us
 semicolon_first ts us h = let f = first_is is_semicolon ts us h in f.2 ∙ ap (λ t. t ∷ us) (semicolon_is f.0 f.1)
 
 zero_is : (t : TokenText) → is_zero t ≡ true → t ≡ Decimal 0 1
 zero_is (Decimal v d) h = grind (arith, eqb-true)
 zero_is t h = cc
 
-pub zero_first : (ts us : Tokens) → behind is_zero ts ≡ Some us → ts ≡ Decimal 0 1 ∷ us
+pub zero_first : (ts us : Tokens) → rest_after is_zero ts ≡ Some us → ts ≡ Decimal 0 1 ∷ us
 zero_first ts us h = let f = first_is is_zero ts us h in f.2 ∙ ap (λ t. t ∷ us) (zero_is f.0 f.1)
 
 -- a token that must stand was there
-pub taken_ok : (fits : TokenText → Bool) (code : Code) (p : ℕ) (ts us : Tokens) → taken fits code p ts ≡ Ok us → behind fits ts ≡ Some us
+pub taken_ok : (fits : TokenText → Bool) (code : Code) (p : ℕ) (ts us : Tokens) → taken fits code p ts ≡ Ok us → rest_after fits ts ≡ Some us
 unfolding taken
-taken_ok fits code p ts us h = by (behind fits ts) refl h
+taken_ok fits code p ts us h = by (rest_after fits ts) refl h
   where
-    by : (o : Option Tokens) → behind fits ts ≡ o → taken_or code p ts o ≡ Ok us → behind fits ts ≡ Some us
+    by : (o : Option Tokens) → rest_after fits ts ≡ o → taken_or code p ts o ≡ Ok us → rest_after fits ts ≡ Some us
     by (Some vs) e g = e ∙ ap Some (same_ok g)
     by None e g = cc
 
@@ -114,7 +114,7 @@ separator_first Nothing ts us h = by (attribute_first ts) h
     by (Some x) g = some_same g
     by None g = cc
 
-pub separator_place : (s : Separator) (p : ℕ) → behind_separator s p ≡ p + length (between s)
+pub separator_place : (s : Separator) (p : ℕ) → after_separator s p ≡ p + length (between s)
 separator_place Commas p = refl
 separator_place Periods p = refl
 separator_place Nothing p = omega arith

@@ -10,7 +10,7 @@ use Rattle.pli_base.specs.declared.token.TokenText.TheVariants.{Sign}
 use Rattle.pli_parse_declaration.specs.DeclarationReading.{items_at, declaration_at}
 use Rattle.pli_parse_declaration.specs.declared.list.Separator.{Separator}
 use Rattle.pli_parse_declaration.specs.declared.list.Separator.TheVariants.{Commas}
-use Rattle.pli_parse_declaration.specs.Separators.{behind_separator}
+use Rattle.pli_parse_declaration.specs.Separators.{after_separator}
 use Rattle.pli_parse_declaration.specs.DeclarationGrammar.{between, SpellsListed, SpellsNames, SpellsItem, SpellsItems, SpellsDeclaration}
 use Rattle.pli_parse_declaration.proofs.DeclarationSteps.{separator_place}
 use Rattle.pli_parse_declaration.proofs.DeclarationItemsRead.{items_reads, declaration_reads}
@@ -24,7 +24,7 @@ listed_rise tokens s Spells rise p ts [] spelled = absurd spelled
 listed_rise tokens s Spells rise p ts (x ∷ []) spelled =
     rises_on (tokens x) [] p (p + length ts) (p + length ts) (p + length ts) (omega arith) (rise p ts x spelled) (omega arith)
 listed_rise tokens s Spells rise p ts (x ∷ y ∷ more) (front, rest, shape, first, later) =
-    let q : ℕ = behind_separator s (p + length front) in
+    let q : ℕ = after_separator s (p + length front) in
     let place : q ≡ p + length front + length (between s) = separator_place s (p + length front) in
     let whole : length ts ≡ length front + (length (between s) + length rest) = omega (arith, ap length shape, length-append front (between s ++ rest), length-append (between s) rest) in
     rises_on (tokens x) (tokens_of_each tokens (y ∷ more)) p (p + length front) q (p + length ts) (omega arith) (rise p front x first)

@@ -1,9 +1,9 @@
--- The grammar of what stands behind DECLARE (X3.74): which tokens spell which tree. Tokens are counted from
+-- The grammar of what stands after DECLARE (X3.74): which tokens spell which tree. Tokens are counted from
 -- 0; p, where it is given, is the place of the first.
 use Rattle.std.specs.Prelude.{◌≡◌, ℕ, ◌+◌, ◌⊎◌, Bool, true, false, Option, Some, None, List, [], ◌∷◌, ◌++◌}
 use Rattle.std.specs.Prelude.{length, codes}
 use Rattle.pli_base.specs.Name.{Name}
-use Rattle.pli_base.specs.Words.{Tokens, is_open, is_comma, behind, SpellsIdentifier}
+use Rattle.pli_base.specs.Words.{Tokens, is_open, is_comma, rest_after, SpellsIdentifier}
 use Rattle.pli_base.specs.Reading.{Front}
 use Rattle.pli_base.specs.declared.token.Sign.TheVariants.{Colon, Semicolon, Comma, Period, OpenParenthesis}
 use Rattle.pli_base.specs.declared.token.Sign.TheVariants.{CloseParenthesis, Plus, Minus, Times}
@@ -21,7 +21,7 @@ use Rattle.pli_base.specs.declared.declaration.InitialValue.TheVariants as initi
 use Rattle.pli_parse_declaration.specs.declared.word.SimpleWord.{SimpleWord}
 use Rattle.pli_parse_declaration.specs.declared.word.SimpleWord.TheVariants as words
 use Rattle.pli_parse_declaration.specs.declared.word.AttributeWord.TheVariants as attribute
-use Rattle.pli_parse_declaration.specs.Separators.{behind_separator}
+use Rattle.pli_parse_declaration.specs.Separators.{after_separator}
 use Rattle.pli_parse_declaration.specs.declared.list.Separator.{Separator}
 use Rattle.pli_parse_declaration.specs.declared.list.Separator.TheVariants.{Commas, Periods, Nothing}
 
@@ -38,7 +38,7 @@ SpellsListed separator Spells p ts [] = ⊥
 SpellsListed separator Spells p ts (x ∷ []) = Spells p ts x
 SpellsListed separator Spells p ts (x ∷ y ∷ more) =
     (front : Tokens) × (rest : Tokens) × (ts ≡ front ++ (between separator ++ rest)) × Spells p front x
-    × SpellsListed separator Spells (behind_separator separator (p + length front)) rest (y ∷ more)
+    × SpellsListed separator Spells (after_separator separator (p + length front)) rest (y ∷ more)
 
 -- what spells it does so at any place
 abbrev pub Anywhere : {A : Type 0} → (Tokens → A → Type 0) → ℕ → Tokens → A → Type 0
@@ -133,23 +133,23 @@ word_of tree.Internal = words.Internal
 word_of tree.Builtin = words.Builtin
 word_of (tree.Initial values) = words.Initial
 
--- what stands behind that keyword
-abbrev pub SpellsBehind : Tokens → tree.SimpleAttribute → Type 0
-SpellsBehind ts (tree.Fixed n) = SpellsOptional SpellsScaled ts n
-SpellsBehind ts (tree.Binary n) = SpellsOptional SpellsScaled ts n
-SpellsBehind ts (tree.Character n) = SpellsOptional SpellsLength ts n
-SpellsBehind ts (tree.Bit n) = SpellsOptional SpellsLength ts n
-SpellsBehind ts (tree.Area n) = SpellsOptional SpellsLength ts n
-SpellsBehind ts (tree.Offset n) = SpellsOptional SpellsName ts n
-SpellsBehind ts (tree.Based names) = SpellsOptional (SpellsList Periods SpellsName) ts names
-SpellsBehind ts (tree.Initial values) = SpellsEnclosed (SpellsList Commas SpellsValue) ts values
-SpellsBehind ts a = ts ≡ []
+-- what stands after that keyword
+abbrev pub SpellsAfter : Tokens → tree.SimpleAttribute → Type 0
+SpellsAfter ts (tree.Fixed n) = SpellsOptional SpellsScaled ts n
+SpellsAfter ts (tree.Binary n) = SpellsOptional SpellsScaled ts n
+SpellsAfter ts (tree.Character n) = SpellsOptional SpellsLength ts n
+SpellsAfter ts (tree.Bit n) = SpellsOptional SpellsLength ts n
+SpellsAfter ts (tree.Area n) = SpellsOptional SpellsLength ts n
+SpellsAfter ts (tree.Offset n) = SpellsOptional SpellsName ts n
+SpellsAfter ts (tree.Based names) = SpellsOptional (SpellsList Periods SpellsName) ts names
+SpellsAfter ts (tree.Initial values) = SpellsEnclosed (SpellsList Commas SpellsValue) ts values
+SpellsAfter ts a = ts ≡ []
 
--- a keyword, long or short, and what stands behind it; no word is reserved
+-- a keyword, long or short, and what stands after it; no word is reserved
 abbrev pub SpellsSimple : Tokens → tree.SimpleAttribute → Type 0
 SpellsSimple ts a =
     (k : Name) × (us : Tokens) × (ts ≡ Word k ∷ us) × (attribute_word k ≡ Some (attribute.Simple (word_of a)))
-    × SpellsBehind us a
+    × SpellsAfter us a
 
 -- the parts of a nest
 pub data Part : Type 0 where
@@ -196,7 +196,7 @@ abbrev pub SpellsParameters : Tokens → List tree.ParameterDescription → Type
 SpellsParameters ts [] = ts ≡ []
 SpellsParameters ts (d ∷ ds) = SpellsList Commas SpellsParameter ts (d ∷ ds)
 
--- "(" attr {attr} ")", behind a RETURNS
+-- "(" attr {attr} ")", after a RETURNS
 abbrev pub SpellsReturned : Tokens → List tree.DescribedAttribute → Type 0
 SpellsReturned ts attributes = SpellsEnclosed (SpellsList Nothing SpellsDescribed) ts attributes
 
@@ -236,7 +236,7 @@ SpellsItem p ts i =
 abbrev pub SpellsItems : ℕ → Tokens → List tree.Item → Type 0
 SpellsItems p ts items = SpellsListed Commas SpellsItem p ts items
 
--- item {"," item} ";", behind DECLARE
+-- item {"," item} ";", after DECLARE
 abbrev pub SpellsDeclaration : ℕ → Tokens → List tree.Item → Type 0
 SpellsDeclaration p ts items = (us : Tokens) × (ts ≡ us ++ Sign Semicolon ∷ []) × SpellsItems p us items
 
@@ -247,4 +247,4 @@ SpellsFront Spells p ts x =
 
 -- no item goes on at these tokens: they begin with no comma, parenthesis or keyword of an attribute
 abbrev pub EndsItems : Tokens → Type 0
-EndsItems ts = (behind is_comma ts ≡ None) × (with_attribute ts ≡ None) × (behind is_open ts ≡ None)
+EndsItems ts = (rest_after is_comma ts ≡ None) × (with_attribute ts ≡ None) × (rest_after is_open ts ≡ None)

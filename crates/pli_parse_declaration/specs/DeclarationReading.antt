@@ -1,10 +1,10 @@
--- Reading what stands behind DECLARE (X3.74): items, or the one fault. Tokens are counted from 0, and p is
+-- Reading what stands after DECLARE (X3.74): items, or the one fault. Tokens are counted from 0, and p is
 -- the place of the first. A part that need not stand is passed over, so a fault is about what must stand
 -- next.
 use Rattle.std.specs.Prelude.{ℕ, zero, suc, ◌+◌, nat_eq, Bool, true, false, Option, Some, None, Result}
 use Rattle.std.specs.Prelude.{Ok, List, [], ◌∷◌, length, codes, if◌then◌else◌}
 use Rattle.pli_base.specs.Name.{Name}
-use Rattle.pli_base.specs.Words.{Tokens, same_name, is_open, is_close, is_comma, is_semicolon, behind}
+use Rattle.pli_base.specs.Words.{Tokens, same_name, is_open, is_close, is_comma, is_semicolon, rest_after}
 use Rattle.pli_base.specs.Words.{name_first, is_colon}
 use Rattle.pli_base.specs.Results.{◌>>=◌}
 use Rattle.pli_base.specs.Reading.{at_fault, Front, expected, read_as, mapped, taken, enclosed}
@@ -34,16 +34,16 @@ use Rattle.pli_parse_declaration.specs.declared.nest.Open.{Open}
 use Rattle.pli_parse_declaration.specs.declared.nest.Open.TheVariants as opened
 use Rattle.pli_parse_declaration.specs.declared.nest.Expects.{Expects}
 use Rattle.pli_parse_declaration.specs.declared.nest.Expects.TheVariants as expects
-use Rattle.pli_parse_declaration.specs.Separators.{separated, behind_separator}
+use Rattle.pli_parse_declaration.specs.Separators.{separated, after_separator}
 use Rattle.pli_parse_declaration.specs.declared.list.Separator.{Separator}
 use Rattle.pli_parse_declaration.specs.declared.list.Separator.TheVariants.{Commas, Periods, Nothing}
 
--- behind a value of a list: what more reads, or the list's end
+-- after a value of a list: what more reads, or the list's end
 abbrev pub listed_after : {A : Type 0} → Separator → (more : ℕ → Tokens → Result (Front (List A)) Fault)
     → Front A → Option Tokens → Result (Front (List A)) Fault
 listed_after separator more x None = read_as (x.value ∷ []) x.next x.rest
 listed_after separator more x (Some us) =
-    more (behind_separator separator x.next) us >>= λ y. read_as (x.value ∷ y.value) y.next y.rest
+    more (after_separator separator x.next) us >>= λ y. read_as (x.value ∷ y.value) y.next y.rest
 
 -- one or more of what `one` reads; each takes one of the bound, which is more than the number of tokens
 unfoldable pub listed_at : {A : Type 0} → Separator → (one : ℕ → Tokens → Result (Front A) Fault)
@@ -73,14 +73,14 @@ integer_at p (Sign Plus ∷ ts) = signed false (number_at (p + 1) ts)
 integer_at p (Sign Minus ∷ ts) = signed true (number_at (p + 1) ts)
 integer_at p ts = signed false (number_at p ts)
 
--- a lower bound is one behind which a colon stands
+-- a lower bound is one after which a colon stands
 abbrev pub bounds_from : Front Integer → Option Tokens → Result (Front WrittenBounds) Fault
 bounds_from x None = read_as (limits.Stated None x.value) x.next x.rest
 bounds_from x (Some us) = mapped (limits.Stated (Some x.value)) (integer_at (x.next + 1) us)
 
 -- bounds that are written: one number, or two with a colon between them
 abbrev pub stated_at : ℕ → Tokens → Result (Front WrittenBounds) Fault
-stated_at p ts = integer_at p ts >>= λ x. bounds_from x (behind is_colon x.rest)
+stated_at p ts = integer_at p ts >>= λ x. bounds_from x (rest_after is_colon x.rest)
 
 -- the bounds of a dimension: `*`, or those that are written
 unfoldable pub bounds_at : ℕ → Tokens → Result (Front WrittenBounds) Fault
@@ -89,7 +89,7 @@ bounds_at p ts = stated_at p ts
 
 -- dimensions in parentheses, or none
 unfoldable pub dimensions_at : ℕ → Tokens → Result (Front (List WrittenBounds)) Fault
-dimensions_at p ts = mapped or_none (if_open (list_at Commas bounds_at) p ts (behind is_open ts))
+dimensions_at p ts = mapped or_none (if_open (list_at Commas bounds_at) p ts (rest_after is_open ts))
 
 -- a length or a size: `*`, or a number
 unfoldable pub extent_at : ℕ → Tokens → Result (Front WrittenLength) Fault
@@ -98,7 +98,7 @@ extent_at p ts = mapped extent.Stated (number_at p ts)
 
 -- the same in parentheses
 unfoldable pub length_at : ℕ → Tokens → Result (Front (Option WrittenLength)) Fault
-length_at p ts = if_open extent_at p ts (behind is_open ts)
+length_at p ts = if_open extent_at p ts (rest_after is_open ts)
 
 -- a scale is 0
 abbrev pub with_scale : Front ℕ → Option Tokens → Result (Front ℕ) Fault
@@ -108,11 +108,11 @@ with_scale x (Some us) =
 
 -- a precision, perhaps with the scale 0
 unfoldable pub scaled_at : ℕ → Tokens → Result (Front ℕ) Fault
-scaled_at p ts = number_at p ts >>= λ x. with_scale x (behind is_comma x.rest)
+scaled_at p ts = number_at p ts >>= λ x. with_scale x (rest_after is_comma x.rest)
 
 -- a precision in parentheses
 unfoldable pub precision_at : ℕ → Tokens → Result (Front (Option ℕ)) Fault
-precision_at p ts = if_open scaled_at p ts (behind is_open ts)
+precision_at p ts = if_open scaled_at p ts (rest_after is_open ts)
 
 -- a name
 abbrev pub name_from : ℕ → Tokens → Option (Name × Tokens) → Result (Front Name) Fault
@@ -129,11 +129,11 @@ identifier_at p ts = mapped (λ n. record { name = n; at = p }) (name_at p ts)
 
 -- the name of an area in parentheses
 unfoldable pub area_at : ℕ → Tokens → Result (Front (Option Name)) Fault
-area_at p ts = if_open name_at p ts (behind is_open ts)
+area_at p ts = if_open name_at p ts (rest_after is_open ts)
 
 -- a locator in parentheses: a name, qualified by those before it
 unfoldable pub locator_at : ℕ → Tokens → Result (Front (Option (List Name))) Fault
-locator_at p ts = if_open (list_at Periods name_at) p ts (behind is_open ts)
+locator_at p ts = if_open (list_at Periods name_at) p ts (rest_after is_open ts)
 
 -- a factor stands before an integer only
 unfoldable pub repeated_at : ℕ → Tokens → Result (Front InitialValue) Fault
@@ -153,7 +153,7 @@ value_at p (Characters s ∷ ts) = read_as (initial.Characters s) (p + 1) ts
 value_at p (Bits s ∷ ts) = read_as (initial.Bits s) (p + 1) ts
 value_at p (Sign OpenParenthesis ∷ ts) = repeated_at (p + 1) ts
 value_at p (Word n ∷ ts) =
-    if same_name n (codes "NULL") then null_from (p + 1) ts (behind is_open ts)
+    if same_name n (codes "NULL") then null_from (p + 1) ts (rest_after is_open ts)
     else expected ConstantExpected p (Word n ∷ ts)
 value_at p ts = mapped (initial.Integer None) (integer_at p ts)
 
@@ -162,7 +162,7 @@ unfoldable pub values_at : ℕ → Tokens → Result (Front (List InitialValue))
 values_at p ts =
     taken is_open ParenthesisExpected p ts >>= λ us. enclosed (list_at Commas value_at (p + 1) us)
 
--- behind the keyword of a simple attribute
+-- after the keyword of a simple attribute
 unfoldable pub simple_of : SimpleWord → ℕ → Tokens → Result (Front tree.SimpleAttribute) Fault
 simple_of words.Fixed p ts = mapped tree.Fixed (precision_at p ts)
 simple_of words.Binary p ts = mapped tree.Binary (precision_at p ts)
@@ -189,7 +189,7 @@ pub record Walk : Type 0 where
   pub next : ℕ
   pub rest : Tokens
 
--- a description in the parentheses of an ENTRY: its attributes must stand behind its dimensions
+-- a description in the parentheses of an ENTRY: its attributes must stand after its dimensions
 unfoldable pub description_walk : List Open → ℕ → Tokens → Result Walk Fault
 description_walk opens p ts =
     dimensions_at p ts >>= λ x. Ok (record {
@@ -200,19 +200,19 @@ description_walk opens p ts =
       rest = x.rest;
     })
 
--- behind `ENTRY(`: `)`, or a description
+-- after `ENTRY(`: `)`, or a description
 abbrev pub parameters_walk : List Open → ℕ → Tokens → Option Tokens → Result Walk Fault
 parameters_walk opens p us (Some vs) =
     Ok (record { opens = opens; expects = expects.More; next = p + 1; rest = vs })
 parameters_walk opens p us None =
     if begins_description us then description_walk opens p us else expected ParenthesisExpected p us
 
--- behind ENTRY
+-- after ENTRY
 abbrev pub entry_walk : List Open → ℕ → Tokens → Option Tokens → Result Walk Fault
 entry_walk opens p ts None = Ok (record { opens = opens; expects = expects.More; next = p; rest = ts })
-entry_walk opens p ts (Some us) = parameters_walk opens (p + 1) us (behind is_close us)
+entry_walk opens p ts (Some us) = parameters_walk opens (p + 1) us (rest_after is_close us)
 
--- behind the keyword of an attribute
+-- after the keyword of an attribute
 unfoldable pub word_walk : List Open → AttributeWord → ℕ → Tokens → Result Walk Fault
 word_walk opens (attribute.Simple w) p ts =
     simple_of w p ts >>= λ x. Ok (record {
@@ -221,7 +221,7 @@ word_walk opens (attribute.Simple w) p ts =
       next = x.next;
       rest = x.rest;
     })
-word_walk opens attribute.Entry p ts = entry_walk opens p ts (behind is_open ts)
+word_walk opens attribute.Entry p ts = entry_walk opens p ts (rest_after is_open ts)
 word_walk opens attribute.Returns p ts =
     taken is_open ParenthesisExpected p ts >>= λ us. Ok (record {
       opens = opened.Returns
@@ -231,28 +231,28 @@ word_walk opens attribute.Returns p ts =
       rest = us;
     })
 
--- behind an attribute where no other begins: the innermost parenthesis closes, or in an ENTRY another
+-- after an attribute where no other begins: the innermost parenthesis closes, or in an ENTRY another
 -- description follows
 abbrev pub closed_walk : List Open → ℕ → Tokens → Option Tokens → Result Walk Fault
 closed_walk opens p ts (Some us) =
     Ok (record { opens = opens; expects = expects.More; next = p + 1; rest = us })
 closed_walk opens p ts None = expected ParenthesisExpected p ts
 
--- behind a comma another parameter description begins; else the parenthesis closes
+-- after a comma another parameter description begins; else the parenthesis closes
 abbrev pub comma_walk : List Open → ℕ → Tokens → Option Tokens → Result Walk Fault
 comma_walk opens p ts (Some us) = description_walk opens (p + 1) us
-comma_walk opens p ts None = closed_walk opens p ts (behind is_close ts)
+comma_walk opens p ts None = closed_walk opens p ts (rest_after is_close ts)
 
 -- what follows an attribute inside the parentheses that are open
-unfoldable pub behind_walk : List Open → ℕ → Tokens → Result Walk Fault
-behind_walk [] p ts = expected ParenthesisExpected p ts
-behind_walk (opened.Entry ∷ opens) p ts = comma_walk opens p ts (behind is_comma ts)
-behind_walk (opened.Returns ∷ opens) p ts = closed_walk opens p ts (behind is_close ts)
+unfoldable pub after_attributes_walk : List Open → ℕ → Tokens → Result Walk Fault
+after_attributes_walk [] p ts = expected ParenthesisExpected p ts
+after_attributes_walk (opened.Entry ∷ opens) p ts = comma_walk opens p ts (rest_after is_comma ts)
+after_attributes_walk (opened.Returns ∷ opens) p ts = closed_walk opens p ts (rest_after is_close ts)
 
 -- where no attribute's keyword stands
 abbrev pub no_word_walk : List Open → Expects → ℕ → Tokens → Result Walk Fault
 no_word_walk opens expects.Attribute p ts = expected BadAttribute p ts
-no_word_walk opens expects.More p ts = behind_walk opens p ts
+no_word_walk opens expects.More p ts = after_attributes_walk opens p ts
 
 -- the next attribute, if a word for one stands here
 abbrev pub walk_by : List Open → Expects → ℕ → Tokens → Option (AttributeWord × Tokens) → Result Walk Fault
@@ -306,7 +306,7 @@ parameter_at p ts = do
     attributes = attributes.value;
   }) attributes.next attributes.rest
 
--- behind `ENTRY(`: `)`, or descriptions and `)`
+-- after `ENTRY(`: `)`, or descriptions and `)`
 abbrev pub parameters_from : ℕ → Tokens → Option Tokens
     → Result (Front (List tree.ParameterDescription)) Fault
 parameters_from p us (Some vs) = read_as [] (p + 1) vs
@@ -316,9 +316,9 @@ parameters_from p us None =
 
 -- the parameter descriptions of ENTRY up to its parenthesis
 unfoldable pub parameters_at : ℕ → Tokens → Result (Front (List tree.ParameterDescription)) Fault
-parameters_at p us = parameters_from p us (behind is_close us)
+parameters_at p us = parameters_from p us (rest_after is_close us)
 
--- behind ENTRY
+-- after ENTRY
 abbrev pub entry_from : ℕ → Tokens → Option Tokens
     → Result (Front (Option (List tree.ParameterDescription))) Fault
 entry_from p ts None = read_as None p ts
@@ -326,9 +326,9 @@ entry_from p ts (Some us) = mapped Some (parameters_at (p + 1) us)
 
 -- the parameter descriptions of ENTRY, if there are any
 unfoldable pub entry_at : ℕ → Tokens → Result (Front (Option (List tree.ParameterDescription))) Fault
-entry_at p ts = entry_from p ts (behind is_open ts)
+entry_at p ts = entry_from p ts (rest_after is_open ts)
 
--- behind RETURNS: attributes in parentheses
+-- after RETURNS: attributes in parentheses
 unfoldable pub returned_at : ℕ → Tokens → Result (Front (List tree.DescribedAttribute)) Fault
 returned_at p ts =
     taken is_open ParenthesisExpected p ts >>= λ us. enclosed (list_at Nothing described_at (p + 1) us)
@@ -366,7 +366,7 @@ names_from p ts (Some us) = enclosed (list_at Commas identifier_at (p + 1) us)
 
 -- the name of an item, or its names in parentheses
 unfoldable pub names_at : ℕ → Tokens → Result (Front (List Identifier)) Fault
-names_at p ts = names_from p ts (behind is_open ts)
+names_at p ts = names_from p ts (rest_after is_open ts)
 
 -- one item of DECLARE: level, names, dimensions, attributes
 unfoldable pub item_at : ℕ → Tokens → Result (Front tree.Item) Fault
@@ -381,11 +381,11 @@ item_at p ts = do
     attributes = attributes.value;
   }) attributes.next attributes.rest
 
--- behind DECLARE, up to what neither continues an item nor is a comma
+-- after DECLARE, up to what neither continues an item nor is a comma
 abbrev pub items_at : ℕ → Tokens → Result (Front (List tree.Item)) Fault
 items_at p ts = list_at Commas item_at p ts
 
--- behind DECLARE, with the `;`
+-- after DECLARE, with the `;`
 unfoldable pub declaration_at : ℕ → Tokens → Result (Front (List tree.Item)) Fault
 declaration_at p ts =
     items_at p ts >>= λ x. taken is_semicolon SemicolonExpected x.next x.rest >>= λ rest. read_as x.value

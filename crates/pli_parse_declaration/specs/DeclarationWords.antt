@@ -2,7 +2,7 @@
 use Rattle.std.specs.Prelude.{Bool, false, ◌||◌, ◌&&◌, is_some, nat_eq, ◌∷◌, codes, Option, Some}
 use Rattle.std.specs.Prelude.{None, if◌then◌else◌}
 use Rattle.pli_base.specs.Name.{Name}
-use Rattle.pli_base.specs.Words.{Tokens, same_name, is_open, behind}
+use Rattle.pli_base.specs.Words.{Tokens, same_name, is_open, rest_after}
 use Rattle.pli_base.specs.declared.token.TokenText.{TokenText}
 use Rattle.pli_base.specs.declared.token.TokenText.TheVariants.{Word, Decimal}
 use Rattle.pli_parse_declaration.specs.declared.word.SimpleWord.{SimpleWord}
@@ -59,12 +59,12 @@ word_or None other = other
 unfoldable pub attribute_word : Name → Option AttributeWord
 attribute_word n = word_or (data_word n) (word_or (storage_word n) (nesting_word n))
 
--- the keyword, if it is one, with the tokens behind it
+-- the keyword, if it is one, with the tokens after it
 abbrev pub with_rest : Tokens → Option AttributeWord → Option (AttributeWord × Tokens)
 with_rest us (Some w) = Some (w, us)
 with_rest us None = None
 
--- the attribute whose keyword the first token is, and the tokens behind it
+-- the attribute whose keyword the first token is, and the tokens after it
 unfoldable pub attribute_first : Tokens → Option (AttributeWord × Tokens)
 attribute_first (Word n ∷ us) = with_rest us (attribute_word n)
 attribute_first _ = None
@@ -85,4 +85,4 @@ with_attribute ts = if_first ts (attribute_first ts)
 
 -- a description of a parameter begins with its dimensions or an attribute
 unfoldable pub begins_description : Tokens → Bool
-begins_description ts = is_some (behind is_open ts) || is_some (attribute_first ts)
+begins_description ts = is_some (rest_after is_open ts) || is_some (attribute_first ts)

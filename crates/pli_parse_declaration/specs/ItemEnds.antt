@@ -4,11 +4,11 @@ use Rattle.pli_base.specs.Words.{Tokens, is_open, is_comma}
 use Rattle.pli_base.specs.Declarations as tree
 use Rattle.pli_base.specs.declared.declaration.WrittenBounds.{WrittenBounds}
 use Rattle.pli_parse_declaration.specs.DeclarationWords.{with_attribute}
-use Rattle.pli_base.specs.Words.{behind}
+use Rattle.pli_base.specs.Words.{rest_after}
 
 -- where something may stand in parentheses and does not, `(` goes on
 abbrev pub OptionEnds : {A : Type 0} → Option A → Tokens → Type 0
-OptionEnds None ts = behind is_open ts ≡ None
+OptionEnds None ts = rest_after is_open ts ≡ None
 OptionEnds (Some x) ts = Unit {0}
 
 -- an attribute that may have a number or names in parentheses ends so; the others end as they stand
@@ -30,7 +30,7 @@ AttributeEnds (tree.Returns attributes) ts = Unit {0}
 
 -- where dimensions may stand and do not, `(` goes on
 abbrev pub DimensionsEnd : List WrittenBounds → Tokens → Type 0
-DimensionsEnd [] ts = behind is_open ts ≡ None
+DimensionsEnd [] ts = rest_after is_open ts ≡ None
 DimensionsEnd (b ∷ bs) ts = Unit {0}
 
 -- the last of a list ends
@@ -50,4 +50,4 @@ ItemEnds item ts = (with_attribute ts ≡ None) × AttributesEnd item.dimensions
 
 -- and a comma with a list of items
 abbrev pub ItemsEnd : List tree.Item → Tokens → Type 0
-ItemsEnd items ts = (behind is_comma ts ≡ None) × LastEnds ItemEnds items ts
+ItemsEnd items ts = (rest_after is_comma ts ≡ None) × LastEnds ItemEnds items ts

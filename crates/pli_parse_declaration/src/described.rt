@@ -16,7 +16,7 @@ use crate::nest::nest_at;
 use crate::simple::simple_of;
 use crate::word::AttributeWord;
 use pli_base::declaration::{DescribedAttribute, ParameterDescription};
-use pli_base::{Code, Front, ParseError, TokenText, behind_close, close_taken, misfit, open_taken};
+use pli_base::{Code, Front, ParseError, TokenText, after_close, close_taken, misfit, open_taken};
 use std::alloc::Global;
 
 /// An attribute of a description.
@@ -106,7 +106,7 @@ impl ListReader for EachParameter {
     }
 }
 
-/// Descriptions of parameters and the `)`, behind `ENTRY(`.
+/// Descriptions of parameters and the `)`, after `ENTRY(`.
 #[tactic(auto, unfolding(crate::specs::DeclarationReading::parameters_at))]
 pub fn parameters_at<'a>(
     alloc: Global,
@@ -117,7 +117,7 @@ pub fn parameters_at<'a>(
     ensures value { Gives (front_view (λ v. map parameter_view v.items)) result (parameters_at at texts.now) }
     ensures place { IfOk result (Advances at texts.now) }
 {
-    match behind_close(texts) {
+    match after_close(texts) {
         Some(rest) => Ok(Front::new(Vec::new(alloc), at + 1, rest)),
         None => {
             if !begins_description(texts) {
@@ -136,7 +136,7 @@ pub fn parameters_at<'a>(
     }
 }
 
-/// The attributes of a result in parentheses: what stands behind RETURNS, of PROCEDURE too.
+/// The attributes of a result in parentheses: what stands after RETURNS, of PROCEDURE too.
 #[tactic(auto, unfolding(crate::specs::DeclarationReading::returned_at))]
 pub fn returned_at<'a>(
     alloc: Global,

@@ -14,11 +14,11 @@ use crate::front::{number_at, zero_taken};
 use crate::list::{ListReader, Separator, list_at};
 use pli_base::declaration::{Integer, WrittenBounds, WrittenLength};
 use pli_base::{
-    Front, ParseError, Sign, TokenText, behind_colon, behind_comma, behind_open, close_taken,
+    Front, ParseError, Sign, TokenText, after_colon, after_comma, after_open, close_taken,
 };
 use std::alloc::Global;
 
-/// A constant behind its sign, if it has one.
+/// A constant after its sign, if it has one.
 #[tactic(auto)]
 fn signed_at(negative: bool, at: u32, texts: &[TokenText]) -> Result<Front<'_, Integer>, ParseError>
     requires { at + length texts.now ≤ 200000 }
@@ -55,7 +55,7 @@ fn stated_at(at: u32, texts: &[TokenText]) -> Result<Front<'_, WrittenBounds>, P
     ensures place { IfOk result (Advances at texts.now) }
 {
     let first = integer_at(at, texts)?;
-    match behind_colon(first.rest) {
+    match after_colon(first.rest) {
         Some(rest) => {
             let high = integer_at(first.next + 1, rest)?;
             Ok(Front::new(
@@ -121,7 +121,7 @@ pub fn dimensions_at<'a>(
     ensures value { Gives (front_view (λ v. v.items)) result (dimensions_at at texts.now) }
     ensures place { IfOk result (Continues at texts.now) }
 {
-    match behind_open(texts) {
+    match after_open(texts) {
         Some(inside) => {
             let bounds = list_at(alloc, Separator::Commas, &EachBounds, at + 1, inside)?;
             let rest = close_taken(bounds.next, bounds.rest)?;
@@ -139,7 +139,7 @@ fn scaled_at(at: u32, texts: &[TokenText]) -> Result<Front<'_, u64>, ParseError>
     ensures place { IfOk result (Advances at texts.now) }
 {
     let number = number_at(at, texts)?;
-    match behind_comma(number.rest) {
+    match after_comma(number.rest) {
         Some(scale) => {
             let rest = zero_taken(number.next + 1, scale)?;
             Ok(Front::new(number.value, number.next + 2, rest))
@@ -180,7 +180,7 @@ pub fn length_at(
     ensures value { Gives (front_view (λ n. n)) result (length_at at texts.now) }
     ensures place { IfOk result (Continues at texts.now) }
 {
-    match behind_open(texts) {
+    match after_open(texts) {
         Some(inside) => {
             let extent = extent_at(at + 1, inside)?;
             let rest = close_taken(extent.next, extent.rest)?;
@@ -197,7 +197,7 @@ pub fn precision_at(at: u32, texts: &[TokenText]) -> Result<Front<'_, Option<u64
     ensures value { Gives (front_view (λ n. n)) result (precision_at at texts.now) }
     ensures place { IfOk result (Continues at texts.now) }
 {
-    match behind_open(texts) {
+    match after_open(texts) {
         Some(inside) => {
             let number = scaled_at(at + 1, inside)?;
             let rest = close_taken(number.next, number.rest)?;

@@ -1,4 +1,4 @@
-//! The first tokens of a list: what they are, and what is behind them.
+//! The first tokens of a list: what they are, and what is after them.
 ghost use Rattle.std.specs.Option.{option_copied};
 ghost use Rattle.std.specs.Prelude.{◌≡◌, ℕ, option_map, ◌≤◌, ◌+◌, length, IfOk, IfSome};
 ghost use Rattle.pli_base.specs.Reading.{taken};
@@ -10,10 +10,10 @@ ghost use Rattle.pli_parse_declaration.specs.DeclarationReading.{number_at, leve
 ghost use Rattle.pli_parse_declaration.specs.answers.DeclarationAnswers.{number_from, level_from};
 
 use crate::word::{AttributeWord, attribute_word};
-use pli_base::{Code, Front, ParseError, TokenText, behind_open, misfit};
+use pli_base::{Code, Front, ParseError, TokenText, after_open, misfit};
 
-/// The tokens behind the constant 0, which must stand.
-#[tactic(auto, unfolding(pli_base::specs::Reading::taken, pli_base::specs::Words::behind))]
+/// The tokens after the constant 0, which must stand.
+#[tactic(auto, unfolding(pli_base::specs::Reading::taken, pli_base::specs::Words::rest_after))]
 pub fn zero_taken(at: u32, texts: &[TokenText]) -> Result<&[TokenText], ParseError>
     ensures value { Gives (λ rest. rest.now) result (taken is_zero Code.ConstantExpected at texts.now) }
     ensures place { IfOk result (λ rest. length rest.now + 1 ≡ length texts.now) }
@@ -26,7 +26,7 @@ pub fn zero_taken(at: u32, texts: &[TokenText]) -> Result<&[TokenText], ParseErr
     }
 }
 
-/// The attribute whose keyword the tokens begin with, and the tokens behind it.
+/// The attribute whose keyword the tokens begin with, and the tokens after it.
 #[tactic(auto, unfolding(crate::specs::DeclarationWords::attribute_first))]
 pub fn attribute_first(texts: &[TokenText]) -> Option<(AttributeWord, &[TokenText])>
     ensures value { attribute_first texts.now ≡ option_map (λ x. (x.0, x.1.now)) result }
@@ -57,10 +57,10 @@ pub fn with_attribute(texts: &[TokenText]) -> Option<&[TokenText]>
 pub fn begins_description(texts: &[TokenText]) -> bool
     ensures { result ≡ begins_description texts.now }
 {
-    behind_open(texts).is_some() || attribute_first(texts).is_some()
+    after_open(texts).is_some() || attribute_first(texts).is_some()
 }
 
-/// The value of the decimal or binary constant that the tokens begin with, and the tokens behind it.
+/// The value of the decimal or binary constant that the tokens begin with, and the tokens after it.
 #[tactic(auto, unfolding(crate::specs::DeclarationReading::number_at, crate::specs::DeclarationReading::level_at))]
 fn number_first(texts: &[TokenText]) -> Option<(u64, &[TokenText])>
     ensures number { (at : ℕ) → number_at at texts.now ≡ number_from at texts.now

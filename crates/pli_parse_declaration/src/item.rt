@@ -21,12 +21,12 @@ use crate::word::AttributeWord;
 use pli_base::declaration::{Attribute, Item};
 use pli_base::syntax::Identifier;
 use pli_base::{
-    Code, Front, ParseError, TokenText, behind_open, close_taken, misfit, name_first,
+    Code, Front, ParseError, TokenText, after_open, close_taken, misfit, name_first,
     semicolon_taken,
 };
 use std::alloc::Global;
 
-/// Descriptions of parameters in parentheses, or none: what stands behind ENTRY.
+/// Descriptions of parameters in parentheses, or none: what stands after ENTRY.
 #[tactic(auto, unfolding(crate::specs::DeclarationReading::entry_at))]
 fn entry_at<'a>(
     alloc: Global,
@@ -37,7 +37,7 @@ fn entry_at<'a>(
     ensures value { Gives (front_view attribute_view) result (mapped tree.Entry (entry_at at texts.now)) }
     ensures place { IfOk result (Continues at texts.now) }
 {
-    match behind_open(texts) {
+    match after_open(texts) {
         Some(inside) => {
             let parameters = parameters_at(alloc, at + 1, inside)?;
             Ok(Front::new(
@@ -168,7 +168,7 @@ fn names_at<'a>(
     ensures value { Gives (front_view (λ v. v.items)) result (names_at at texts.now) }
     ensures place { IfOk result (Advances at texts.now) }
 {
-    match behind_open(texts) {
+    match after_open(texts) {
         Some(inside) => {
             let names = identifiers_at(alloc, at + 1, inside)?;
             let rest = close_taken(names.next, names.rest)?;
@@ -224,7 +224,7 @@ impl ListReader for EachItem {
     }
 }
 
-/// Items with commas between: what stands behind DECLARE, up to what neither continues an item nor is a comma.
+/// Items with commas between: what stands after DECLARE, up to what neither continues an item nor is a comma.
 pub fn items_at<'a>(
     alloc: Global,
     at: u32,
@@ -237,7 +237,7 @@ pub fn items_at<'a>(
     list_at(alloc, Separator::Commas, &EachItem { alloc }, at, texts)
 }
 
-/// Items with the statement's `;`: all that stands behind DECLARE.
+/// Items with the statement's `;`: all that stands after DECLARE.
 #[tactic(auto, unfolding(crate::specs::DeclarationReading::declaration_at))]
 pub fn declaration_at<'a>(
     alloc: Global,

@@ -11,20 +11,20 @@ ghost use Rattle.pli_parse_declaration.specs.DeclarationGrammar.{SpellsFront, Sp
 ghost use Rattle.pli_parse_declaration.specs.DeclarationGrammar.{SpellsReturned, Anywhere, EndsItems};
 ghost use Rattle.pli_parse_declaration.specs.ItemEnds.{ItemsEnd};
 ghost use Rattle.pli_parse_declaration.specs.examples.DeclarationExamples.{NameThatIsKeyword, Levels, Nest, Asterisks};
-ghost use Rattle.pli_parse_declaration.specs.examples.DeclarationExamples.{NoAsteriskBehindColon};
+ghost use Rattle.pli_parse_declaration.specs.examples.DeclarationExamples.{NoAsteriskAfterColon};
 ghost use Rattle.pli_parse_declaration.specs.examples.DeclarationExamples.{NoAsteriskAsPrecision, Values, WrongWord};
 ghost use Rattle.pli_parse_declaration.specs.examples.DeclarationExamples.{NoLevelInParentheses, NoScaleButZero};
 ghost use Rattle.pli_parse_declaration.specs.examples.DeclarationExamples.{NoFactorOfString, NoDescription};
-ghost use Rattle.pli_parse_declaration.specs.examples.DeclarationExamples.{NoDescriptionBehindComma, NoAttributeInNest};
+ghost use Rattle.pli_parse_declaration.specs.examples.DeclarationExamples.{NoDescriptionAfterComma, NoAttributeInNest};
 ghost use Rattle.pli_parse_declaration.specs.examples.DeclarationExamples.{TextEnds};
 
-/// Worked examples of what is read behind DECLARE, and of faults.
+/// Worked examples of what is read after DECLARE, and of faults.
 pub fn worked_examples()
     ensures name_that_is_keyword { NameThatIsKeyword }
     ensures levels { Levels }
     ensures nest { Nest }
     ensures asterisks { Asterisks }
-    ensures no_asterisk_behind_colon { NoAsteriskBehindColon }
+    ensures no_asterisk_after_colon { NoAsteriskAfterColon }
     ensures no_asterisk_as_precision { NoAsteriskAsPrecision }
     ensures values { Values }
     ensures wrong_word { WrongWord }
@@ -32,12 +32,12 @@ pub fn worked_examples()
     ensures no_scale_but_zero { NoScaleButZero }
     ensures no_factor_of_string { NoFactorOfString }
     ensures no_description { NoDescription }
-    ensures no_description_behind_comma { NoDescriptionBehindComma }
+    ensures no_description_after_comma { NoDescriptionAfterComma }
     ensures no_attribute_in_nest { NoAttributeInNest }
     ensures text_ends { TextEnds }
 {}
 
-/// A law: what is read is spelled so, of items, of all that stands behind DECLARE, and of what stands behind RETURNS.
+/// A law: what is read is spelled so, of items, of all that stands after DECLARE, and of what stands after RETURNS.
 pub fn declarations_read_are_spelled()
     ensures items { (p : ℕ) (ts : Tokens) (x : Front (List tree.Item)) →
         items_at p ts ≡ Ok x → SpellsFront SpellsItems p ts x }

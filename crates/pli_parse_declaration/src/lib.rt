@@ -1,4 +1,4 @@
-//! What stands behind DECLARE: items with dimensions and attributes, from their trees to their parser.
+//! What stands after DECLARE: items with dimensions and attributes, from their trees to their parser.
 #![tactic(auto)]
 
 mod described;

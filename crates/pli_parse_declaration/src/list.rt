@@ -5,11 +5,11 @@ ghost use Rattle.pli_base.specs.Reading as reading;
 ghost use Rattle.pli_base.specs.declared.token.Fault as token;
 ghost use Rattle.pli_base.specs.answers.FailureAnswers.{Gives};
 ghost use Rattle.pli_base.specs.answers.ReadingAnswers.{Advances, front_view};
-ghost use Rattle.pli_parse_declaration.specs.Separators.{separated, behind_separator};
+ghost use Rattle.pli_parse_declaration.specs.Separators.{separated, after_separator};
 ghost use Rattle.pli_parse_declaration.specs.DeclarationReading.{list_at};
 
 use crate::front::with_attribute;
-use pli_base::{Front, ParseError, TokenText, behind_comma, behind_period};
+use pli_base::{Front, ParseError, TokenText, after_comma, after_period};
 use std::alloc::Global;
 
 /// What reads one value of a list.
@@ -68,10 +68,10 @@ pub fn list_at<'a, R: ListReader>(
     loop {
         let read = reader.read(next, rest)?;
         values.push(read.value)?;
-        match behind_separator(separator, read.next, read.rest) {
-            Some(behind) => {
-                next = behind.next;
-                rest = behind.rest;
+        match after_separator(separator, read.next, read.rest) {
+            Some(after) => {
+                next = after.next;
+                rest = after.rest;
             }
             None => {
                 return Ok(Front {
@@ -85,18 +85,18 @@ pub fn list_at<'a, R: ListReader>(
 }
 
 /// The place and the tokens of the next value, if the list goes on.
-fn behind_separator(separator: Separator, at: u32, texts: &[TokenText]) -> Option<Front<'_, ()>>
+fn after_separator(separator: Separator, at: u32, texts: &[TokenText]) -> Option<Front<'_, ()>>
     requires { at + length texts.now ≤ 200000 }
     ensures value { separated separator texts.now ≡ option_map (λ x. x.rest.now) result }
-    ensures next { IfSome result (λ x. x.next ≡ behind_separator separator at) }
+    ensures next { IfSome result (λ x. x.next ≡ after_separator separator at) }
     ensures place { IfSome result (λ x. (at ≤ x.next) × (x.next + length x.rest.now ≡ at + length texts.now)) }
 {
     match separator {
-        Separator::Commas => match behind_comma(texts) {
+        Separator::Commas => match after_comma(texts) {
             Some(rest) => Some(Front::new((), at + 1, rest)),
             None => None,
         },
-        Separator::Periods => match behind_period(texts) {
+        Separator::Periods => match after_period(texts) {
             Some(rest) => Some(Front::new((), at + 1, rest)),
             None => None,
         },

@@ -1,9 +1,9 @@
 //! An ENTRY or RETURNS in a description. Nothing is kept of it, and it may be as deep as a text is long: so it is
 //! walked by a loop, with a list of the parentheses that are open.
 ghost use Rattle.std.specs.Prelude.{◌≡◌, ◌≤◌, ◌+◌, ◌<◌, [], ◌∷◌, List, Some, length, nat_eq, IfOk, MatchOption};
-ghost use Rattle.pli_base.specs.Words.{is_close, behind};
+ghost use Rattle.pli_base.specs.Words.{is_close, rest_after};
 ghost use Rattle.pli_parse_declaration.specs.DeclarationReading.{description_walk, parameters_walk, word_walk};
-ghost use Rattle.pli_parse_declaration.specs.DeclarationReading.{closed_walk, behind_walk, step_at, is_over, nest_at};
+ghost use Rattle.pli_parse_declaration.specs.DeclarationReading.{closed_walk, after_attributes_walk, step_at, is_over, nest_at};
 ghost use Rattle.pli_parse_declaration.specs.answers.DeclarationAnswers.{walk_view};
 ghost use Rattle.pli_base.specs.answers.FailureAnswers.{Gives};
 ghost use Rattle.pli_base.specs.answers.ReadingAnswers.{Advances, Continues, front_view};
@@ -13,7 +13,7 @@ use crate::front::{attribute_first, begins_description};
 use crate::simple::simple_of;
 use crate::word::AttributeWord;
 use pli_base::{
-    Code, Front, ParseError, TokenText, behind_close, behind_comma, behind_open, misfit, open_taken,
+    Code, Front, ParseError, TokenText, after_close, after_comma, after_open, misfit, open_taken,
 };
 use std::alloc::{AllocError, Global};
 use std::marker::Model;
@@ -101,7 +101,7 @@ fn description_step<'a>(
     Ok(Front::new(Expects::Attribute, dimensions.next, dimensions.rest))
 }
 
-/// A step behind `ENTRY(`.
+/// A step after `ENTRY(`.
 fn parameters_step<'a>(
     alloc: Global,
     nest: &mut Nest,
@@ -110,10 +110,10 @@ fn parameters_step<'a>(
 ) -> Result<Front<'a, Expects>, ParseError>
     requires { at + length texts.now ≤ 200000 }
     ensures value { Gives (walk_view nest.new) result (parameters_walk nest.old at texts.now
-        (behind is_close texts.now)) }
+        (rest_after is_close texts.now)) }
     ensures place { IfOk result (Continues at texts.now) }
 {
-    match behind_close(texts) {
+    match after_close(texts) {
         Some(rest) => Ok(Front::new(Expects::More, at + 1, rest)),
         None => {
             if begins_description(texts) {
@@ -125,7 +125,7 @@ fn parameters_step<'a>(
     }
 }
 
-/// A step behind the keyword of an attribute.
+/// A step after the keyword of an attribute.
 #[tactic(auto, unfolding(crate::specs::DeclarationReading::word_walk))]
 fn word_step<'a>(
     alloc: Global,
@@ -143,7 +143,7 @@ fn word_step<'a>(
             let read = simple_of(alloc, simple, at, texts)?;
             Ok(Front::new(Expects::More, read.next, read.rest))
         }
-        AttributeWord::Entry => match behind_open(texts) {
+        AttributeWord::Entry => match after_open(texts) {
             Some(inside) => parameters_step(alloc, nest, at + 1, inside),
             None => Ok(Front::new(Expects::More, at, texts)),
         },
@@ -159,30 +159,30 @@ fn word_step<'a>(
 fn closing_step(at: u32, texts: &[TokenText]) -> Result<Front<'_, Expects>, ParseError>
     requires { at + length texts.now ≤ 200000 }
     ensures value { (opens : List Open) → Gives (walk_view opens) result
-        (closed_walk opens at texts.now (behind is_close texts.now)) }
+        (closed_walk opens at texts.now (rest_after is_close texts.now)) }
     ensures place { IfOk result (Advances at texts.now) }
 {
-    match behind_close(texts) {
+    match after_close(texts) {
         Some(rest) => Ok(Front::new(Expects::More, at + 1, rest)),
         None => Err(misfit(Code::ParenthesisExpected, at, texts)),
     }
 }
 
-/// A step behind an attribute where no other begins: the innermost parenthesis closes, or in an ENTRY another
+/// A step after an attribute where no other begins: the innermost parenthesis closes, or in an ENTRY another
 /// description follows.
-#[tactic(auto, unfolding(crate::specs::DeclarationReading::behind_walk))]
-fn behind_step<'a>(
+#[tactic(auto, unfolding(crate::specs::DeclarationReading::after_attributes_walk))]
+fn after_step<'a>(
     alloc: Global,
     nest: &mut Nest,
     at: u32,
     texts: &'a [TokenText],
 ) -> Result<Front<'a, Expects>, ParseError>
     requires { at + length texts.now ≤ 200000 }
-    ensures value { Gives (walk_view nest.new) result (behind_walk nest.old at texts.now) }
+    ensures value { Gives (walk_view nest.new) result (after_attributes_walk nest.old at texts.now) }
     ensures place { IfOk result (Advances at texts.now) }
 {
     match nest.close() {
-        Some(Open::Entry) => match behind_comma(texts) {
+        Some(Open::Entry) => match after_comma(texts) {
             Some(rest) => description_step(alloc, nest, at + 1, rest),
             None => closing_step(at, texts),
         },
@@ -208,7 +208,7 @@ fn step_at<'a>(
         Some((word, rest)) => word_step(alloc, nest, word, at + 1, rest),
         None => match expects {
             Expects::Attribute => Err(misfit(Code::BadAttribute, at, texts)),
-            Expects::More => behind_step(alloc, nest, at, texts),
+            Expects::More => after_step(alloc, nest, at, texts),
         },
     }
 }

@@ -1,10 +1,10 @@
-//! Attributes other than ENTRY and RETURNS, behind their keywords.
+//! Attributes other than ENTRY and RETURNS, after their keywords.
 ghost use Rattle.std.specs.Prelude.{◌≡◌, ◌≤◌, ◌+◌, length, IfOk};
 ghost use Rattle.pli_base.specs.Declarations as tree;
 ghost use Rattle.pli_base.specs.views.DeclarationView.{simple_view};
 ghost use Rattle.pli_parse_declaration.specs.DeclarationReading.{list_at, name_at, area_at, locator_at, repeated_at};
 ghost use Rattle.pli_parse_declaration.specs.DeclarationReading.{null_from, value_at, values_at, simple_of};
-ghost use Rattle.pli_base.specs.Words.{is_open, behind};
+ghost use Rattle.pli_base.specs.Words.{is_open, rest_after};
 ghost use Rattle.pli_base.specs.Reading.{mapped};
 ghost use Rattle.pli_base.specs.answers.FailureAnswers.{Gives};
 ghost use Rattle.pli_base.specs.answers.ReadingAnswers.{Advances, Continues, front_view};
@@ -20,22 +20,22 @@ use crate::list::{ListReader, Separator, list_at};
 use crate::word::SimpleWord;
 use pli_base::declaration::{InitialValue, SimpleAttribute};
 use pli_base::{
-    Code, Front, Name, ParseError, Sign, TokenText, behind_open, close_taken, misfit, name_first,
+    Code, Front, Name, ParseError, Sign, TokenText, after_open, close_taken, misfit, name_first,
     open_taken,
 };
 use std::alloc::Global;
 
-/// The name of an area in parentheses, or none: what stands behind OFFSET.
+/// The name of an area in parentheses, or none: what stands after OFFSET.
 #[tactic(auto, unfolding(crate::specs::DeclarationReading::area_at, crate::specs::DeclarationReading::name_at))]
 fn offset_at(at: u32, texts: &[TokenText]) -> Result<Front<'_, SimpleAttribute>, ParseError>
     requires { at + length texts.now ≤ 200000 }
     ensures value { Gives (front_view simple_view) result (mapped tree.Offset (area_at at texts.now)) }
     ensures place { IfOk result (Continues at texts.now) }
 {
-    match behind_open(texts) {
+    match after_open(texts) {
         Some(inside) => match name_first(inside) {
-            Some((name, behind)) => {
-                let rest = close_taken(at + 2, behind)?;
+            Some((name, after)) => {
+                let rest = close_taken(at + 2, after)?;
                 Ok(Front::new(SimpleAttribute::Offset(Some(name)), at + 3, rest))
             }
             None => Err(misfit(Code::NameExpected, at + 1, inside)),
@@ -71,7 +71,7 @@ impl ListReader for EachName {
     }
 }
 
-/// A locator in parentheses, or none: what stands behind BASED.
+/// A locator in parentheses, or none: what stands after BASED.
 #[tactic(auto, unfolding(crate::specs::DeclarationReading::locator_at))]
 fn based_at<'a>(
     alloc: Global,
@@ -82,7 +82,7 @@ fn based_at<'a>(
     ensures value { Gives (front_view simple_view) result (mapped tree.Based (locator_at at texts.now)) }
     ensures place { IfOk result (Continues at texts.now) }
 {
-    match behind_open(texts) {
+    match after_open(texts) {
         Some(inside) => {
             let names = list_at(alloc, Separator::Periods, &EachName, at + 1, inside)?;
             let rest = close_taken(names.next, names.rest)?;
@@ -96,7 +96,7 @@ fn based_at<'a>(
     }
 }
 
-/// A factor and its `)`, behind the `(`, and the integer that is repeated.
+/// A factor and its `)`, after the `(`, and the integer that is repeated.
 #[tactic(auto, unfolding(crate::specs::DeclarationReading::repeated_at))]
 fn repeated_at(at: u32, texts: &[TokenText]) -> Result<Front<'_, InitialValue>, ParseError>
     requires { at + length texts.now ≤ 200000 }
@@ -116,13 +116,13 @@ fn repeated_at(at: u32, texts: &[TokenText]) -> Result<Front<'_, InitialValue>, 
     ))
 }
 
-/// What stands behind NULL: `()` or nothing.
+/// What stands after NULL: `()` or nothing.
 fn null_at(at: u32, texts: &[TokenText]) -> Result<Front<'_, InitialValue>, ParseError>
     requires { at + length texts.now ≤ 200000 }
-    ensures value { Gives (front_view (λ n. n)) result (null_from at texts.now (behind is_open texts.now)) }
+    ensures value { Gives (front_view (λ n. n)) result (null_from at texts.now (rest_after is_open texts.now)) }
     ensures place { IfOk result (Continues at texts.now) }
 {
-    match behind_open(texts) {
+    match after_open(texts) {
         Some(inside) => {
             let rest = close_taken(at + 1, inside)?;
             Ok(Front::new(InitialValue::Null, at + 2, rest))
@@ -190,7 +190,7 @@ impl ListReader for EachValue {
     }
 }
 
-/// Values in parentheses: what stands behind INITIAL.
+/// Values in parentheses: what stands after INITIAL.
 #[tactic(auto, unfolding(crate::specs::DeclarationReading::values_at))]
 fn initial_at<'a>(
     alloc: Global,
@@ -224,7 +224,7 @@ fn bare(attribute: SimpleAttribute, at: u32, texts: &[TokenText]) -> Front<'_, S
     Front::new(attribute, at, texts)
 }
 
-/// What stands behind the keyword of a simple attribute.
+/// What stands after the keyword of a simple attribute.
 #[tactic(auto, unfolding(crate::specs::DeclarationReading::simple_of))]
 pub fn simple_of<'a>(
     alloc: Global,

@@ -18,14 +18,14 @@ use Rattle.pli_parse_expression.specs.Operators.{operand_level, level, level_of,
 use Rattle.pli_parse_expression.specs.Expressions.{SpellsExpression, SpellsJoined, SpellsArguments, SpellsListed, SpellsFurther}
 use Rattle.pli_parse_expression.specs.AssignmentGrammar.{IsAssignment}
 use Rattle.pli_parse_expression.specs.Assignments.{may_end, accepts, is_assignment}
-use Rattle.pli_parse_expression.specs.declared.assignment.State.TheVariants.{NameWanted, OperandWanted, ListBegun, BehindName, BehindList, BehindOperand}
+use Rattle.pli_parse_expression.specs.declared.assignment.State.TheVariants.{NameWanted, OperandWanted, ListBegun, AfterName, AfterList, AfterOperand}
 use Rattle.pli_parse_expression.specs.declared.assignment.Frame.{Frame}
 use Rattle.pli_parse_expression.specs.declared.assignment.Frame.TheVariants.{Target, Whole, Group, Arguments}
 use Rattle.pli_parse_expression.proofs.ReadingTools.{infix_is, level_small}
 use Rattle.pli_parse_expression.proofs.SpelledIsAccepted.{InExpression, infix_on}
 use Rattle.pli_base.specs.Words.{Tokens}
 
--- an operator and its right operand behind an expression: it takes as much of the expression's end as its priority lets it
+-- an operator and its right operand after an expression: it takes as much of the expression's end as its priority lets it
 abbrev Inserted : (e : Expression) (q : ℕ) (ls rs : Tokens) (o : InfixOperator) → Type 0
 Inserted e q ls rs o = (new : Expression) × SpellsExpression q (ls ++ tokens.Sign (infix_sign o) ∷ rs) new × ((level new ≡ level_of o) ⊎ (level new ≡ level e))
 
@@ -70,7 +70,7 @@ record FrontFound (A : Type 0) (Spells : Tokens → A → Type 0) (Leaves : A �
   whole : ts ≡ front ++ more
   spelled : Spells front value
   leaves : Leaves value more
-  goes : accepts BehindOperand f fs more ≡ true
+  goes : accepts AfterOperand f fs more ≡ true
 
 abbrev OperandFound : ℕ → Frame → List Frame → Tokens → Type 0
 OperandFound p = FrontFound Expression (SpellsExpression p) (λ e us. level e ≡ operand_level)
@@ -90,7 +90,7 @@ record PartFound (p : ℕ) (f : Frame) (fs : List Frame) (ts : Tokens) : Type 0 
   whole : ts ≡ (front ++ rest) ++ more
   given : SpellsArguments p front arguments
   spelled : SpellsJoined (p + length front) rest joined
-  goes : accepts BehindOperand f fs more ≡ true
+  goes : accepts AfterOperand f fs more ≡ true
 
 record ListFound (Spells : ℕ → Tokens → Expressions → Type 0) (p : ℕ) (f : Frame) (fs : List Frame) (ts : Tokens) : Type 0 where
   front : Tokens
@@ -98,26 +98,26 @@ record ListFound (Spells : ℕ → Tokens → Expressions → Type 0) (p : ℕ) 
   value : Expressions
   whole : ts ≡ front ++ tokens.Sign signs.CloseParenthesis ∷ more
   spelled : Spells p front value
-  goes : accepts BehindList f fs more ≡ true
+  goes : accepts AfterList f fs more ≡ true
 
 -- for fewer than n tokens
 record Found (n : ℕ) : Type 0 where
-  joined : (p : ℕ) (f : Frame) (fs : List Frame) (ts : Tokens) → length ts < n → accepts BehindList f fs ts ≡ true → JoinedFound p f fs ts
-  part : (p : ℕ) (f : Frame) (fs : List Frame) (ts : Tokens) → length ts < n → accepts BehindName f fs ts ≡ true → PartFound p f fs ts
+  joined : (p : ℕ) (f : Frame) (fs : List Frame) (ts : Tokens) → length ts < n → accepts AfterList f fs ts ≡ true → JoinedFound p f fs ts
+  part : (p : ℕ) (f : Frame) (fs : List Frame) (ts : Tokens) → length ts < n → accepts AfterName f fs ts ≡ true → PartFound p f fs ts
   operand : (p : ℕ) (f : Frame) (fs : List Frame) (ts : Tokens) → InExpression f → length ts < n → accepts OperandWanted f fs ts ≡ true → OperandFound p f fs ts
-  further : (q p : ℕ) (e : Expression) (before : Tokens) (f : Frame) (fs : List Frame) (ts : Tokens) → InExpression f → length ts < n → SpellsExpression q before e → p ≡ q + length before → accepts BehindOperand f fs ts ≡ true
+  further : (q p : ℕ) (e : Expression) (before : Tokens) (f : Frame) (fs : List Frame) (ts : Tokens) → InExpression f → length ts < n → SpellsExpression q before e → p ≡ q + length before → accepts AfterOperand f fs ts ≡ true
       → ExpressionFound q before f fs ts
   expression : (p : ℕ) (f : Frame) (fs : List Frame) (ts : Tokens) → InExpression f → length ts < n → accepts OperandWanted f fs ts ≡ true → ExpressionFound p [] f fs ts
   list : (p : ℕ) (f : Frame) (fs : List Frame) (ts : Tokens) → length ts < n → accepts ListBegun Arguments (f ∷ fs) ts ≡ true → ListFound SpellsListed p f fs ts
-  rest : (p : ℕ) (f : Frame) (fs : List Frame) (ts : Tokens) → length ts < n → NoInfix ts → accepts BehindOperand Arguments (f ∷ fs) ts ≡ true → ListFound SpellsFurther p f fs ts
+  rest : (p : ℕ) (f : Frame) (fs : List Frame) (ts : Tokens) → length ts < n → NoInfix ts → accepts AfterOperand Arguments (f ∷ fs) ts ≡ true → ListFound SpellsFurther p f fs ts
 
-ends_alike : (f : Frame) → may_end BehindList f ≡ may_end BehindOperand f
+ends_alike : (f : Frame) → may_end AfterList f ≡ may_end AfterOperand f
 ends_alike Target = refl
 ends_alike Whole = refl
 ends_alike Group = refl
 ends_alike Arguments = refl
 
-name_ends_alike : (f : Frame) → may_end BehindName f ≡ may_end BehindOperand f
+name_ends_alike : (f : Frame) → may_end AfterName f ≡ may_end AfterOperand f
 name_ends_alike Target = refl
 name_ends_alike Whole = refl
 name_ends_alike Group = refl
@@ -141,20 +141,20 @@ module _ (n : ℕ) (found : Found n) where
   named_part j p f fs (tokens.Sign signs.Comma ∷ ts) small h = cc
   named_part j p f fs (t ∷ ts) small h = cc
 
-  joined_next : (p : ℕ) (f : Frame) (fs : List Frame) (ts : Tokens) → length ts < suc n → accepts BehindList f fs ts ≡ true → JoinedFound p f fs ts
+  joined_next : (p : ℕ) (f : Frame) (fs : List Frame) (ts : Tokens) → length ts < suc n → accepts AfterList f fs ts ≡ true → JoinedFound p f fs ts
   unfolding accepts
   joined_next p f fs [] small h = record { front = []; more = []; value = Alone; whole = refl; spelled = refl; leaves = tt; goes = sym (ends_alike f) ∙ h }
   joined_next p f fs (tokens.Sign signs.Period ∷ ts) small h = named_part Member p f fs ts (omega arith) h
   joined_next p f fs (tokens.Sign signs.Arrow ∷ ts) small h = named_part Located p f fs ts (omega arith) h
   joined_next p f fs (t ∷ ts) small h = record { front = []; more = t ∷ ts; value = Alone; whole = refl; spelled = refl; leaves = tt; goes = h }
 
-  without_list : (p : ℕ) (f : Frame) (fs : List Frame) (ts : Tokens) → length ts < suc n → accepts BehindList f fs ts ≡ true → PartFound p f fs ts
+  without_list : (p : ℕ) (f : Frame) (fs : List Frame) (ts : Tokens) → length ts < suc n → accepts AfterList f fs ts ≡ true → PartFound p f fs ts
   without_list p f fs ts small h =
       let i = joined_next p f fs ts small h in
       let there : p ≡ p + 0 = omega arith in
       record { front = []; rest = i.front; more = i.more; arguments = Absent; joined = i.value; whole = i.whole; given = refl; spelled = subst (λ q. SpellsJoined q i.front i.value) there i.spelled; goes = i.goes }
 
-  part_next : (p : ℕ) (f : Frame) (fs : List Frame) (ts : Tokens) → length ts < suc n → accepts BehindName f fs ts ≡ true → PartFound p f fs ts
+  part_next : (p : ℕ) (f : Frame) (fs : List Frame) (ts : Tokens) → length ts < suc n → accepts AfterName f fs ts ≡ true → PartFound p f fs ts
   unfolding accepts
   part_next p f fs [] small h = without_list p f fs [] small (ends_alike f ∙ sym (name_ends_alike f) ∙ h)
   part_next p f fs (tokens.Sign signs.OpenParenthesis ∷ ts) small h =
@@ -178,7 +178,7 @@ module _ (n : ℕ) (found : Found n) where
       closing a b c = simp append_assoc
   part_next p f fs (t ∷ ts) small h = without_list p f fs (t ∷ ts) small h
 
-  constant_found : (v : ConstantValue) (p : ℕ) (f : Frame) (fs : List Frame) (ts : Tokens) → accepts BehindOperand f fs ts ≡ true → OperandFound p f fs (constant_token v ∷ ts)
+  constant_found : (v : ConstantValue) (p : ℕ) (f : Frame) (fs : List Frame) (ts : Tokens) → accepts AfterOperand f fs ts ≡ true → OperandFound p f fs (constant_token v ∷ ts)
   constant_found v p f fs ts h = record { front = constant_token v ∷ []; more = ts; value = Constant p v; whole = refl; spelled = (refl, refl); leaves = refl; goes = h }
 
   prefix_found : (o : PrefixOperator) (p : ℕ) (f : Frame) (fs : List Frame) (ts : Tokens) → InExpression f → length ts < n → accepts OperandWanted f fs ts ≡ true → OperandFound p f fs (tokens.Sign (prefix_sign o) ∷ ts)
@@ -194,7 +194,7 @@ module _ (n : ℕ) (found : Found n) where
         goes = i.goes;
       }
 
-  group_ends : (f : Frame) (fs : List Frame) (ts : Tokens) → NoInfix ts → accepts BehindOperand Group (f ∷ fs) ts ≡ true → (us : Tokens) × (ts ≡ tokens.Sign signs.CloseParenthesis ∷ us) × (accepts BehindOperand f fs us ≡ true)
+  group_ends : (f : Frame) (fs : List Frame) (ts : Tokens) → NoInfix ts → accepts AfterOperand Group (f ∷ fs) ts ≡ true → (us : Tokens) × (ts ≡ tokens.Sign signs.CloseParenthesis ∷ us) × (accepts AfterOperand f fs us ≡ true)
   unfolding accepts
   group_ends f fs [] stops h = cc
   group_ends f fs (tokens.Sign signs.CloseParenthesis ∷ ts) stops h = (ts, refl, h)
@@ -254,15 +254,15 @@ module _ (n : ℕ) (found : Found n) where
       }
 
   further_at : (q p : ℕ) (e : Expression) (before : Tokens) (f : Frame) (fs : List Frame) (t : TokenText) (ts : Tokens) (o : Option InfixOperator) → infix_of t ≡ o → InExpression f → length ts < n → SpellsExpression q before e
-      → p ≡ q + length before → accepts BehindOperand f fs (t ∷ ts) ≡ true → ExpressionFound q before f fs (t ∷ ts)
+      → p ≡ q + length before → accepts AfterOperand f fs (t ∷ ts) ≡ true → ExpressionFound q before f fs (t ∷ ts)
   further_at q p e before f fs t ts None is within small spelled place h =
       record { front = []; more = t ∷ ts; value = e; whole = refl; spelled = subst (λ us. SpellsExpression q us e) (sym (append-nil before)) spelled; leaves = is; goes = h }
   further_at q p e before f fs t ts (Some o) is within small spelled place h =
       let sign : t ≡ tokens.Sign (infix_sign o) = infix_is t o is in
       subst (λ u. ExpressionFound q before f fs (u ∷ ts)) (sym sign)
-      (infix_found o q p e before f fs ts within small spelled place (sym (infix_on BehindOperand f fs o ts tt within) ∙ ap (λ u. accepts BehindOperand f fs (u ∷ ts)) (sym sign) ∙ h))
+      (infix_found o q p e before f fs ts within small spelled place (sym (infix_on AfterOperand f fs o ts tt within) ∙ ap (λ u. accepts AfterOperand f fs (u ∷ ts)) (sym sign) ∙ h))
 
-  further_next : (q p : ℕ) (e : Expression) (before : Tokens) (f : Frame) (fs : List Frame) (ts : Tokens) → InExpression f → length ts < suc n → SpellsExpression q before e → p ≡ q + length before → accepts BehindOperand f fs ts ≡ true
+  further_next : (q p : ℕ) (e : Expression) (before : Tokens) (f : Frame) (fs : List Frame) (ts : Tokens) → InExpression f → length ts < suc n → SpellsExpression q before e → p ≡ q + length before → accepts AfterOperand f fs ts ≡ true
       → ExpressionFound q before f fs ts
   further_next q p e before f fs [] within small spelled place h =
       record { front = []; more = []; value = e; whole = refl; spelled = subst (λ us. SpellsExpression q us e) (sym (append-nil before)) spelled; leaves = tt; goes = h }
@@ -283,7 +283,7 @@ module _ (n : ℕ) (found : Found n) where
         goes = k.goes;
       }
 
-  rest_next : (p : ℕ) (f : Frame) (fs : List Frame) (ts : Tokens) → length ts < suc n → NoInfix ts → accepts BehindOperand Arguments (f ∷ fs) ts ≡ true → ListFound SpellsFurther p f fs ts
+  rest_next : (p : ℕ) (f : Frame) (fs : List Frame) (ts : Tokens) → length ts < suc n → NoInfix ts → accepts AfterOperand Arguments (f ∷ fs) ts ≡ true → ListFound SpellsFurther p f fs ts
   unfolding accepts
   rest_next p f fs [] small stops h = cc
   rest_next p f fs (tokens.Sign signs.CloseParenthesis ∷ ts) small stops h = record { front = []; more = ts; value = Empty; whole = refl; spelled = refl; goes = h }
@@ -344,13 +344,13 @@ found_all (suc n) =
       rest = rest_next n found;
     }
 
-target_ends : (ts : Tokens) → accepts BehindOperand Target [] ts ≡ true → (us : Tokens) × (ts ≡ tokens.Sign signs.Equals ∷ us) × (accepts OperandWanted Whole [] us ≡ true)
+target_ends : (ts : Tokens) → accepts AfterOperand Target [] ts ≡ true → (us : Tokens) × (ts ≡ tokens.Sign signs.Equals ∷ us) × (accepts OperandWanted Whole [] us ≡ true)
 unfolding accepts
 target_ends [] h = cc
 target_ends (tokens.Sign signs.Equals ∷ ts) h = (ts, refl, h)
 target_ends (t ∷ ts) h = cc
 
-whole_ends : (ts : Tokens) → NoInfix ts → accepts BehindOperand Whole [] ts ≡ true → ts ≡ []
+whole_ends : (ts : Tokens) → NoInfix ts → accepts AfterOperand Whole [] ts ≡ true → ts ≡ []
 unfolding accepts
 whole_ends [] stops h = refl
 whole_ends (tokens.Sign signs.Comma ∷ ts) stops h = cc

@@ -7,21 +7,21 @@ use Rattle.pli_base.specs.declared.token.TokenText.TheVariants.{Sign}
 use Rattle.pli_parse_expression.specs.Operators.{joining_at, continues_reference}
 use Rattle.pli_base.specs.Words.{Tokens}
 use Rattle.pli_parse_expression.specs.Expressions.{EndsReference, EndsExpression}
-use Rattle.pli_parse_expression.specs.Ends.{goes_on_behind, parts_go_on, operand_goes_on, NoneGoesOn, ReferenceEnds, ExpressionEnds}
+use Rattle.pli_parse_expression.specs.Ends.{goes_on_after, parts_go_on, operand_goes_on, NoneGoesOn, ReferenceEnds, ExpressionEnds}
 
 -- the operand with which an expression ends
 abbrev pub OperandEnds : Expression → Tokens → Type 0
 OperandEnds e ts = NoneGoesOn (operand_goes_on e) ts
 
 -- what continues nothing continues none
-behind_any : (a : Arguments) (t : TokenText) → continues_reference t ≡ false → goes_on_behind a t ≡ false
-behind_any Absent t h = h
-behind_any (Given list) (Sign signs.Period) h = cc
-behind_any (Given list) (Sign signs.Arrow) h = cc
-behind_any (Given list) t h = refl
+after_any : (a : Arguments) (t : TokenText) → continues_reference t ≡ false → goes_on_after a t ≡ false
+after_any Absent t h = h
+after_any (Given list) (Sign signs.Period) h = cc
+after_any (Given list) (Sign signs.Arrow) h = cc
+after_any (Given list) t h = refl
 
 parts_any : (a : Arguments) (m : JoinedParts) (t : TokenText) → continues_reference t ≡ false → parts_go_on a m t ≡ false
-parts_any a Alone t h = behind_any a t h
+parts_any a Alone t h = after_any a t h
 parts_any a (Joined joining name later more) t h = parts_any later more t h
 
 pub operand_any : (e : Expression) (t : TokenText) → continues_reference t ≡ false → operand_goes_on e t ≡ false
@@ -50,13 +50,13 @@ abbrev pub ArgumentsEnd : Arguments → Tokens → Type 0
 ArgumentsEnd Absent ts = NotOpen ts
 ArgumentsEnd (Given list) ts = Unit {0}
 
-pub arguments_end : (a : Arguments) (ts : Tokens) → NoneGoesOn (goes_on_behind a) ts → ArgumentsEnd a ts
+pub arguments_end : (a : Arguments) (ts : Tokens) → NoneGoesOn (goes_on_after a) ts → ArgumentsEnd a ts
 arguments_end Absent [] h = tt
 arguments_end Absent (Sign signs.OpenParenthesis ∷ ts) h = cc
 arguments_end Absent (t ∷ ts) h = tt
 arguments_end (Given list) ts h = tt
 
-pub not_joined : (a : Arguments) (ts : Tokens) → NoneGoesOn (goes_on_behind a) ts → joining_at ts ≡ None
+pub not_joined : (a : Arguments) (ts : Tokens) → NoneGoesOn (goes_on_after a) ts → joining_at ts ≡ None
 unfolding joining_at
 not_joined a [] h = refl
 not_joined Absent (Sign signs.Period ∷ ts) h = cc
@@ -66,7 +66,7 @@ not_joined (Given list) (Sign signs.Arrow ∷ ts) h = cc
 not_joined a (t ∷ ts) h = refl
 
 -- and back
-pub none_goes_on : (a : Arguments) (ts : Tokens) → ArgumentsEnd a ts → joining_at ts ≡ None → NoneGoesOn (goes_on_behind a) ts
+pub none_goes_on : (a : Arguments) (ts : Tokens) → ArgumentsEnd a ts → joining_at ts ≡ None → NoneGoesOn (goes_on_after a) ts
 unfolding joining_at
 none_goes_on a [] closed h = tt
 none_goes_on a (Sign signs.Period ∷ ts) closed h = cc

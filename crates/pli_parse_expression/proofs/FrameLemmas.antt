@@ -2,7 +2,7 @@
 use Rattle.std.proofs.Common.{◌≡◌, ◌+◌, ◌<◌, ◌≤◌, ℕ, Bool, List, [], ◌∷◌, ◌++◌, Option, drop, get_or, length, refl, ap, ◌∙◌, sym}
 use Rattle.std.proofs.lemmas.List.{at_drop_more, at_drop_all}
 use Rattle.pli_base.specs.declared.token.TokenText.{TokenText}
-use Rattle.pli_parse_expression.specs.Assignments.{accepts, moved, move, kind_of, may_end, behind_frame}
+use Rattle.pli_parse_expression.specs.Assignments.{accepts, moved, move, kind_of, may_end, after_frame}
 use Rattle.pli_parse_expression.specs.declared.assignment.Frame.{Frame}
 use Rattle.pli_parse_expression.specs.declared.assignment.Move.{Move}
 use Rattle.pli_parse_expression.specs.declared.assignment.Move.TheVariants.{Enters, Leaves}
@@ -28,11 +28,11 @@ pub entered : (step : Move) (g : Frame) (s : State) (more : State → Frame → 
 entered step g s more around new f is grown =
     ap (λ m. moved m more f (onto around [])) is ∙ ap (more s g) (sym (onto_push around f []) ∙ ap (λ fs. onto fs []) (sym grown))
 
-pub left : (step : Move) (more : State → Frame → List Frame → Bool) (old new : List Frame) (f outer : Frame) (s : State) → step ≡ Leaves → old ≡ new ++ outer ∷ [] → s ≡ behind_frame f
+pub left : (step : Move) (more : State → Frame → List Frame → Bool) (old new : List Frame) (f outer : Frame) (s : State) → step ≡ Leaves → old ≡ new ++ outer ∷ [] → s ≡ after_frame f
     → moved step more f (onto old []) ≡ more s outer (onto new [])
-left step more old new f outer s is shrunk behind =
+left step more old new f outer s is shrunk after =
     ap (λ m. moved m more f (onto old [])) is ∙ ap (λ fs. moved Leaves more f (onto fs [])) shrunk ∙ ap (moved Leaves more f) (onto_push new outer [])
-    ∙ ap (λ s. more s outer (onto new [])) (sym behind)
+    ∙ ap (λ s. more s outer (onto new [])) (sym after)
 
 -- one token on
 pub step_on : (s : State) (f : Frame) (around new : List Frame) (ts : Tokens) (i : ℕ) (d : TokenText) (total : Bool) (m : Move) (o : Option (State × Frame)) → i < length ts

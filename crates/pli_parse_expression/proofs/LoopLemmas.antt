@@ -13,10 +13,10 @@ use Rattle.pli_base.specs.declared.token.Fault.{Fault}
 use Rattle.pli_parse_expression.specs.Operators.{operator_limit, level_of, operator_at, joining_at}
 use Rattle.pli_base.specs.Reading.{Front}
 use Rattle.pli_parse_expression.specs.declared.counted.Counted.{Counted}
-use Rattle.pli_parse_expression.specs.Reading.{counted, Reader, limited, operand_then, grouped, infix_from, right_of, closed, listed_behind, further_from, listed_at, arguments_at, part_behind, parts_behind, joined_from, reference_behind, reference_of}
+use Rattle.pli_parse_expression.specs.Reading.{counted, Reader, limited, operand_then, grouped, infix_from, right_of, closed, listed_after, further_from, listed_at, arguments_at, part_after, parts_after, joined_from, reference_after, reference_of}
 use Rattle.pli_base.specs.declared.failure.Failure.TheVariants as errors
 use Rattle.pli_base.specs.views.SyntaxView.{expressions_view, arguments_view, joined_view}
-use Rattle.pli_base.specs.Words.{Tokens, name_first, behind, is_comma, is_close}
+use Rattle.pli_base.specs.Words.{Tokens, name_first, rest_after, is_comma, is_close}
 use Rattle.pli_base.specs.Results.{◌>>=◌}
 use Rattle.pli_base.specs.Reading.{at_fault, misfit, taken}
 use Rattle.pli_base.specs.declared.failure.Failure.{Failure}
@@ -42,7 +42,7 @@ abbrev pub expressions_before : List made.Expression → Expressions → Express
 expressions_before [] more = more
 expressions_before (e ∷ es) more = Listed (expression_view e) (expressions_before es more)
 
--- the expressions that are left, behind those so far, and the closing parenthesis
+-- the expressions that are left, after those so far, and the closing parenthesis
 abbrev pub closed_list : List made.Expression → Result (Front (Counted Expressions)) Fault → Result (Front (Counted Expressions)) Fault
 closed_list done read = read >>= λ y. closed (expressions_before done y.value.tree) y.value.count y.next y.rest
 
@@ -55,7 +55,7 @@ limited_then : (few : Bool) (p : ℕ) (read : Result (Front (Counted Expression)
 limited_then true p read next = refl
 limited_then false p read next = refl
 
--- behind an infix operator
+-- after an infix operator
 module _ (operand : Reader) (bound : ℕ) (o : InfixOperator) (count p : ℕ) (ts : Tokens) where
   pub too_many : operator_limit ≤ count → right_of operand bound o count p ts ≡ at_fault NestedTooDeep p
   too_many full = ap (λ b. cond b (operand_then operand (infix_from operand bound) (level_of o + 1) (count + 1) (p + 1) ts) (at_fault NestedTooDeep p)) (le-ltb count operator_limit full)
@@ -72,7 +72,7 @@ module _ (operand : Reader) (bound : ℕ) (o : InfixOperator) (count p : ℕ) (t
   right_goes_on z top few above read =
       within few ∙ ap (λ r. r >>= λ z. infix_from operand bound (level_of o + 1) z.value.count z.value.tree z.next z.rest) read ∙ ap (λ m. infix_from operand bound m z.value.count z.value.tree z.next z.rest) (sym above)
 
--- behind a left operand, where an infix operator stands
+-- after a left operand, where an infix operator stands
 module _ (operand : Reader) (min count : ℕ) (left : Expression) (p : ℕ) (ts : Tokens) (o : InfixOperator × Tokens) (total : Result (Front (Counted Expression)) Fault) (found : operator_at min ts ≡ Some o) where
   -- what the operator leads to
   abbrev led : ℕ → Result (Front (Counted Expression)) Fault
@@ -86,8 +86,8 @@ module _ (operand : Reader) (min count : ℕ) (left : Expression) (p : ℕ) (ts 
   abbrev leads : ℕ → Front (Counted Expression) → Result (Front (Counted Expression)) Fault
   leads bound y = infix_from operand bound min y.value.count (Infix o.0 p left y.value.tree) y.next y.rest
 
-  behind_right : (bound : ℕ) → infix_from operand (suc bound) min count left p ts ≡ total → total ≡ (right_of operand bound o.0 count p o.1 >>= leads bound)
-  behind_right bound so_far =
+  after_right : (bound : ℕ) → infix_from operand (suc bound) min count left p ts ≡ total → total ≡ (right_of operand bound o.0 count p o.1 >>= leads bound)
+  after_right bound so_far =
       turned bound so_far
       ∙ limited_then (nat_lt count operator_limit) p (operand_then operand (infix_from operand bound) (level_of o.0 + 1) (count + 1) (p + 1) o.1) (leads bound)
 
@@ -95,12 +95,12 @@ module _ (operand : Reader) (min count : ℕ) (left : Expression) (p : ℕ) (ts 
       → OperatorsLeft operand min count left p ts total → Fails e total
   right_fails errors.OutOfMemory less h left_over = tt
   right_fails (errors.Fault f) less h (zero, small, so_far) = absurd (omega arith)
-  right_fails (errors.Fault f) less h (suc bound, small, so_far) = behind_right bound so_far ∙ ap (λ r. r >>= leads bound) (h bound (omega arith))
+  right_fails (errors.Fault f) less h (suc bound, small, so_far) = after_right bound so_far ∙ ap (λ r. r >>= leads bound) (h bound (omega arith))
 
   pub goes_on : (y : Front (Counted Expression)) → length o.1 < length ts → length y.rest < length ts → ((bound : ℕ) → length o.1 < bound → right_of operand bound o.0 count p o.1 ≡ Ok y)
       → OperatorsLeft operand min count left p ts total → OperatorsLeft operand min y.value.count (Infix o.0 p left y.value.tree) y.next y.rest total
   goes_on y less shorter right (zero, small, so_far) = absurd (omega arith)
-  goes_on y less shorter right (suc bound, small, so_far) = (bound, omega arith, sym (behind_right bound so_far ∙ ap (λ r. r >>= leads bound) (right bound (omega arith))))
+  goes_on y less shorter right (suc bound, small, so_far) = (bound, omega arith, sym (after_right bound so_far ∙ ap (λ r. r >>= leads bound) (right bound (omega arith))))
 
 pub operators_end : (operand : Reader) (min count : ℕ) (left : Expression) (p : ℕ) (ts : Tokens) (total : Result (Front (Counted Expression)) Fault) → operator_at min ts ≡ None
     → OperatorsLeft operand min count left p ts total → total ≡ counted left count p ts
@@ -123,26 +123,26 @@ parts_regroup done x (Err f) = refl
 
 -- where a part is joined
 module _ (one : Option Reader) (done : List JoinedPart) (count p : ℕ) (ts : Tokens) (j : Joining × Tokens) (total : Result (Front (Counted JoinedParts)) Fault) (found : joining_at ts ≡ Some j) where
-  joining_turned : (bound : ℕ) → with_parts done (joined_from one (suc bound) count p ts) ≡ total → total ≡ with_parts done (part_behind one (joined_from one bound) j.0 count (p + 1) j.1 (name_first j.1))
+  joining_turned : (bound : ℕ) → with_parts done (joined_from one (suc bound) count p ts) ≡ total → total ≡ with_parts done (part_after one (joined_from one bound) j.0 count (p + 1) j.1 (name_first j.1))
   unfolding joined_from
-  joining_turned bound so_far = sym so_far ∙ ap (λ o. with_parts done (parts_behind one (joined_from one bound) count p ts o)) found
+  joining_turned bound so_far = sym so_far ∙ ap (λ o. with_parts done (parts_after one (joined_from one bound) count p ts o)) found
 
   pub no_name : name_first j.1 ≡ None → PartsLeft one done count p ts total → total ≡ Err (misfit NameExpected (p + 1) j.1)
   no_name none (zero, small, so_far) = absurd (omega arith)
-  no_name none (suc bound, small, so_far) = joining_turned bound so_far ∙ ap (λ o. with_parts done (part_behind one (joined_from one bound) j.0 count (p + 1) j.1 o)) none
+  no_name none (suc bound, small, so_far) = joining_turned bound so_far ∙ ap (λ o. with_parts done (part_after one (joined_from one bound) j.0 count (p + 1) j.1 o)) none
 
   module _ (n : Name × Tokens) (named : name_first j.1 ≡ Some n) where
-    -- behind the name
-    abbrev behind_list : ℕ → Front (Counted Arguments) → Result (Front (Counted JoinedParts)) Fault
-    behind_list bound x = joined_from one bound x.value.count x.next x.rest >>= λ y. counted (Joined j.0 (record { name = n.0; at = p + 1 }) x.value.tree y.value.tree) y.value.count y.next y.rest
+    -- after the name
+    abbrev after_list : ℕ → Front (Counted Arguments) → Result (Front (Counted JoinedParts)) Fault
+    after_list bound x = joined_from one bound x.value.count x.next x.rest >>= λ y. counted (Joined j.0 (record { name = n.0; at = p + 1 }) x.value.tree y.value.tree) y.value.count y.next y.rest
 
-    behind_name : (bound : ℕ) → with_parts done (joined_from one (suc bound) count p ts) ≡ total → total ≡ with_parts done (arguments_at one count (p + 1 + 1) n.1 >>= behind_list bound)
-    behind_name bound so_far = joining_turned bound so_far ∙ ap (λ o. with_parts done (part_behind one (joined_from one bound) j.0 count (p + 1) j.1 o)) named
+    after_name : (bound : ℕ) → with_parts done (joined_from one (suc bound) count p ts) ≡ total → total ≡ with_parts done (arguments_at one count (p + 1 + 1) n.1 >>= after_list bound)
+    after_name bound so_far = joining_turned bound so_far ∙ ap (λ o. with_parts done (part_after one (joined_from one bound) j.0 count (p + 1) j.1 o)) named
 
     pub arguments_fail : (e : Failure Fault) → Fails e (arguments_at one count (p + 1 + 1) n.1) → PartsLeft one done count p ts total → Fails e total
     arguments_fail errors.OutOfMemory h left_over = tt
     arguments_fail (errors.Fault f) h (zero, small, so_far) = absurd (omega arith)
-    arguments_fail (errors.Fault f) h (suc bound, small, so_far) = behind_name bound so_far ∙ ap (λ r. with_parts done (r >>= behind_list bound)) h
+    arguments_fail (errors.Fault f) h (suc bound, small, so_far) = after_name bound so_far ∙ ap (λ r. with_parts done (r >>= after_list bound)) h
 
     pub part_goes_on : (x : JoinedPart) (a : Front (Counted Arguments)) → (◌≡◌ {A = JoinedParts} (Joined x.joining x.part.name (arguments_view x.part.arguments) Alone) (Joined j.0 (record { name = n.0; at = p + 1 }) a.value.tree Alone))
         → arguments_at one count (p + 1 + 1) n.1 ≡ Ok a → length a.rest < length ts → PartsLeft one done count p ts total → PartsLeft one (done ++ x ∷ []) a.value.count a.next a.rest total
@@ -151,7 +151,7 @@ module _ (one : Option Reader) (done : List JoinedPart) (count p : ℕ) (ts : To
         let e1 : j.0 ≡ x.joining = cc in
         let e2 : record { name = n.0; at = p + 1 } ≡ x.part.name = cc in
         let e3 : a.value.tree ≡ arguments_view x.part.arguments = cc in
-        let whole : total ≡ with_parts done (behind_list bound a) = behind_name bound so_far ∙ ap (λ r. with_parts done (r >>= behind_list bound)) read in (
+        let whole : total ≡ with_parts done (after_list bound a) = after_name bound so_far ∙ ap (λ r. with_parts done (r >>= after_list bound)) read in (
           bound,
           omega arith,
           sym (parts_regroup done x (joined_from one bound a.value.count a.next a.rest))
@@ -173,7 +173,7 @@ pub parts_end : (one : Option Reader) (done : List JoinedPart) (count p : ℕ) (
 unfolding joined_from
 parts_end one done count p ts total none (zero, small, so_far) = absurd (omega arith)
 parts_end one done count p ts total none (suc bound, small, so_far) =
-    sym so_far ∙ ap (λ o. with_parts done (parts_behind one (joined_from one bound) count p ts o)) none
+    sym so_far ∙ ap (λ o. with_parts done (parts_after one (joined_from one bound) count p ts o)) none
     ∙ ap (λ v. counted v count p ts) (parts_all done)
 
 expressions_push : (done : List made.Expression) (e : made.Expression) (more : Expressions) → expressions_before done (Listed (expression_view e) more) ≡ expressions_before (done ++ e ∷ []) more
@@ -190,18 +190,18 @@ expressions_regroup done e (Ok y) = ap (λ v. closed v y.value.count y.next y.re
 expressions_regroup done e (Err f) = refl
 
 -- where a comma stands
-module _ (one : Reader) (done : List made.Expression) (count p : ℕ) (ts us : Tokens) (total : Result (Front (Counted Expressions)) Fault) (found : behind is_comma ts ≡ Some us) where
-  abbrev behind_one : ℕ → Front (Counted Expression) → Result (Front (Counted Expressions)) Fault
-  behind_one bound x = further_from one bound x.value.count x.next x.rest >>= λ y. counted (Listed x.value.tree y.value.tree) y.value.count y.next y.rest
+module _ (one : Reader) (done : List made.Expression) (count p : ℕ) (ts us : Tokens) (total : Result (Front (Counted Expressions)) Fault) (found : rest_after is_comma ts ≡ Some us) where
+  abbrev after_one : ℕ → Front (Counted Expression) → Result (Front (Counted Expressions)) Fault
+  after_one bound x = further_from one bound x.value.count x.next x.rest >>= λ y. counted (Listed x.value.tree y.value.tree) y.value.count y.next y.rest
 
-  comma_turned : (bound : ℕ) → closed_list done (further_from one (suc bound) count p ts) ≡ total → total ≡ closed_list done (one count (p + 1) us >>= behind_one bound)
+  comma_turned : (bound : ℕ) → closed_list done (further_from one (suc bound) count p ts) ≡ total → total ≡ closed_list done (one count (p + 1) us >>= after_one bound)
   unfolding further_from
-  comma_turned bound so_far = sym so_far ∙ ap (λ o. closed_list done (listed_behind one (further_from one bound) count p ts o)) found
+  comma_turned bound so_far = sym so_far ∙ ap (λ o. closed_list done (listed_after one (further_from one bound) count p ts o)) found
 
   pub one_fails : (e : Failure Fault) → Fails e (one count (p + 1) us) → ListLeft one done count p ts total → Fails e total
   one_fails errors.OutOfMemory h left_over = tt
   one_fails (errors.Fault f) h (zero, small, so_far) = absurd (omega arith)
-  one_fails (errors.Fault f) h (suc bound, small, so_far) = comma_turned bound so_far ∙ ap (λ r. closed_list done (r >>= behind_one bound)) h
+  one_fails (errors.Fault f) h (suc bound, small, so_far) = comma_turned bound so_far ∙ ap (λ r. closed_list done (r >>= after_one bound)) h
 
   pub list_goes_on : (e : made.Expression) (x : Front (Counted Expression)) → x.value.tree ≡ expression_view e → one count (p + 1) us ≡ Ok x → length x.rest < length ts → ListLeft one done count p ts total → ListLeft one (done ++ e ∷ []) x.value.count x.next x.rest total
   list_goes_on e x same read less (zero, small, so_far) = absurd (omega arith)
@@ -210,7 +210,7 @@ module _ (one : Reader) (done : List made.Expression) (count p : ℕ) (ts us : T
     omega arith,
     sym (expressions_regroup done e (further_from one bound x.value.count x.next x.rest))
         ∙ ap (λ v. closed_list done (further_from one bound x.value.count x.next x.rest >>= λ y. counted (Listed v y.value.tree) y.value.count y.next y.rest)) (sym same)
-        ∙ sym (comma_turned bound so_far ∙ ap (λ r. closed_list done (r >>= behind_one bound)) read),
+        ∙ sym (comma_turned bound so_far ∙ ap (λ r. closed_list done (r >>= after_one bound)) read),
   )
 
 pub first_fails : (one : Reader) (count p : ℕ) (ts : Tokens) (e : Failure Fault) → Fails e (one count p ts) → Fails e (listed_at one count p ts)
@@ -229,11 +229,11 @@ list_begins one count p ts done e x all same read = (
       ∙ sym (ap (λ r. r >>= λ x. further_from one (length x.rest + 1) x.value.count x.next x.rest >>= λ y. closed (Listed x.value.tree y.value.tree) y.value.count y.next y.rest) read),
 )
 
-module _ (one : Reader) (done : List made.Expression) (count p : ℕ) (ts : Tokens) (total : Result (Front (Counted Expressions)) Fault) (none : behind is_comma ts ≡ None) where
+module _ (one : Reader) (done : List made.Expression) (count p : ℕ) (ts : Tokens) (total : Result (Front (Counted Expressions)) Fault) (none : rest_after is_comma ts ≡ None) where
   list_turned : (bound : ℕ) → closed_list done (further_from one (suc bound) count p ts) ≡ total → total ≡ closed (expressions_view done) count p ts
   unfolding further_from
   list_turned bound so_far =
-      sym so_far ∙ ap (λ o. closed_list done (listed_behind one (further_from one bound) count p ts o)) none ∙ ap (λ v. closed v count p ts) (expressions_all done)
+      sym so_far ∙ ap (λ o. closed_list done (listed_after one (further_from one bound) count p ts o)) none ∙ ap (λ v. closed v count p ts) (expressions_all done)
 
   pub close_fails : (e : Failure Fault) → Fails e (taken is_close ParenthesisExpected p ts) → ListLeft one done count p ts total → Fails e total
   close_fails errors.OutOfMemory h left_over = tt
@@ -249,6 +249,6 @@ pub reference_done : (one : Option Reader) (count p : ℕ) (ts : Tokens) (n : Na
     → reference_of one count p ts ≡ counted (Named (record { name = n.0; at = p }) a.value.tree y.value.tree) y.value.count y.next y.rest
 unfolding reference_of
 reference_done one count p ts n a y named read joined =
-    ap (reference_behind one count p ts) named
+    ap (reference_after one count p ts) named
     ∙ ap (λ r. r >>= λ x. joined_from one (length x.rest + 1) x.value.count x.next x.rest >>= λ y. counted (Named (record { name = n.0; at = p }) x.value.tree y.value.tree) y.value.count y.next y.rest) read
     ∙ ap (λ r. r >>= λ y. counted (Named (record { name = n.0; at = p }) a.value.tree y.value.tree) y.value.count y.next y.rest) (joined (length a.rest + 1) (omega arith))

@@ -5,7 +5,7 @@ use Rattle.pli_base.specs.Words.{Tokens, is_semicolon}
 use Rattle.pli_base.specs.declared.token.Sign.TheVariants as signs
 use Rattle.pli_base.specs.declared.token.TokenText.{TokenText}
 use Rattle.pli_base.specs.declared.token.TokenText.TheVariants as tokens
-use Rattle.pli_parse_expression.specs.Assignments.{kind_of, move, moved, behind_frame, accepts, is_assignment}
+use Rattle.pli_parse_expression.specs.Assignments.{kind_of, move, moved, after_frame, accepts, is_assignment}
 use Rattle.pli_parse_expression.specs.declared.assignment.TokenKind.TheVariants.{Foreign}
 use Rattle.pli_parse_expression.specs.declared.assignment.State.{State}
 use Rattle.pli_parse_expression.specs.declared.assignment.State.TheVariants.{NameWanted, OperandWanted, ListBegun}
@@ -30,7 +30,7 @@ later_accepted Stops f fs ts h = cc
 later_accepted (Goes s) f fs ts h = (s, f, fs, h)
 later_accepted (Enters g s) f fs ts h = (s, g, f ∷ fs, h)
 later_accepted Leaves f [] ts h = cc
-later_accepted Leaves f (g ∷ fs) ts h = (behind_frame f, g, fs, h)
+later_accepted Leaves f (g ∷ fs) ts h = (after_frame f, g, fs, h)
 later_accepted Turns f fs ts h = (OperandWanted, Whole, fs, h)
 
 none_accepted : (s : State) (f : Frame) (fs : List Frame) (ts : Tokens) → accepts s f fs ts ≡ true → AllByRecursion (λ t. is_semicolon t ≡ false) ts

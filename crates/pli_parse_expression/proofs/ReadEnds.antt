@@ -22,7 +22,7 @@ use Rattle.pli_parse_expression.specs.Expressions.{operators, SpellsOutermost, S
 use Rattle.pli_parse_expression.specs.Ends.{parts_go_on, NoneGoesOn, ReferenceEnds, NoInfix, ExpressionEnds}
 use Rattle.pli_base.specs.Reading.{Front}
 use Rattle.pli_parse_expression.specs.declared.counted.Counted.{Counted}
-use Rattle.pli_parse_expression.specs.Reading.{counted, Reader, opened, closed, operand_then, grouped, infix_from, expression_of, list_at, arguments_at, part_behind, parts_behind, joined_from, reference_behind, reference_of, prefix_of, parenthesis_of, constant_at, operand_of, inside, operand_at, expression_at, argument_of, reference_at}
+use Rattle.pli_parse_expression.specs.Reading.{counted, Reader, opened, closed, operand_then, grouped, infix_from, expression_of, list_at, arguments_at, part_after, parts_after, joined_from, reference_after, reference_of, prefix_of, parenthesis_of, constant_at, operand_of, inside, operand_at, expression_at, argument_of, reference_at}
 use Rattle.pli_base.specs.Results.{◌>>=◌}
 use Rattle.pli_parse_expression.proofs.ReadingTools.{limited_ok, wanted_none, closed_ok}
 use Rattle.pli_parse_fault.proofs.StepLemmas.{same_ok, bind_ok}
@@ -31,7 +31,7 @@ use Rattle.pli_parse_expression.proofs.ReadIsSpelled.{expression_spelled, refere
 use Rattle.pli_parse_expression.proofs.SpelledIsRead.{expression_ends_read, reference_ends_read}
 use Rattle.pli_parse_expression.proofs.EndTools.{OperandEnds, ArgumentsEnd, none_goes_on}
 
--- behind a constant and a `)`
+-- after a constant and a `)`
 nothing_goes_on : (ts : Tokens) → NoneGoesOn (λ t. false) ts
 nothing_goes_on [] = tt
 nothing_goes_on (t ∷ ts) = refl
@@ -101,7 +101,7 @@ module _ (one : Option Reader) where
   abbrev PartsStop : ℕ → Type 0
   PartsStop bound = (a : Arguments) (count p : ℕ) (ts : Tokens) (x : Front (Counted JoinedParts)) → ArgumentsEnd a ts → joined_from one bound count p ts ≡ Ok x → NoneGoesOn (parts_go_on a x.value.tree) x.rest
 
-  part_stops : (bound : ℕ) → PartsStop bound → (a : Arguments) (joining : Joining) (count p : ℕ) (us : Tokens) (x : Front (Counted JoinedParts)) (o : Option (Name × Tokens)) → part_behind one (joined_from one bound) joining count p us o ≡ Ok x
+  part_stops : (bound : ℕ) → PartsStop bound → (a : Arguments) (joining : Joining) (count p : ℕ) (us : Tokens) (x : Front (Counted JoinedParts)) (o : Option (Name × Tokens)) → part_after one (joined_from one bound) joining count p us o ≡ Ok x
       → NoneGoesOn (parts_go_on a x.value.tree) x.rest
   part_stops bound more a joining count p us x None h = absurd (wanted_none NameExpected p us x h)
   part_stops bound more a joining count p us x (Some n) h =
@@ -111,7 +111,7 @@ module _ (one : Option Reader) where
       (more s.0.value.tree s.0.value.count s.0.next s.0.rest b.0 (arguments_stop one count (p + 1) n.1 s.0 s.1) b.1)
 
   parts_step : (bound : ℕ) → PartsStop bound → (a : Arguments) (count p : ℕ) (ts : Tokens) (x : Front (Counted JoinedParts)) → ArgumentsEnd a ts → (o : Option (Joining × Tokens)) → joining_at ts ≡ o
-      → parts_behind one (joined_from one bound) count p ts o ≡ Ok x → NoneGoesOn (parts_go_on a x.value.tree) x.rest
+      → parts_after one (joined_from one bound) count p ts o ≡ Ok x → NoneGoesOn (parts_go_on a x.value.tree) x.rest
   parts_step bound more a count p ts x closed None found h = subst (λ (y : Front (Counted JoinedParts)). NoneGoesOn (parts_go_on a y.value.tree) y.rest) (same_ok h) (none_goes_on a ts closed found)
   parts_step bound more a count p ts x closed (Some j) found h = part_stops bound more a j.0 count (p + 1) j.1 x (name_first j.1) h
 
@@ -120,7 +120,7 @@ module _ (one : Option Reader) where
   parts_stop zero a count p ts x closed h = absurd (wanted_none NameExpected p ts x h)
   parts_stop (suc bound) a count p ts x closed h = parts_step bound (parts_stop bound) a count p ts x closed (joining_at ts) refl h
 
-  reference_step : (count p : ℕ) (ts : Tokens) (x : Front (Counted Reference)) (o : Option (Name × Tokens)) → reference_behind one count p ts o ≡ Ok x → ReferenceEnds x.value.tree x.rest
+  reference_step : (count p : ℕ) (ts : Tokens) (x : Front (Counted Reference)) (o : Option (Name × Tokens)) → reference_after one count p ts o ≡ Ok x → ReferenceEnds x.value.tree x.rest
   reference_step count p ts x None h = absurd (wanted_none NameExpected p ts x h)
   reference_step count p ts x (Some n) h =
       let a = bind_ok (arguments_at one count (p + 1) n.1) _ x h in

@@ -17,11 +17,11 @@ use Rattle.pli_parse_expression.specs.Operators.{operator_limit, operand_level, 
 use Rattle.pli_parse_expression.specs.Expressions.{SpellsExpression, SpellsReference, SpellsJoined, SpellsArguments, SpellsListed, SpellsFurther, operators, reference_operators, joined_operators, listed_operators, Deeper, NestsWithin, ReferenceNests, JoinedNest, ArgumentsNest, ListNests, OutermostFits, SpellsOutermost, Every, GivenFits, JoinedFits, ReferenceFits, SpellsReferenceAlone}
 use Rattle.pli_base.specs.Reading.{Front}
 use Rattle.pli_parse_expression.specs.declared.counted.Counted.{Counted}
-use Rattle.pli_parse_expression.specs.Reading.{counted, Reader, opened, closed, operand_then, grouped, infix_from, expression_of, listed_behind, further_from, listed_at, list_at, arguments_at, part_behind, parts_behind, joined_from, reference_behind, reference_of, prefix_of, parenthesis_of, constant_at, operand_of, inside, operand_at, expression_at, outermost, argument_of, reference_at}
+use Rattle.pli_parse_expression.specs.Reading.{counted, Reader, opened, closed, operand_then, grouped, infix_from, expression_of, listed_after, further_from, listed_at, list_at, arguments_at, part_after, parts_after, joined_from, reference_after, reference_of, prefix_of, parenthesis_of, constant_at, operand_of, inside, operand_at, expression_at, outermost, argument_of, reference_at}
 use Rattle.pli_parse_expression.specs.laws.Laws.{FrontSpells}
 use Rattle.pli_parse_expression.proofs.ReadingTools.{limited_ok, wanted_none, closed_ok, operator_ok, operator_below, level_small, none_above, joining_ok, name_ok, comma_ok}
 use Rattle.pli_parse_fault.proofs.StepLemmas.{same_ok, bind_ok}
-use Rattle.pli_base.specs.Words.{Tokens, name_first, behind, is_comma}
+use Rattle.pli_base.specs.Words.{Tokens, name_first, rest_after, is_comma}
 use Rattle.pli_base.specs.Results.{◌>>=◌}
 
 -- the front of the tokens spells what was read, which has so many operators and fits; the rest is left
@@ -40,7 +40,7 @@ IsReadBy Fits count_of reader = (count p : ℕ) (ts : Tokens) (x : Front (Counte
 regroup : (a b c d : Tokens) → a ++ (b ++ (c ++ d)) ≡ ((a ++ b) ++ c) ++ d
 regroup a b c d = simp append_assoc
 
--- what goes on behind a left operand
+-- what goes on after a left operand
 record Goes (levels min : ℕ) (left : Expression) (q count p : ℕ) (ls ts : Tokens) (x : Front (Counted Expression)) : Type 0 where
   more : Tokens
   whole : ts ≡ more ++ x.rest
@@ -137,7 +137,7 @@ abbrev pub total : (Expression → ℕ) → Expressions → ℕ
 total count_of Empty = 0
 total count_of (Listed e more) = count_of e + total count_of more
 
--- a list and the parenthesis behind it
+-- a list and the parenthesis after it
 abbrev pub SpellsClosed : ℕ → Tokens → Expressions → Type 0
 SpellsClosed p ts list = (us : Tokens) × (ts ≡ us ++ Sign signs.CloseParenthesis ∷ []) × SpellsListed p us list
 
@@ -145,7 +145,7 @@ module _ (Fits : Expression → Type 0) (count_of : Expression → ℕ) (one : R
   abbrev FurtherReads : ℕ → Type 0
   FurtherReads bound = (count p : ℕ) (ts : Tokens) (x : Front (Counted Expressions)) → further_from one bound count p ts ≡ Ok x → IsRead SpellsFurther (total count_of) (Every Fits) count p ts x
 
-  further_step : (bound : ℕ) → FurtherReads bound → (count p : ℕ) (ts : Tokens) (x : Front (Counted Expressions)) (o : Option Tokens) → behind is_comma ts ≡ o → listed_behind one (further_from one bound) count p ts o ≡ Ok x
+  further_step : (bound : ℕ) → FurtherReads bound → (count p : ℕ) (ts : Tokens) (x : Front (Counted Expressions)) (o : Option Tokens) → rest_after is_comma ts ≡ o → listed_after one (further_from one bound) count p ts o ≡ Ok x
       → IsRead SpellsFurther (total count_of) (Every Fits) count p ts x
   further_step bound more_read count p ts x None found h =
       subst (IsRead SpellsFurther (total count_of) (Every Fits) count p ts) (same_ok h) (record { front = []; whole = refl; spelled = refl; place = omega arith; counted = omega arith; few = λ f. f; fits = tt })
@@ -167,7 +167,7 @@ module _ (Fits : Expression → Type 0) (count_of : Expression → ℕ) (one : R
   further_reads : (bound : ℕ) → FurtherReads bound
   unfolding further_from
   further_reads zero count p ts x h = absurd (wanted_none ExpressionExpected p ts x h)
-  further_reads (suc bound) count p ts x h = further_step bound (further_reads bound) count p ts x (behind is_comma ts) refl h
+  further_reads (suc bound) count p ts x h = further_step bound (further_reads bound) count p ts x (rest_after is_comma ts) refl h
 
   listed_reads : (count p : ℕ) (ts : Tokens) (x : Front (Counted Expressions)) → listed_at one count p ts ≡ Ok x → IsRead SpellsClosed (total count_of) (Every Fits) count p ts x
   unfolding listed_at
@@ -267,7 +267,7 @@ module _ (Fits : Expressions → Type 0) (count_of : Expressions → ℕ) where
     MoreRead bound = (count p : ℕ) (ts : Tokens) (x : Front (Counted JoinedParts)) → joined_from one bound count p ts ≡ Ok x → PartsRead count p ts x
 
     part_step : (bound : ℕ) → MoreRead bound → (joining : Joining) (count p : ℕ) (us : Tokens) (x : Front (Counted JoinedParts)) (o : Option (Name × Tokens)) → name_first us ≡ o
-        → part_behind one (joined_from one bound) joining count (p + 1) us o ≡ Ok x → PartsRead count p (Sign (joining_sign joining) ∷ us) x
+        → part_after one (joined_from one bound) joining count (p + 1) us o ≡ Ok x → PartsRead count p (Sign (joining_sign joining) ∷ us) x
     part_step bound more_read joining count p us x None found h = absurd (wanted_none NameExpected (p + 1) us x h)
     part_step bound more_read joining count p us x (Some n) found h =
         let a = bind_ok (arguments_at one count (p + 1 + 1) n.1) _ x h in
@@ -286,7 +286,7 @@ module _ (Fits : Expressions → Type 0) (count_of : Expressions → ℕ) where
           fits = (s.fits, r.fits);
         })
 
-    parts_step : (bound : ℕ) → MoreRead bound → (count p : ℕ) (ts : Tokens) (x : Front (Counted JoinedParts)) (o : Option (Joining × Tokens)) → joining_at ts ≡ o → parts_behind one (joined_from one bound) count p ts o ≡ Ok x → PartsRead count p ts x
+    parts_step : (bound : ℕ) → MoreRead bound → (count p : ℕ) (ts : Tokens) (x : Front (Counted JoinedParts)) (o : Option (Joining × Tokens)) → joining_at ts ≡ o → parts_after one (joined_from one bound) count p ts o ≡ Ok x → PartsRead count p ts x
     parts_step bound more_read count p ts x None found h =
         subst (PartsRead count p ts) (same_ok h) (record { front = []; whole = refl; spelled = refl; place = omega arith; counted = omega arith; few = λ f. f; fits = tt })
     parts_step bound more_read count p ts x (Some j) found h =
@@ -297,7 +297,7 @@ module _ (Fits : Expressions → Type 0) (count_of : Expressions → ℕ) where
     parts_read zero count p ts x h = absurd (wanted_none NameExpected p ts x h)
     parts_read (suc bound) count p ts x h = parts_step bound (parts_read bound) count p ts x (joining_at ts) refl h
 
-    reference_step : (count p : ℕ) (ts : Tokens) (x : Front (Counted Reference)) (o : Option (Name × Tokens)) → name_first ts ≡ o → reference_behind one count p ts o ≡ Ok x → IsRead SpellsReference (count_reference count_of) (ReferenceFits Fits) count p ts x
+    reference_step : (count p : ℕ) (ts : Tokens) (x : Front (Counted Reference)) (o : Option (Name × Tokens)) → name_first ts ≡ o → reference_after one count p ts o ≡ Ok x → IsRead SpellsReference (count_reference count_of) (ReferenceFits Fits) count p ts x
     reference_step count p ts x None found h = absurd (wanted_none NameExpected p ts x h)
     reference_step count p ts x (Some n) found h =
         let a = bind_ok (arguments_at one count (p + 1) n.1) _ x h in

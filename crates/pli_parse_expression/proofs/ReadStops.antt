@@ -1,7 +1,7 @@
 -- Reading an expression or a reference stops at the first token that cannot stand.
 use Rattle.std.proofs.Common.{◌≡◌, ◌<◌, ◌≤◌, ◌+◌, ℕ, suc, zero, nat_lt, Bool, true, false, cond, [], ◌∷◌, Option, Some, None, Result, Ok, Err, option_map, length, codes, refl, ap, ◌∙◌, sym, subst, arith, ⊎_elim, append-nil}
 use Rattle.pli_base.specs.Name.{Name}
-use Rattle.pli_base.specs.Words.{Tokens, name_first, behind, is_comma}
+use Rattle.pli_base.specs.Words.{Tokens, name_first, rest_after, is_comma}
 use Rattle.pli_base.specs.Results.{◌>>=◌}
 use Rattle.pli_base.specs.Reading.{at_fault, misfit, taken}
 use Rattle.pli_base.specs.FaultPlaces.{Passes}
@@ -19,13 +19,13 @@ use Rattle.pli_base.specs.declared.token.TokenText.{TokenText}
 use Rattle.pli_base.specs.declared.token.TokenText.TheVariants.{Word, Decimal, Binary, Characters, Bits, Sign}
 use Rattle.pli_parse_fault.specs.FirstFaults.{IsFirstFault}
 use Rattle.pli_parse_fault.proofs.OnePlace.{one_place}
-use Rattle.pli_parse_fault.proofs.ReadingStops.{Reads, SameFirst, Completes, Stops, EndsBehind, meets_again, behind_token, rebound, misfit_stops, fault_stops, token_stops, nothing_stops, first_decides, stops_made, stops_then, is_first, whole_spells}
+use Rattle.pli_parse_fault.proofs.ReadingStops.{Reads, SameFirst, Completes, Stops, EndsAfter, meets_again, after_token, rebound, misfit_stops, fault_stops, token_stops, nothing_stops, first_decides, stops_made, stops_then, is_first, whole_spells}
 use Rattle.pli_parse_expression.specs.Operators.{operator_limit, level_of, prefix_sign, infix_sign, joining_sign, infix_of, not_below, operator_at, joining_at, begins_expression}
 use Rattle.pli_parse_expression.specs.Expressions.{operators, EndsExpression, SpellsOutermost, SpellsReferenceAlone}
 use Rattle.pli_base.specs.Reading.{Front}
 use Rattle.pli_parse_expression.specs.declared.counted.Counted.{Counted}
-use Rattle.pli_parse_expression.specs.Reading.{counted, Reader, limited, opened, closed, operand_then, grouped, infix_from, expression_of, listed_behind, further_from, listed_at, list_at, arguments_at, part_behind, parts_behind, joined_from, reference_behind, reference_of, prefix_of, parenthesis_of, constant_at, operand_of, inside, operand_at, expression_at, argument_of, reference_at}
-use Rattle.pli_parse_expression.specs.Ends.{NoneGoesOn, NoInfix, goes_on_behind}
+use Rattle.pli_parse_expression.specs.Reading.{counted, Reader, limited, opened, closed, operand_then, grouped, infix_from, expression_of, listed_after, further_from, listed_at, list_at, arguments_at, part_after, parts_after, joined_from, reference_after, reference_of, prefix_of, parenthesis_of, constant_at, operand_of, inside, operand_at, expression_at, argument_of, reference_at}
+use Rattle.pli_parse_expression.specs.Ends.{NoneGoesOn, NoInfix, goes_on_after}
 use Rattle.pli_parse_expression.proofs.EndTools.{NotOpen, not_joined}
 use Rattle.pli_parse_expression.proofs.ReadingTools.{operator_ok, joining_ok, name_ok, comma_ok}
 use Rattle.pli_parse_fault.proofs.ReadingFaults.{Stands, stands_then}
@@ -54,7 +54,7 @@ ends_infix : (ts : Tokens) → EndsExpression ts → NoInfix ts
 ends_infix [] h = tt
 ends_infix (t ∷ ts) h = h.1
 
-ends_parts : (ts : Tokens) → EndsExpression ts → NoneGoesOn (goes_on_behind Absent) ts
+ends_parts : (ts : Tokens) → EndsExpression ts → NoneGoesOn (goes_on_after Absent) ts
 ends_parts [] h = tt
 ends_parts (t ∷ ts) h = h.0
 
@@ -68,8 +68,8 @@ closes_ends [] h = absurd h
 closes_ends (Sign signs.CloseParenthesis ∷ ts) h = (refl, refl)
 closes_ends (t ∷ ts) h = absurd h
 
-closes_comma : (ts : Tokens) → Closes ts → behind is_comma ts ≡ None
-unfolding behind
+closes_comma : (ts : Tokens) → Closes ts → rest_after is_comma ts ≡ None
+unfolding rest_after
 closes_comma [] h = absurd h
 closes_comma (Sign signs.CloseParenthesis ∷ ts) h = refl
 closes_comma (t ∷ ts) h = absurd h
@@ -90,10 +90,10 @@ same_operator min [] us h same = absurd same
 same_operator min (t ∷ ts) us h same =
     meets_again (operator_at min) t ts us None (λ vs. none_below min (infix_of t) ts vs h) same
 
-same_behind : (fits : TokenText → Bool) (ts us : Tokens) → behind fits ts ≡ None → SameFirst ts us → behind fits us ≡ None
-unfolding behind
-same_behind fits [] us h same = absurd same
-same_behind fits (t ∷ ts) us h same = meets_again (behind fits) t ts us None (λ vs. by (fits t) vs h) same
+same_after : (fits : TokenText → Bool) (ts us : Tokens) → rest_after fits ts ≡ None → SameFirst ts us → rest_after fits us ≡ None
+unfolding rest_after
+same_after fits [] us h same = absurd same
+same_after fits (t ∷ ts) us h same = meets_again (rest_after fits) t ts us None (λ vs. by (fits t) vs h) same
   where
     by : (b : Bool) (vs : Tokens) → ◌≡◌ {A = Option Tokens} (cond b (Some ts) None) None → ◌≡◌ {A = Option Tokens} (cond b (Some vs) None) None
     by true vs h = cc
@@ -137,7 +137,7 @@ IsStopping reader = (count p : ℕ) (ts : Tokens) → Stops fronts (λ b us. rea
 
 closed_stops : {A : Type 0} (First Last : Tokens → Type 0) → ((us : Tokens) → First (Sign signs.CloseParenthesis ∷ us)) → (value : A) (count p : ℕ) (ts : Tokens)
     → Stops fronts (λ b us. closed value count p us) First Last p ts (closed value count p ts)
-unfolding taken behind misfit
+unfolding taken rest_after misfit
 closed_stops {A = A} First Last first value count p ts = by ts
   where
     end : Completes {X = Front (Counted A)} fronts (λ b us. closed value count p us) First Last []
@@ -158,7 +158,7 @@ module _ (operand : Reader) (stops : IsStopping operand) (sound : IsSound operan
       → Stops fronts (λ b us. infix_from operand b min count left p us) EndsExpression EndsExpression p ts (infix_from operand bound min count left p ts)
 
   -- a loop ends before what continues no expression
-  loop_ends : (min : ℕ) (made : Front (Counted Expression) → Expression) → EndsBehind fronts fronts (λ b z. infix_from operand b min z.value.count (made z) z.next z.rest) EndsExpression EndsExpression
+  loop_ends : (min : ℕ) (made : Front (Counted Expression) → Expression) → EndsAfter fronts fronts (λ b z. infix_from operand b min z.value.count (made z) z.next z.rest) EndsExpression EndsExpression
   loop_ends min made = (
     [],
     (λ us last. last),
@@ -169,7 +169,7 @@ module _ (operand : Reader) (stops : IsStopping operand) (sound : IsSound operan
         )),
   )
 
-  -- an infix operator behind too many
+  -- an infix operator after too many
   limit_stops : (min count : ℕ) (left : Expression) (p : ℕ) (o : InfixOperator) → min ≤ level_of o → nat_lt count operator_limit ≡ false → (us : Tokens) (b : ℕ) → length (Sign (infix_sign o) ∷ us) < b
       → infix_from operand b min count left p (Sign (infix_sign o) ∷ us) ≡ at_fault NestedTooDeep p
   unfolding infix_from
@@ -178,13 +178,13 @@ module _ (operand : Reader) (stops : IsStopping operand) (sound : IsSound operan
       ap (grouped operand (infix_from operand b) min count left p (Sign (infix_sign o) ∷ us)) (operator_there min o us high)
       ∙ ap (λ q. cond q (operand_then operand (infix_from operand b) (level_of o + 1) (count + 1) (p + 1) us >>= λ y. infix_from operand b min y.value.count (Infix o p left y.value.tree) y.next y.rest) (at_fault NestedTooDeep p)) many
 
-  -- behind an infix operator
-  operator_behind : (min count : ℕ) (left : Expression) (p : ℕ) (o : InfixOperator) → min ≤ level_of o → nat_lt count operator_limit ≡ true → (b : ℕ) (us : Tokens) → length (Sign (infix_sign o) ∷ us) < b
+  -- after an infix operator
+  operator_after : (min count : ℕ) (left : Expression) (p : ℕ) (o : InfixOperator) → min ≤ level_of o → nat_lt count operator_limit ≡ true → (b : ℕ) (us : Tokens) → length (Sign (infix_sign o) ∷ us) < b
       → (c : ℕ) × (length us < c) × (infix_from operand b min count left p (Sign (infix_sign o) ∷ us)
       ≡ (operand_then operand (infix_from operand c) (level_of o + 1) (count + 1) (p + 1) us >>= λ y. infix_from operand c min y.value.count (Infix o p left y.value.tree) y.next y.rest))
   unfolding infix_from
-  operator_behind min count left p o high few zero us small = absurd (omega (arith, small))
-  operator_behind min count left p o high few (suc b) us small = (
+  operator_after min count left p o high few zero us small = absurd (omega (arith, small))
+  operator_after min count left p o high few (suc b) us small = (
     b,
     omega (arith, small),
     ap (grouped operand (infix_from operand b) min count left p (Sign (infix_sign o) ∷ us)) (operator_there min o us high)
@@ -233,8 +233,8 @@ module _ (operand : Reader) (stops : IsStopping operand) (sound : IsSound operan
       by : (b : Bool) → nat_lt count operator_limit ≡ b
           → Stops fronts (λ b us. infix_from operand b min count left p us) EndsExpression EndsExpression p (Sign (infix_sign x.0) ∷ x.1) (cond b read (at_fault NestedTooDeep p))
       by true few =
-          behind_token fronts (Sign (infix_sign x.0)) (λ b us. operand_then operand (infix_from operand b) (level_of x.0 + 1) (count + 1) (p + 1) us >>= λ y. infix_from operand b min y.value.count (Infix x.0 p left y.value.tree) y.next y.rest)
-          (λ b us. infix_from operand b min count left p us) Any EndsExpression EndsExpression p x.1 read (operator_behind min count left p x.0 shape.1 few) (right_stops bound more min count left p x.0 x.1 less)
+          after_token fronts (Sign (infix_sign x.0)) (λ b us. operand_then operand (infix_from operand b) (level_of x.0 + 1) (count + 1) (p + 1) us >>= λ y. infix_from operand b min y.value.count (Infix x.0 p left y.value.tree) y.next y.rest)
+          (λ b us. infix_from operand b min count left p us) Any EndsExpression EndsExpression p x.1 read (operator_after min count left p x.0 shape.1 few) (right_stops bound more min count left p x.0 x.1 less)
       by false many =
           fault_stops fronts (λ b us. infix_from operand b min count left p us) EndsExpression EndsExpression (record { code = NestedTooDeep; at = p }) (Sign (infix_sign x.0)) x.1 (λ us b less. limit_stops min count left p x.0 shape.1 many us b less)
           ([], (λ us last. (record { value = record { tree = left; count = count }; next = p; rest = us }, λ b less. infix_ends operand b min count left p us less (infix_is_none min us (ends_infix us last)))), (λ none us last. last))
@@ -252,34 +252,34 @@ module _ (operand : Reader) (stops : IsStopping operand) (sound : IsSound operan
       (λ z e. let s = passes_of 1 p ts (operand count p ts) z (sound count p ts) e in loop_stops (length ts + 1) 0 z.value.count z.value.tree z.next z.rest (omega (arith, s.0, s.1)))
 
 -- a list ends before what does not begin with a comma
-further_ends : (one : Reader) (b count p : ℕ) (us : Tokens) → length us < b → behind is_comma us ≡ None → further_from one b count p us ≡ counted Empty count p us
+further_ends : (one : Reader) (b count p : ℕ) (us : Tokens) → length us < b → rest_after is_comma us ≡ None → further_from one b count p us ≡ counted Empty count p us
 unfolding further_from
 further_ends one zero count p us small none = absurd (omega (arith, small))
-further_ends one (suc b) count p us small none = ap (listed_behind one (further_from one b) count p us) none
+further_ends one (suc b) count p us small none = ap (listed_after one (further_from one b) count p us) none
 
 module _ (one : Reader) (stops : IsStopping one) (sound : IsSound one) where
   abbrev FurtherStops : ℕ → Type 0
   FurtherStops bound = (count p : ℕ) (ts : Tokens) → length ts < bound → Stops fronts (λ b us. further_from one b count p us) EndsExpression Closes p ts (further_from one bound count p ts)
 
-  -- one expression more, behind a comma
-  comma_behind : (count p b : ℕ) (us : Tokens) → length (Sign signs.Comma ∷ us) < b
-      → (c : ℕ) × (length us < c) × (further_from one b count p (Sign signs.Comma ∷ us) ≡ listed_behind one (further_from one c) count p us (Some us))
-  unfolding further_from behind
-  comma_behind count p zero us small = absurd (omega (arith, small))
-  comma_behind count p (suc b) us small = (b, omega (arith, small), refl)
+  -- one expression more, after a comma
+  comma_after : (count p b : ℕ) (us : Tokens) → length (Sign signs.Comma ∷ us) < b
+      → (c : ℕ) × (length us < c) × (further_from one b count p (Sign signs.Comma ∷ us) ≡ listed_after one (further_from one c) count p us (Some us))
+  unfolding further_from rest_after
+  comma_after count p zero us small = absurd (omega (arith, small))
+  comma_after count p (suc b) us small = (b, omega (arith, small), refl)
 
-  further_step : (bound : ℕ) → FurtherStops bound → (count p : ℕ) (ts : Tokens) → length ts < suc bound → (o : Option Tokens) → behind is_comma ts ≡ o
-      → Stops fronts (λ b us. further_from one b count p us) EndsExpression Closes p ts (listed_behind one (further_from one bound) count p ts o)
+  further_step : (bound : ℕ) → FurtherStops bound → (count p : ℕ) (ts : Tokens) → length ts < suc bound → (o : Option Tokens) → rest_after is_comma ts ≡ o
+      → Stops fronts (λ b us. further_from one b count p us) EndsExpression Closes p ts (listed_after one (further_from one bound) count p ts o)
   further_step bound more count p ts small None found =
       nothing_stops fronts (λ b us. further_from one b count p us) EndsExpression Closes closes_ends p (record { value = record { tree = Empty; count = count }; next = p; rest = ts }) refl
-      (λ us goes b less. further_ends one b count p us less (⊎_elim (λ same. same_behind is_comma ts us found same) (λ last. closes_comma us last) goes))
+      (λ us goes b less. further_ends one b count p us less (⊎_elim (λ same. same_after is_comma ts us found same) (λ last. closes_comma us last) goes))
   further_step bound more count p ts small (Some vs) found =
       let comma : ts ≡ Sign signs.Comma ∷ vs = comma_ok ts vs found in
       let less : length vs < bound = omega (arith, small, ap length comma) in
-      let behind_one : Stops fronts (λ b us. listed_behind one (further_from one b) count p us (Some us)) Any Closes (p + 1) vs (listed_behind one (further_from one bound) count p vs (Some vs)) =
+      let after_one : Stops fronts (λ b us. listed_after one (further_from one b) count p us (Some us)) Any Closes (p + 1) vs (listed_after one (further_from one bound) count p vs (Some vs)) =
       stops_then fronts fronts (λ b us. one count (p + 1) us)
       (λ b x. further_from one b x.value.count x.next x.rest >>= λ y. counted (Listed x.value.tree y.value.tree) y.value.count y.next y.rest)
-      (λ b us. listed_behind one (further_from one b) count p us (Some us)) Any EndsExpression Closes (p + 1) vs (λ b us less. (b, less, refl)) (
+      (λ b us. listed_after one (further_from one b) count p us (Some us)) Any EndsExpression Closes (p + 1) vs (λ b us less. (b, less, refl)) (
         [],
         closes_ends,
         (λ x us last. (
@@ -293,17 +293,17 @@ module _ (one : Reader) (stops : IsStopping one) (sound : IsSound one) where
       stops_made fronts fronts (λ b us. further_from one b x.value.count x.next us) (λ y. record { value = record { tree = Listed x.value.tree y.value.tree; count = y.value.count }; next = y.next; rest = y.rest }) EndsExpression Closes x.next x.rest (further_from one bound x.value.count x.next x.rest)
       (λ y. refl) (λ y. refl) (λ y us. refl) (more x.value.count x.next x.rest (omega (arith, s.0, s.1, less))))
       in
-      subst (λ us. Stops fronts (λ b us. further_from one b count p us) EndsExpression Closes p us (listed_behind one (further_from one bound) count p vs (Some vs))) (sym comma)
-      (behind_token fronts (Sign signs.Comma) (λ b us. listed_behind one (further_from one b) count p us (Some us)) (λ b us. further_from one b count p us) Any EndsExpression Closes p vs
-      (listed_behind one (further_from one bound) count p vs (Some vs)) (comma_behind count p) behind_one)
+      subst (λ us. Stops fronts (λ b us. further_from one b count p us) EndsExpression Closes p us (listed_after one (further_from one bound) count p vs (Some vs))) (sym comma)
+      (after_token fronts (Sign signs.Comma) (λ b us. listed_after one (further_from one b) count p us (Some us)) (λ b us. further_from one b count p us) Any EndsExpression Closes p vs
+      (listed_after one (further_from one bound) count p vs (Some vs)) (comma_after count p) after_one)
 
   further_stops : (bound : ℕ) → FurtherStops bound
   unfolding further_from
   further_stops zero count p ts small = absurd (omega (arith, small))
-  further_stops (suc bound) count p ts small = further_step bound (further_stops bound) count p ts small (behind is_comma ts) refl
+  further_stops (suc bound) count p ts small = further_step bound (further_stops bound) count p ts small (rest_after is_comma ts) refl
 
   listed_stops : (Last : Tokens → Type 0) (count p : ℕ) (ts : Tokens) → Stops fronts (λ b us. listed_at one count p us) Any Last p ts (listed_at one count p ts)
-  unfolding listed_at taken behind
+  unfolding listed_at taken rest_after
   listed_stops Last count p ts =
       stops_then fronts fronts (λ b us. one count p us) (λ b x. further_from one (length x.rest + 1) x.value.count x.next x.rest >>= λ y. closed (Listed x.value.tree y.value.tree) y.value.count y.next y.rest) (λ b us. listed_at one count p us)
       Any EndsExpression Last p ts (λ b us less. (b, less, refl)) (
@@ -330,7 +330,7 @@ module _ (one : Reader) (stops : IsStopping one) (sound : IsSound one) where
 
   -- `)` alone
   list_completes : (Last : Tokens → Type 0) (count p : ℕ) → Completes {X = Front (Counted Expressions)} fronts (λ b us. list_at one count p us) Any Last []
-  unfolding list_at begins_expression taken behind
+  unfolding list_at begins_expression taken rest_after
   list_completes Last count p = (
     Sign signs.CloseParenthesis ∷ [],
     (λ us last. (record { value = record { tree = Empty; count = count }; next = p + 1; rest = us }, λ b less. refl)),
@@ -370,7 +370,7 @@ opened_stop None stops sound count p ts =
     fault_stops fronts (λ b us. arguments_at None count p us) EndsExpression EndsExpression (record { code = NestedTooDeep; at = p }) (Sign signs.OpenParenthesis) ts (λ us b less. refl)
     ([], (λ us last. (record { value = record { tree = Absent; count = count }; next = p; rest = us }, λ b less. no_arguments None count p us (ends_open us last))), (λ none us last. last))
 opened_stop (Some one) stops sound count p ts =
-    behind_token fronts (Sign signs.OpenParenthesis) (λ b us. list_at one count (p + 1) us >>= λ x. counted (Given x.value.tree) x.value.count x.next x.rest) (λ b us. arguments_at (Some one) count p us)
+    after_token fronts (Sign signs.OpenParenthesis) (λ b us. list_at one count (p + 1) us >>= λ x. counted (Given x.value.tree) x.value.count x.next x.rest) (λ b us. arguments_at (Some one) count p us)
     Any EndsExpression EndsExpression p ts (list_at one count (p + 1) ts >>= λ x. counted (Given x.value.tree) x.value.count x.next x.rest) (λ b us less. (length us + 1, omega arith, refl))
     (stops_made fronts fronts (λ b us. list_at one count (p + 1) us) (λ x. record { value = record { tree = Given x.value.tree; count = x.value.count }; next = x.next; rest = x.rest }) Any EndsExpression (p + 1) ts (list_at one count (p + 1) ts)
     (λ x. refl) (λ x. refl) (λ x us. refl) (list_stops one stops sound EndsExpression count (p + 1) ts))
@@ -390,7 +390,7 @@ arguments_stop one stops sound count p (t ∷ ts) = absent_stop one count p (t �
 joined_ends : (one : Option Reader) (b count p : ℕ) (us : Tokens) → length us < b → joining_at us ≡ None → joined_from one b count p us ≡ counted Alone count p us
 unfolding joined_from
 joined_ends one zero count p us small none = absurd (omega (arith, small))
-joined_ends one (suc b) count p us small none = ap (parts_behind one (joined_from one b) count p us) none
+joined_ends one (suc b) count p us small none = ap (parts_after one (joined_from one b) count p us) none
 
 ends_joining : (ts : Tokens) → EndsExpression ts → joining_at ts ≡ None
 ends_joining ts h = not_joined Absent ts (ends_parts ts h)
@@ -399,18 +399,18 @@ ends_joining ts h = not_joined Absent ts (ends_parts ts h)
 abbrev a_name : TokenText
 a_name = Word (codes "A")
 
--- a bound for the parts behind arguments
+-- a bound for the parts after arguments
 abbrev IsBound : (ℕ → Tokens → ℕ) → Type 0
 IsBound size = (b : ℕ) (us : Tokens) → length us < b → length us < size b us
 
--- the arguments behind a name, and further parts
-abbrev behind_name : {A : Type 0} (one : Option Reader) (size : ℕ → Tokens → ℕ) (make : Arguments → JoinedParts → A) (count p b : ℕ) → Tokens → Result (Front (Counted A)) Fault
-behind_name one size make count p b us =
+-- the arguments after a name, and further parts
+abbrev after_name : {A : Type 0} (one : Option Reader) (size : ℕ → Tokens → ℕ) (make : Arguments → JoinedParts → A) (count p b : ℕ) → Tokens → Result (Front (Counted A)) Fault
+after_name one size make count p b us =
     arguments_at one count p us >>= λ x. joined_from one (size b x.rest) x.value.count x.next x.rest >>= λ y. counted (make x.value.tree y.value.tree) y.value.count y.next y.rest
 
 -- the part without arguments, where nothing goes on
 name_alone : {A : Type 0} (one : Option Reader) (size : ℕ → Tokens → ℕ) → IsBound size → (make : Arguments → JoinedParts → A) (count p b : ℕ) (us : Tokens) → length us < b → EndsExpression us
-    → behind_name one size make count p b us ≡ counted (make Absent Alone) count p us
+    → after_name one size make count p b us ≡ counted (make Absent Alone) count p us
 name_alone one size bounds make count p b us less last =
     ap (λ r. r >>= λ x. joined_from one (size b x.rest) x.value.count x.next x.rest >>= λ y. counted (make x.value.tree y.value.tree) y.value.count y.next y.rest) (no_arguments one count p us (ends_open us last))
     ∙ ap (λ r. r >>= λ y. counted (make Absent y.value.tree) y.value.count y.next y.rest) (joined_ends one (size b us) count p us (bounds b us less) (ends_joining us last))
@@ -421,10 +421,10 @@ module _ (one : Option Reader) (stops : StopsWhere one) (sound : IsSoundWhere on
 
   named_stops : {A : Type 0} (make : Arguments → JoinedParts → A) (size : ℕ → Tokens → ℕ) → IsBound size → (bound : ℕ) (count p : ℕ) (ts : Tokens)
       → ((us : Tokens) → length us ≤ length ts → PartsStop (size bound us)) → length ts < bound
-      → Stops fronts (λ b us. behind_name one size make count p b us) EndsExpression EndsExpression p ts (behind_name one size make count p bound ts)
+      → Stops fronts (λ b us. after_name one size make count p b us) EndsExpression EndsExpression p ts (after_name one size make count p bound ts)
   named_stops make size bounds bound count p ts more small =
       stops_then fronts fronts (λ b us. arguments_at one count p us) (λ b x. joined_from one (size b x.rest) x.value.count x.next x.rest >>= λ y. counted (make x.value.tree y.value.tree) y.value.count y.next y.rest)
-      (λ b us. behind_name one size make count p b us) EndsExpression EndsExpression EndsExpression p ts (λ b us less. (b, less, refl)) (
+      (λ b us. after_name one size make count p b us) EndsExpression EndsExpression EndsExpression p ts (λ b us less. (b, less, refl)) (
         [],
         (λ us last. last),
         (λ x us last. (
@@ -442,7 +442,7 @@ module _ (one : Option Reader) (stops : StopsWhere one) (sound : IsSoundWhere on
       (λ b us less. (size b us, bounds b us less, refl)) (more x.rest few x.value.count x.next x.rest (bounds bound x.rest (omega (arith, few, small))))))
 
   -- a name alone
-  part_completes : (joining : Joining) (count p : ℕ) → Completes {X = Front (Counted JoinedParts)} fronts (λ b us. part_behind one (joined_from one b) joining count p us (name_first us)) Any EndsExpression []
+  part_completes : (joining : Joining) (count p : ℕ) → Completes {X = Front (Counted JoinedParts)} fronts (λ b us. part_after one (joined_from one b) joining count p us (name_first us)) Any EndsExpression []
   unfolding name_first
   part_completes joining count p = (
     a_name ∷ [],
@@ -454,48 +454,48 @@ module _ (one : Option Reader) (stops : StopsWhere one) (sound : IsSoundWhere on
   )
 
   part_stops : (bound : ℕ) → PartsStop bound → (joining : Joining) (count p : ℕ) (ts : Tokens) → length ts < bound → (o : Option (Name × Tokens)) → name_first ts ≡ o
-      → Stops fronts (λ b us. part_behind one (joined_from one b) joining count p us (name_first us)) Any EndsExpression p ts (part_behind one (joined_from one bound) joining count p ts o)
+      → Stops fronts (λ b us. part_after one (joined_from one b) joining count p us (name_first us)) Any EndsExpression p ts (part_after one (joined_from one bound) joining count p ts o)
   unfolding name_first
   part_stops bound more joining count p ts small None found =
-      misfit_stops fronts (λ b us. part_behind one (joined_from one b) joining count p us (name_first us)) Any EndsExpression NameExpected p ts
-      (λ us same b less. ap (part_behind one (joined_from one b) joining count p us) (same_name ts us found same)) (part_completes joining count p)
+      misfit_stops fronts (λ b us. part_after one (joined_from one b) joining count p us (name_first us)) Any EndsExpression NameExpected p ts
+      (λ us same b less. ap (part_after one (joined_from one b) joining count p us) (same_name ts us found same)) (part_completes joining count p)
   part_stops bound more joining count p ts small (Some n) found =
       let name : ts ≡ Word n.0 ∷ n.1 = name_ok ts n found in
       let less : length n.1 < bound = omega (arith, small, ap length name) in
       let make : Arguments → JoinedParts → JoinedParts = λ a m. Joined joining (record { name = n.0; at = p }) a m in
-      subst (λ us. Stops fronts (λ b us. part_behind one (joined_from one b) joining count p us (name_first us)) Any EndsExpression p us (part_behind one (joined_from one bound) joining count p ts (Some n))) (sym name)
-      (behind_token fronts (Word n.0) (λ b us. behind_name one (λ b us. b) make count (p + 1) b us) (λ b us. part_behind one (joined_from one b) joining count p us (name_first us)) EndsExpression Any EndsExpression p n.1
-      (part_behind one (joined_from one bound) joining count p ts (Some n)) (λ b us small. (b, omega (arith, small), refl))
+      subst (λ us. Stops fronts (λ b us. part_after one (joined_from one b) joining count p us (name_first us)) Any EndsExpression p us (part_after one (joined_from one bound) joining count p ts (Some n))) (sym name)
+      (after_token fronts (Word n.0) (λ b us. after_name one (λ b us. b) make count (p + 1) b us) (λ b us. part_after one (joined_from one b) joining count p us (name_first us)) EndsExpression Any EndsExpression p n.1
+      (part_after one (joined_from one bound) joining count p ts (Some n)) (λ b us small. (b, omega (arith, small), refl))
       (named_stops make (λ b us. b) (λ b us small. small) bound count (p + 1) n.1 (λ us few. more) less))
 
-  -- behind the sign that joins a part
-  sign_behind : (j : Joining) (count p b : ℕ) (us : Tokens) → length (Sign (joining_sign j) ∷ us) < b
-      → (c : ℕ) × (length us < c) × (joined_from one b count p (Sign (joining_sign j) ∷ us) ≡ part_behind one (joined_from one c) j count (p + 1) us (name_first us))
+  -- after the sign that joins a part
+  sign_after : (j : Joining) (count p b : ℕ) (us : Tokens) → length (Sign (joining_sign j) ∷ us) < b
+      → (c : ℕ) × (length us < c) × (joined_from one b count p (Sign (joining_sign j) ∷ us) ≡ part_after one (joined_from one c) j count (p + 1) us (name_first us))
   unfolding joined_from
-  sign_behind j count p zero us small = absurd (omega (arith, small))
-  sign_behind j count p (suc b) us small = (b, omega (arith, small), ap (parts_behind one (joined_from one b) count p (Sign (joining_sign j) ∷ us)) (joining_there j us))
+  sign_after j count p zero us small = absurd (omega (arith, small))
+  sign_after j count p (suc b) us small = (b, omega (arith, small), ap (parts_after one (joined_from one b) count p (Sign (joining_sign j) ∷ us)) (joining_there j us))
 
   parts_step : (bound : ℕ) → PartsStop bound → (count p : ℕ) (ts : Tokens) → length ts < suc bound → (o : Option (Joining × Tokens)) → joining_at ts ≡ o
-      → Stops fronts (λ b us. joined_from one b count p us) EndsExpression EndsExpression p ts (parts_behind one (joined_from one bound) count p ts o)
+      → Stops fronts (λ b us. joined_from one b count p us) EndsExpression EndsExpression p ts (parts_after one (joined_from one bound) count p ts o)
   parts_step bound more count p ts small None found =
       nothing_stops fronts (λ b us. joined_from one b count p us) EndsExpression EndsExpression (λ us last. last) p (record { value = record { tree = Alone; count = count }; next = p; rest = ts }) refl
       (λ us goes b less. joined_ends one b count p us less (⊎_elim (λ same. same_joining ts us found same) (λ last. ends_joining us last) goes))
   parts_step bound more count p ts small (Some j) found =
       let sign : ts ≡ Sign (joining_sign j.0) ∷ j.1 = joining_ok ts j found in
       let less : length j.1 < bound = omega (arith, small, ap length sign) in
-      subst (λ us. Stops fronts (λ b us. joined_from one b count p us) EndsExpression EndsExpression p us (part_behind one (joined_from one bound) j.0 count (p + 1) j.1 (name_first j.1))) (sym sign)
-      (behind_token fronts (Sign (joining_sign j.0)) (λ b us. part_behind one (joined_from one b) j.0 count (p + 1) us (name_first us)) (λ b us. joined_from one b count p us) Any EndsExpression EndsExpression p j.1
-      (part_behind one (joined_from one bound) j.0 count (p + 1) j.1 (name_first j.1)) (sign_behind j.0 count p) (part_stops bound more j.0 count (p + 1) j.1 less (name_first j.1) refl))
+      subst (λ us. Stops fronts (λ b us. joined_from one b count p us) EndsExpression EndsExpression p us (part_after one (joined_from one bound) j.0 count (p + 1) j.1 (name_first j.1))) (sym sign)
+      (after_token fronts (Sign (joining_sign j.0)) (λ b us. part_after one (joined_from one b) j.0 count (p + 1) us (name_first us)) (λ b us. joined_from one b count p us) Any EndsExpression EndsExpression p j.1
+      (part_after one (joined_from one bound) j.0 count (p + 1) j.1 (name_first j.1)) (sign_after j.0 count p) (part_stops bound more j.0 count (p + 1) j.1 less (name_first j.1) refl))
 
   parts_stop : (bound : ℕ) → PartsStop bound
   unfolding joined_from
   parts_stop zero count p ts small = absurd (omega (arith, small))
   parts_stop (suc bound) count p ts small = parts_step bound (parts_stop bound) count p ts small (joining_at ts) refl
 
-  reference_step : (count p : ℕ) (ts : Tokens) (o : Option (Name × Tokens)) → name_first ts ≡ o → Stops fronts (λ b us. reference_of one count p us) Any EndsExpression p ts (reference_behind one count p ts o)
+  reference_step : (count p : ℕ) (ts : Tokens) (o : Option (Name × Tokens)) → name_first ts ≡ o → Stops fronts (λ b us. reference_of one count p us) Any EndsExpression p ts (reference_after one count p ts o)
   unfolding reference_of name_first
   reference_step count p ts None found =
-      misfit_stops fronts (λ b us. reference_of one count p us) Any EndsExpression NameExpected p ts (λ us same b less. ap (reference_behind one count p us) (same_name ts us found same)) (
+      misfit_stops fronts (λ b us. reference_of one count p us) Any EndsExpression NameExpected p ts (λ us same b less. ap (reference_after one count p us) (same_name ts us found same)) (
         a_name ∷ [],
         (λ us last. (
           record { value = record { tree = Named (record { name = codes "A"; at = p }) Absent Alone; count = count }; next = p + 1; rest = us },
@@ -505,9 +505,9 @@ module _ (one : Option Reader) (stops : StopsWhere one) (sound : IsSoundWhere on
       )
   reference_step count p ts (Some n) found =
       let make : Arguments → JoinedParts → Reference = λ a m. Named (record { name = n.0; at = p }) a m in
-      subst (λ us. Stops fronts (λ b us. reference_of one count p us) Any EndsExpression p us (reference_behind one count p ts (Some n))) (sym (name_ok ts n found))
-      (behind_token fronts (Word n.0) (λ b us. behind_name one (λ b us. length us + 1) make count (p + 1) b us) (λ b us. reference_of one count p us) EndsExpression Any EndsExpression p n.1
-      (reference_behind one count p ts (Some n)) (λ b us small. (length us + 1, omega arith, refl))
+      subst (λ us. Stops fronts (λ b us. reference_of one count p us) Any EndsExpression p us (reference_after one count p ts (Some n))) (sym (name_ok ts n found))
+      (after_token fronts (Word n.0) (λ b us. after_name one (λ b us. length us + 1) make count (p + 1) b us) (λ b us. reference_of one count p us) EndsExpression Any EndsExpression p n.1
+      (reference_after one count p ts (Some n)) (λ b us small. (length us + 1, omega arith, refl))
       (named_stops make (λ b us. length us + 1) (λ b us small. omega arith) (length n.1 + 1) count (p + 1) n.1 (λ us few. parts_stop (length us + 1)) (omega arith)))
 
   pub reference_stops : (count p : ℕ) (ts : Tokens) → Stops fronts (λ b us. reference_of one count p us) Any EndsExpression p ts (reference_of one count p ts)
@@ -552,7 +552,7 @@ prefix_stops (Some operand) stops operator count p ts = by (nat_lt count operato
 
     by : (b : Bool) → nat_lt count operator_limit ≡ b → OperandStops (Some operand) count p (Sign (prefix_sign operator) ∷ ts) (cond b (read ts) (at_fault NestedTooDeep p))
     by true few =
-        behind_token fronts (Sign (prefix_sign operator)) (λ b us. read us) (λ b us. operand_of (Some operand) count p us) Any Any EndsExpression p ts (read ts)
+        after_token fronts (Sign (prefix_sign operator)) (λ b us. read us) (λ b us. operand_of (Some operand) count p us) Any Any EndsExpression p ts (read ts)
         (λ b us less. (length us + 1, omega arith, prefix_there (Some operand) operator count p us ∙ ap (λ c. cond c (read us) (at_fault NestedTooDeep p)) few))
         (stops_made fronts fronts (λ b us. operand (count + 1) (p + 1) us) (λ x. record { value = record { tree = Prefix operator p x.value.tree; count = x.value.count }; next = x.next; rest = x.rest }) Any EndsExpression (p + 1) ts (operand (count + 1) (p + 1) ts)
         (λ x. refl) (λ x. refl) (λ x us. refl) (stops (count + 1) (p + 1) ts))
@@ -561,11 +561,11 @@ prefix_stops (Some operand) stops operator count p ts = by (nat_lt count operato
         (λ us b less. prefix_there (Some operand) operator count p us ∙ ap (λ c. cond c (read us) (at_fault NestedTooDeep p)) many) (operand_completes (Some operand) count p)
 
 parenthesis_stops : (one : Option Reader) → StopsWhere one → IsSoundWhere one → (count p : ℕ) (ts : Tokens) → OperandStops one count p (Sign signs.OpenParenthesis ∷ ts) (parenthesis_of one count p ts)
-unfolding operand_of parenthesis_of taken behind
+unfolding operand_of parenthesis_of taken rest_after
 parenthesis_stops None stops sound count p ts =
     fault_stops fronts (λ b us. operand_of None count p us) Any EndsExpression (record { code = NestedTooDeep; at = p }) (Sign signs.OpenParenthesis) ts (λ us b less. refl) (operand_completes None count p)
 parenthesis_stops (Some operand) stops sound count p ts =
-    behind_token fronts (Sign signs.OpenParenthesis) (λ b us. expression_of operand count (p + 1) us >>= λ x. closed (Parenthesized p x.value.tree) x.value.count x.next x.rest) (λ b us. operand_of (Some operand) count p us) Any Any EndsExpression p ts
+    after_token fronts (Sign signs.OpenParenthesis) (λ b us. expression_of operand count (p + 1) us >>= λ x. closed (Parenthesized p x.value.tree) x.value.count x.next x.rest) (λ b us. operand_of (Some operand) count p us) Any Any EndsExpression p ts
     (expression_of operand count (p + 1) ts >>= λ x. closed (Parenthesized p x.value.tree) x.value.count x.next x.rest) (λ b us less. (length us + 1, omega arith, refl))
     (stops_then fronts fronts (λ b us. expression_of operand count (p + 1) us) (λ b x. closed (Parenthesized p x.value.tree) x.value.count x.next x.rest)
     (λ b us. expression_of operand count (p + 1) us >>= λ x. closed (Parenthesized p x.value.tree) x.value.count x.next x.rest) Any EndsExpression EndsExpression (p + 1) ts (λ b us less. (b, less, refl)) (

@@ -15,7 +15,7 @@ use Rattle.pli_parse_expression.specs.Operators.{operator_limit, operand_level, 
 use Rattle.pli_base.specs.Reading.{Front}
 use Rattle.pli_parse_expression.specs.declared.counted.Counted.{Counted}
 use Rattle.pli_parse_expression.specs.Reading.{limited, closed}
-use Rattle.pli_base.specs.Words.{Tokens, name_first, behind, is_comma, is_close}
+use Rattle.pli_base.specs.Words.{Tokens, name_first, rest_after, is_comma, is_close}
 use Rattle.pli_base.specs.Reading.{expected, taken}
 use Rattle.pli_parse_fault.proofs.StepLemmas.{same_ok, some_same, bind_ok}
 
@@ -31,7 +31,7 @@ pub wanted_none : {A : Type 0} (code : Code) (p : ℕ) (ts : Tokens) (x : A) →
 wanted_none code p ts x h = cc
 
 close_ok : (p : ℕ) (ts us : Tokens) → taken is_close ParenthesisExpected p ts ≡ Ok us → ts ≡ Sign signs.CloseParenthesis ∷ us
-unfolding taken behind
+unfolding taken rest_after
 close_ok p [] us h = cc
 close_ok p (Sign signs.CloseParenthesis ∷ ts) us h = ap (λ vs. Sign signs.CloseParenthesis ∷ vs) (same_ok h)
 close_ok p (t ∷ ts) us h = cc
@@ -68,7 +68,7 @@ not_below_some min (Some o) ts x h =
     let low : min ≤ level_of o = ltb-false (level_of o) min g.0 in
     (ap (λ (y : InfixOperator × Tokens). Some y.0) g.1, ap (λ (y : InfixOperator × Tokens). y.1) g.1, rw (← g.1) low)
 
--- an infix operator stands first, and what is behind it
+-- an infix operator stands first, and what is after it
 pub operator_ok : (min : ℕ) (ts : Tokens) (x : InfixOperator × Tokens) → operator_at min ts ≡ Some x → (ts ≡ Sign (infix_sign x.0) ∷ x.1) × (min ≤ level_of x.0)
 unfolding operator_at
 operator_ok min [] x h = cc
@@ -111,8 +111,8 @@ joining_ok (Sign signs.Period ∷ ts) x h = ap (λ (y : Joining × Tokens). Sign
 joining_ok (Sign signs.Arrow ∷ ts) x h = ap (λ (y : Joining × Tokens). Sign (joining_sign y.0) ∷ y.1) (some_same h)
 joining_ok (t ∷ ts) x h = cc
 
-pub comma_ok : (ts us : Tokens) → behind is_comma ts ≡ Some us → ts ≡ Sign signs.Comma ∷ us
-unfolding behind
+pub comma_ok : (ts us : Tokens) → rest_after is_comma ts ≡ Some us → ts ≡ Sign signs.Comma ∷ us
+unfolding rest_after
 comma_ok [] us h = cc
 comma_ok (Sign signs.Comma ∷ ts) us h = ap (λ vs. Sign signs.Comma ∷ vs) (some_same h)
 comma_ok (t ∷ ts) us h = cc

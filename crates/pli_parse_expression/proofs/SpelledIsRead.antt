@@ -18,13 +18,13 @@ use Rattle.pli_parse_expression.specs.Operators.{operator_limit, operand_level, 
 use Rattle.pli_parse_expression.specs.Expressions.{SpellsExpression, SpellsReference, SpellsJoined, SpellsArguments, SpellsListed, SpellsFurther, operators, reference_operators, listed_operators, Deeper, NestsWithin, ReferenceNests, JoinedNest, ArgumentsNest, ListNests, OutermostFits, SpellsOutermost, Every, GivenFits, JoinedFits, ReferenceFits, SpellsReferenceAlone, EndsReference, EndsExpression}
 use Rattle.pli_base.specs.Reading.{Front}
 use Rattle.pli_parse_expression.specs.declared.counted.Counted.{Counted}
-use Rattle.pli_parse_expression.specs.Reading.{counted, Reader, closed, operand_then, grouped, infix_from, expression_of, further_from, listed_at, list_at, arguments_at, parts_behind, joined_from, reference_of, prefix_of, parenthesis_of, constant_at, operand_of, inside, operand_at, expression_at, outermost, argument_of, reference_at}
+use Rattle.pli_parse_expression.specs.Reading.{counted, Reader, closed, operand_then, grouped, infix_from, expression_of, further_from, listed_at, list_at, arguments_at, parts_after, joined_from, reference_of, prefix_of, parenthesis_of, constant_at, operand_of, inside, operand_at, expression_at, outermost, argument_of, reference_at}
 use Rattle.pli_parse_expression.specs.Ends.{parts_go_on, NoneGoesOn, ReferenceEnds, NoInfix, ExpressionEnds}
 use Rattle.pli_parse_expression.proofs.EndTools.{OperandEnds, operand_any, any_expression, any_reference, NotOpen, ArgumentsEnd, arguments_end, not_joined}
 use Rattle.pli_parse_expression.proofs.ReadingTools.{level_small}
 use Rattle.pli_parse_fault.proofs.StepLemmas.{same_ok}
 use Rattle.pli_parse_expression.proofs.ReadIsSpelled.{IsOperandOf, total, count_given, count_joined, count_reference, total_is, reference_is, ListFits}
-use Rattle.pli_base.specs.Words.{Tokens, name_first, behind}
+use Rattle.pli_base.specs.Words.{Tokens, name_first, rest_after}
 use Rattle.pli_base.specs.Results.{◌>>=◌}
 use Rattle.pli_base.specs.Reading.{at_fault, taken}
 
@@ -87,7 +87,7 @@ infix_ends operand zero min count left p ts small none = absurd (omega arith)
 infix_ends operand (suc bound) min count left p ts small none = ap (grouped operand (infix_from operand bound) min count left p ts) none
 
 module _ (levels : ℕ) (operand : Reader) (operand_again : ReadsAgain (IsOperandOf levels) operators OperandEnds operand) where
-  -- behind the expression the loop goes on, with a bound that is still great enough
+  -- after the expression the loop goes on, with a bound that is still great enough
   abbrev Climbs : (e : Expression) (min bound count p : ℕ) (ts more : Tokens) → Type 0
   Climbs e min bound count p ts more =
       (b : ℕ) × (length more < b) × (operand_then operand (infix_from operand bound) min count p (ts ++ more) ≡ infix_from operand b min (count + operators e) e (p + length ts) more)
@@ -133,14 +133,14 @@ module _ (levels : ℕ) (operand : Reader) (operand_again : ReadsAgain (IsOperan
       (λ b less. climb_again r (level_of o + 1) b (count + operators l + 1) (p + length ls + 1) rs more right nests.1 (omega arith) (omega arith) stops
       (operator_higher (suc (level_of o)) (suc (level r)) more none (omega arith)) less) in
       let summed : count + operators l + 1 + operators r ≡ count + (operators l + (1 + operators r)) = omega arith in
-      let behind : p + length ls + 1 + length rs ≡ p + length ts = omega (arith, ap length shape, length-append ls (Sign (infix_sign o) ∷ rs)) in (
+      let after : p + length ls + 1 + length rs ≡ p + length ts = omega (arith, ap length shape, length-append ls (Sign (infix_sign o) ∷ rs)) in (
         j.0,
         j.1,
         ap (operand_then operand (infix_from operand bound) min count p) whole
             ∙ j.2
             ∙ ap (λ n. infix_from operand j.0 min n (Infix o (p + length ls) l r) (p + length ls + 1 + length rs) more) summed
             ∙ ap (λ q. infix_from operand j.0 min (count + operators (Infix o at l r)) (Infix o q l r) (p + length ls + 1 + length rs) more) (sym place)
-            ∙ ap (λ q. infix_from operand j.0 min (count + operators (Infix o at l r)) (Infix o at l r) q more) behind,
+            ∙ ap (λ q. infix_from operand j.0 min (count + operators (Infix o at l r)) (Infix o at l r) q more) after,
       )
 
   pub expression_again : ReadsAgain (NestsWithin levels) operators ExpressionEnds (expression_of operand)
@@ -170,7 +170,7 @@ further_stops (Listed e list) p ts more spelled = subst (λ us. EndsExpression (
 module _ (Fits : Expression → Type 0) (count_of : Expression → ℕ) (one : Reader) (one_again : ReadsAgain Fits count_of ExpressionEnds one) where
   further_again : (list : Expressions) (bound count p : ℕ) (ts more : Tokens) → SpellsFurther p ts list → Every Fits list → count + total count_of list ≤ operator_limit → length (ts ++ Sign signs.CloseParenthesis ∷ more) < bound
       → further_from one bound count p (ts ++ Sign signs.CloseParenthesis ∷ more) ≡ counted list (count + total count_of list) (p + length ts) (Sign signs.CloseParenthesis ∷ more)
-  unfolding further_from behind
+  unfolding further_from rest_after
   further_again list zero count p ts more spelled fits few small = absurd (omega arith)
   further_again Empty (suc bound) count p ts more shape fits few small =
       ap (λ us. further_from one (suc bound) count p (us ++ Sign signs.CloseParenthesis ∷ more)) shape ∙ nothing_read Empty count p (Sign signs.CloseParenthesis ∷ more) ∙ ap (λ (us : Tokens). counted Empty (count + 0) (p + length us) (Sign signs.CloseParenthesis ∷ more)) (sym shape)
@@ -189,7 +189,7 @@ module _ (Fits : Expression → Type 0) (count_of : Expression → ℕ) (one : R
 
   pub list_again : (list : Expressions) (count p : ℕ) (ts more : Tokens) → SpellsListed p ts list → Every Fits list → count + total count_of list ≤ operator_limit
       → list_at one count p (ts ++ Sign signs.CloseParenthesis ∷ more) ≡ counted list (count + total count_of list) (p + length ts + 1) more
-  unfolding list_at listed_at taken behind begins_expression
+  unfolding list_at listed_at taken rest_after begins_expression
   list_again Empty count p ts more shape fits few =
       ap (λ us. list_at one count p (us ++ Sign signs.CloseParenthesis ∷ more)) shape ∙ closing_read Empty count p more ∙ ap (λ (us : Tokens). counted Empty (count + 0) (p + length us + 1) more) (sym shape)
   list_again (Listed e list) count p ts more (front, rest, shape, spelled, later) fits few =
@@ -217,7 +217,7 @@ no_arguments one count p [] h = refl
 no_arguments one count p (Sign signs.OpenParenthesis ∷ ts) h = absurd h
 no_arguments one count p (t ∷ ts) h = refl
 
--- behind arguments, where parts may be joined
+-- after arguments, where parts may be joined
 joined_end : (a : Arguments) (m : JoinedParts) (p : ℕ) (ts more : Tokens) → SpellsJoined p ts m → NoneGoesOn (parts_go_on a m) more → ArgumentsEnd a (ts ++ more)
 joined_end a Alone p ts more shape stops = subst (λ us. ArgumentsEnd a (us ++ more)) (sym shape) (arguments_end a more stops)
 joined_end Absent (Joined Member name arguments m) p ts more spelled stops = subst (λ us. NotOpen (us ++ more)) (sym spelled.2) tt
@@ -255,7 +255,7 @@ module _ (Fits : Expressions → Type 0) (count_of : Expressions → ℕ) where
         let e : count ≡ count + 0 = omega arith in
         let q : p ≡ p + 0 = omega arith in
         ap (λ us. joined_from one (suc bound) count p (us ++ more)) shape
-        ∙ ap (parts_behind one (joined_from one bound) count p more) (not_joined before more stops)
+        ∙ ap (parts_after one (joined_from one bound) count p more) (not_joined before more stops)
         ∙ ap (λ n. counted Alone n p more) e ∙ ap (λ m. counted Alone (count + 0) m more) q ∙ ap (λ (us : Tokens). counted Alone (count + 0) (p + length us) more) (sym shape)
     parts_again before (Joined joining name arguments m) (suc bound) count p ts more (front, rest, shape, at, spelled, later) fits few stops small =
         let tail : Tokens = front ++ (rest ++ more) in
@@ -267,7 +267,7 @@ module _ (Fits : Expressions → Type 0) (count_of : Expressions → ℕ) where
         let place : p + 1 + 1 + length front + length rest ≡ p + length ts = omega (arith, ap length shape, length-append front rest) in
         let read = arguments_again one lists arguments count (p + 1 + 1) front (rest ++ more) (subst (λ q. SpellsArguments q front arguments) there spelled) fits.0 (omega arith) (joined_end arguments m (p + 2 + length front) rest more later stops) in
         ap (joined_from one (suc bound) count p) whole
-        ∙ ap (parts_behind one (joined_from one bound) count p (Sign (joining_sign joining) ∷ Word name.name ∷ tail)) (joining_there joining (Word name.name ∷ tail))
+        ∙ ap (parts_after one (joined_from one bound) count p (Sign (joining_sign joining) ∷ Word name.name ∷ tail)) (joining_there joining (Word name.name ∷ tail))
         ∙ ap (λ r. r >>= λ x. joined_from one bound x.value.count x.next x.rest >>= λ y. counted (Joined joining (record { name = name.name; at = p + 1 }) x.value.tree y.value.tree) y.value.count y.next y.rest) read
         ∙ ap (λ r. r >>= λ y. counted (Joined joining (record { name = name.name; at = p + 1 }) arguments y.value.tree) y.value.count y.next y.rest)
         (parts_again arguments m bound (count + count_given count_of arguments) (p + 1 + 1 + length front) rest more (subst (λ q. SpellsJoined q rest m) further later) fits.1 (omega arith) stops less)
@@ -357,16 +357,16 @@ constant_again one at (constants.Bits v) count p ts more (shape, place) =
 
 parenthesis_again : (n : ℕ) (one : Option Reader) → OperandsAgain n one → (at : ℕ) (e : Expression) (count p : ℕ) (ts more : Tokens) → SpellsExpression p ts (Parenthesized at e) → NestsWithin n (Parenthesized at e)
     → count + operators e ≤ operator_limit → operand_of one count p (ts ++ more) ≡ counted (Parenthesized at e) (count + operators e) (p + length ts) more
-unfolding operand_of parenthesis_of taken behind
+unfolding operand_of parenthesis_of taken rest_after
 parenthesis_again zero one again at e count p ts more spelled nests few = absurd nests
 parenthesis_again (suc n) None again at e count p ts more spelled nests few = absurd again
 parenthesis_again (suc n) (Some operand) again at e count p ts more (us, shape, place, spelled) nests few =
     let whole : ts ++ more ≡ Sign signs.OpenParenthesis ∷ (us ++ Sign signs.CloseParenthesis ∷ more) = ap (λ vs. vs ++ more) shape ∙ ap (λ vs. Sign signs.OpenParenthesis ∷ vs) (append_assoc us (Sign signs.CloseParenthesis ∷ []) more) in
-    let behind : p + 1 + length us + 1 ≡ p + length ts = omega (arith, ap length shape, length-append us (Sign signs.CloseParenthesis ∷ [])) in
+    let after : p + 1 + length us + 1 ≡ p + length ts = omega (arith, ap length shape, length-append us (Sign signs.CloseParenthesis ∷ [])) in
     ap (operand_of (Some operand) count p) whole
     ∙ ap (λ r. r >>= λ x. closed (Parenthesized p x.value.tree) x.value.count x.next x.rest) (expression_again n operand again e count (p + 1) us (Sign signs.CloseParenthesis ∷ more) spelled nests few (any_expression e (Sign signs.CloseParenthesis ∷ more) (refl, refl)))
     ∙ ap (λ q. counted (Parenthesized q e) (count + operators e) (p + 1 + length us + 1) more) (sym place)
-    ∙ ap (λ q. counted (Parenthesized at e) (count + operators e) q more) behind
+    ∙ ap (λ q. counted (Parenthesized at e) (count + operators e) q more) after
 
 pub prefix_there : (one : Option Reader) (o : PrefixOperator) (count p : ℕ) (ts : Tokens) → operand_of one count p (Sign (prefix_sign o) ∷ ts) ≡ prefix_of one o count p ts
 unfolding operand_of
@@ -380,7 +380,7 @@ unfolding prefix_of
 prefix_again zero one again o at e count p ts more spelled nests few stops = absurd nests
 prefix_again (suc n) None again o at e count p ts more spelled nests few stops = absurd again
 prefix_again (suc n) (Some operand) again o at e count p ts more (us, shape, place, is, spelled) nests few stops =
-    let behind : p + 1 + length us ≡ p + length ts = omega (arith, ap length shape) in
+    let after : p + 1 + length us ≡ p + length ts = omega (arith, ap length shape) in
     let summed : count + 1 + operators e ≡ count + (1 + operators e) = omega arith in
     let read : Result (Front (Counted Expression)) Fault = operand (count + 1) (p + 1) (us ++ more) >>= λ x. counted (Prefix o p x.value.tree) x.value.count x.next x.rest in
     ap (λ vs. operand_of (Some operand) count p (vs ++ more)) shape
@@ -389,7 +389,7 @@ prefix_again (suc n) (Some operand) again o at e count p ts more (us, shape, pla
     ∙ ap (λ r. r >>= λ x. counted (Prefix o p x.value.tree) x.value.count x.next x.rest) (again e (count + 1) (p + 1) us more spelled (nests, is) (omega arith) stops)
     ∙ ap (λ q. counted (Prefix o q e) (count + 1 + operators e) (p + 1 + length us) more) (sym place)
     ∙ ap (λ k. counted (Prefix o at e) k (p + 1 + length us) more) summed
-    ∙ ap (λ q. counted (Prefix o at e) (count + (1 + operators e)) q more) behind
+    ∙ ap (λ q. counted (Prefix o at e) (count + (1 + operators e)) q more) after
 
 operand_again : (n : ℕ) (one : Option Reader) → OperandsAgain n one → ReadsAgain (IsOperandOf n) operators OperandEnds (operand_of one)
 operand_again n one again (Referred r) count p ts more spelled fits few stops = referred_again n one again r count p ts more spelled fits.0 few stops

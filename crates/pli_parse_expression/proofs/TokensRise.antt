@@ -13,7 +13,7 @@ use Rattle.pli_parse_expression.specs.declared.counted.Counted.{Counted}
 use Rattle.pli_parse_expression.specs.Reading.{expression_at, reference_at}
 use Rattle.pli_parse_expression.proofs.ReadIsSpelled.{expression_spelled, reference_spelled}
 
--- the arguments of a part, and the parts behind it
+-- the arguments of a part, and the parts after it
 part_rises : (low p high : ℕ) (front rest : Tokens) (arguments : Arguments) (more : JoinedParts) → low ≤ p
     → p + length front + length rest ≤ high → Rises p (argument_tokens arguments) (p + length front)
     → Rises (p + length front) (joined_tokens more) (p + length front + length rest)

@@ -1,6 +1,6 @@
 -- The worked examples compute: each opens what its tokens are read by, and no more.
 use Rattle.std.proofs.Common.{refl}
-use Rattle.pli_base.specs.Words.{behind, name_first}
+use Rattle.pli_base.specs.Words.{rest_after, name_first}
 use Rattle.pli_base.specs.Reading.{misfit, taken}
 use Rattle.pli_parse_expression.specs.Operators.{operator_at, joining_at, begins_expression}
 use Rattle.pli_parse_expression.specs.Reading.{infix_from, expression_of, further_from, listed_at, list_at}
@@ -10,7 +10,7 @@ use Rattle.pli_parse_expression.specs.Reading.{reference_at}
 use Rattle.pli_parse_expression.specs.examples.Examples.{SignAndSum, Differences, AllLevels, Comparisons}
 use Rattle.pli_parse_expression.specs.examples.Examples.{Alternatives, LocatedMember, NoArguments}
 use Rattle.pli_parse_expression.specs.examples.Examples.{InParentheses, TwoLists, TextEnds, NoOperand}
-use Rattle.pli_parse_expression.specs.examples.Examples.{NotClosed, NoListThere, NothingBehindComma, NoMember}
+use Rattle.pli_parse_expression.specs.examples.Examples.{NotClosed, NoListThere, NothingAfterComma, NoMember}
 use Rattle.pli_parse_expression.specs.examples.Examples.{NothingLocated, DeepestList, TooDeepList}
 use Rattle.pli_parse_expression.specs.examples.Examples.{TooDeepSign, LastOperator, TooManyOperators, Target}
 
@@ -41,22 +41,22 @@ alternatives = refl
 
 pub located_member : LocatedMember
 unfolding infix_from expression_of further_from listed_at list_at arguments_at joined_from reference_of
-    operand_of inside expression_at operator_at joining_at begins_expression taken behind name_first
+    operand_of inside expression_at operator_at joining_at begins_expression taken rest_after name_first
 located_member = refl
 
 pub no_arguments : NoArguments
 unfolding infix_from expression_of list_at arguments_at joined_from reference_of operand_of inside
-    expression_at operator_at joining_at begins_expression taken behind name_first
+    expression_at operator_at joining_at begins_expression taken rest_after name_first
 no_arguments = refl
 
 pub in_parentheses : InParentheses
 unfolding infix_from expression_of arguments_at joined_from reference_of parenthesis_of operand_of inside
-    expression_at operator_at joining_at taken behind name_first
+    expression_at operator_at joining_at taken rest_after name_first
 in_parentheses = refl
 
 pub two_lists : TwoLists
 unfolding infix_from expression_of further_from listed_at list_at arguments_at joined_from reference_of
-    constant_at operand_of inside expression_at operator_at joining_at begins_expression taken behind name_first
+    constant_at operand_of inside expression_at operator_at joining_at begins_expression taken rest_after name_first
 two_lists = refl
 
 pub text_ends : TextEnds
@@ -71,18 +71,18 @@ no_operand = refl
 
 pub not_closed : NotClosed
 unfolding infix_from expression_of arguments_at joined_from reference_of parenthesis_of operand_of inside
-    expression_at operator_at joining_at misfit taken behind name_first
+    expression_at operator_at joining_at misfit taken rest_after name_first
 not_closed = refl
 
 pub no_list_there : NoListThere
 unfolding expression_of list_at arguments_at reference_of operand_of inside expression_at begins_expression
-    misfit taken behind name_first
+    misfit taken rest_after name_first
 no_list_there = refl
 
-pub nothing_behind_comma : NothingBehindComma
+pub nothing_after_comma : NothingAfterComma
 unfolding infix_from expression_of further_from listed_at list_at arguments_at reference_of constant_at
-    operand_of inside expression_at operator_at begins_expression misfit behind name_first
-nothing_behind_comma = refl
+    operand_of inside expression_at operator_at begins_expression misfit rest_after name_first
+nothing_after_comma = refl
 
 pub no_member : NoMember
 unfolding expression_of arguments_at joined_from reference_of operand_of expression_at joining_at misfit
@@ -96,7 +96,7 @@ nothing_located = refl
 
 pub deepest_list : DeepestList
 unfolding infix_from expression_of further_from listed_at list_at arguments_at joined_from reference_of
-    parenthesis_of operand_of inside expression_at operator_at joining_at begins_expression taken behind
+    parenthesis_of operand_of inside expression_at operator_at joining_at begins_expression taken rest_after
     name_first
 deepest_list = refl
 
@@ -121,5 +121,5 @@ too_many_operators = refl
 
 pub target : Target
 unfolding infix_from expression_of further_from listed_at list_at arguments_at joined_from reference_of
-    operand_of inside reference_at operator_at joining_at begins_expression taken behind name_first
+    operand_of inside reference_at operator_at joining_at begins_expression taken rest_after name_first
 target = refl

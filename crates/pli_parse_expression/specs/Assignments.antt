@@ -11,8 +11,8 @@ use Rattle.pli_parse_expression.specs.declared.assignment.TokenKind.TheVariants.
 use Rattle.pli_parse_expression.specs.declared.assignment.TokenKind.TheVariants.{Negates, Operates, Foreign}
 use Rattle.pli_parse_expression.specs.declared.assignment.State.{State}
 use Rattle.pli_parse_expression.specs.declared.assignment.State.TheVariants.{NameWanted, OperandWanted}
-use Rattle.pli_parse_expression.specs.declared.assignment.State.TheVariants.{ListBegun, BehindName}
-use Rattle.pli_parse_expression.specs.declared.assignment.State.TheVariants.{BehindList, BehindOperand}
+use Rattle.pli_parse_expression.specs.declared.assignment.State.TheVariants.{ListBegun, AfterName}
+use Rattle.pli_parse_expression.specs.declared.assignment.State.TheVariants.{AfterList, AfterOperand}
 use Rattle.pli_parse_expression.specs.declared.assignment.Frame.{Frame}
 use Rattle.pli_parse_expression.specs.declared.assignment.Frame.TheVariants.{Target, Whole, Group, Arguments}
 use Rattle.pli_parse_expression.specs.declared.assignment.Move.{Move}
@@ -44,56 +44,56 @@ kind_of (tokens.Sign signs.Times) = Operates
 kind_of (tokens.Sign s) = Foreign
 kind_of t = Value
 
--- Where the test stands: a name must come; an operand must; an operand or `)` must, right behind the `(` of a
--- list; or it is behind a name, behind a list of arguments, or behind another operand. What it stands in: the
--- target, the expression behind `=`, the parentheses of an expression, or those of a list. What a token does:
+-- Where the test stands: a name must come; an operand must; an operand or `)` must, right after the `(` of a
+-- list; or it is after a name, after a list of arguments, or after another operand. What it stands in: the
+-- target, the expression after `=`, the parentheses of an expression, or those of a list. What a token does:
 -- it cannot stand there; the test goes on; parentheses begin; they end; or the expression begins.
 
 -- where an operand must come
 abbrev pub operand_move : TokenKind → Move
-operand_move Name = Goes BehindName
-operand_move Value = Goes BehindOperand
+operand_move Name = Goes AfterName
+operand_move Value = Goes AfterOperand
 operand_move Opens = Enters Group OperandWanted
 operand_move Sign = Goes OperandWanted
 operand_move Negates = Goes OperandWanted
 operand_move k = Stops
 
--- behind an operand that nothing joins any more
-abbrev pub behind_move : Frame → TokenKind → Move
-behind_move Target Equal = Turns
-behind_move Target k = Stops
-behind_move Group Closes = Leaves
-behind_move Arguments Closes = Leaves
-behind_move Arguments Separates = Goes OperandWanted
-behind_move f Equal = Goes OperandWanted
-behind_move f Sign = Goes OperandWanted
-behind_move f Operates = Goes OperandWanted
-behind_move f k = Stops
+-- after an operand that nothing joins any more
+abbrev pub after_move : Frame → TokenKind → Move
+after_move Target Equal = Turns
+after_move Target k = Stops
+after_move Group Closes = Leaves
+after_move Arguments Closes = Leaves
+after_move Arguments Separates = Goes OperandWanted
+after_move f Equal = Goes OperandWanted
+after_move f Sign = Goes OperandWanted
+after_move f Operates = Goes OperandWanted
+after_move f k = Stops
 
 -- what the next token does, by what is wanted and what is open
 abbrev pub move : State → Frame → TokenKind → Move
-move NameWanted f Name = Goes BehindName
+move NameWanted f Name = Goes AfterName
 move NameWanted f k = Stops
 move OperandWanted f k = operand_move k
 move ListBegun f Closes = Leaves
 move ListBegun f k = operand_move k
-move BehindName f Opens = Enters Arguments ListBegun
-move BehindName f Joins = Goes NameWanted
-move BehindName f k = behind_move f k
-move BehindList f Joins = Goes NameWanted
-move BehindList f k = behind_move f k
-move BehindOperand f k = behind_move f k
+move AfterName f Opens = Enters Arguments ListBegun
+move AfterName f Joins = Goes NameWanted
+move AfterName f k = after_move f k
+move AfterList f Joins = Goes NameWanted
+move AfterList f k = after_move f k
+move AfterOperand f k = after_move f k
 
--- behind the parenthesis that ends the frame
-abbrev pub behind_frame : Frame → State
-behind_frame Arguments = BehindList
-behind_frame f = BehindOperand
+-- after the parenthesis that ends the frame
+abbrev pub after_frame : Frame → State
+after_frame Arguments = AfterList
+after_frame f = AfterOperand
 
 -- the tokens may end there
 abbrev pub may_end : State → Frame → Bool
-may_end BehindName Whole = true
-may_end BehindList Whole = true
-may_end BehindOperand Whole = true
+may_end AfterName Whole = true
+may_end AfterList Whole = true
+may_end AfterOperand Whole = true
 may_end s f = false
 
 -- what a move leads to, in a frame and those around it
@@ -102,7 +102,7 @@ moved Stops more f fs = false
 moved (Goes s) more f fs = more s f fs
 moved (Enters g s) more f fs = more s g (f ∷ fs)
 moved Leaves more f [] = false
-moved Leaves more f (g ∷ fs) = more (behind_frame f) g fs
+moved Leaves more f (g ∷ fs) = more (after_frame f) g fs
 moved Turns more f fs = more OperandWanted Whole fs
 
 -- one pass over the tokens, with the frames that are open, the innermost first

@@ -14,21 +14,21 @@ joins (Sign Period) = true
 joins (Sign Arrow) = true
 joins t = false
 
--- `(`, `.` and `->` go on behind a name, `.` and `->` behind a list of arguments
-abbrev pub goes_on_behind : Arguments → TokenText → Bool
-goes_on_behind Absent t = continues_reference t
-goes_on_behind (Given list) t = joins t
+-- `(`, `.` and `->` go on after a name, `.` and `->` after a list of arguments
+abbrev pub goes_on_after : Arguments → TokenText → Bool
+goes_on_after Absent t = continues_reference t
+goes_on_after (Given list) t = joins t
 
--- behind the last part
+-- after the last part
 abbrev pub parts_go_on : Arguments → JoinedParts → TokenText → Bool
-parts_go_on arguments Alone t = goes_on_behind arguments t
+parts_go_on arguments Alone t = goes_on_after arguments t
 parts_go_on arguments (Joined joining name later more) t = parts_go_on later more t
 
--- behind a reference, by its last part
+-- after a reference, by its last part
 abbrev pub reference_goes_on : Reference → TokenText → Bool
 reference_goes_on (Named name arguments more) t = parts_go_on arguments more t
 
--- behind the last operand: nothing goes on with a constant or behind a `)`
+-- after the last operand: nothing goes on with a constant or after a `)`
 abbrev pub operand_goes_on : Expression → TokenText → Bool
 operand_goes_on (Referred reference) t = reference_goes_on reference t
 operand_goes_on (Constant at value) t = false

@@ -38,7 +38,7 @@ abbrev mutual
       (front : Tokens) × (rest : Tokens) × (ts ≡ Word name.name ∷ front ++ rest) × (name.at ≡ p)
       × SpellsArguments (p + 1) front arguments × SpellsJoined (p + 1 + length front) rest more
 
-  -- each part behind its sign, with its arguments if it has any
+  -- each part after its sign, with its arguments if it has any
   pub SpellsJoined : ℕ → Tokens → JoinedParts → Type 0
   SpellsJoined p ts Alone = ts ≡ []
   SpellsJoined p ts (Joined joining name arguments more) =
@@ -60,7 +60,7 @@ abbrev mutual
       (front : Tokens) × (rest : Tokens) × (ts ≡ front ++ rest) × SpellsExpression p front e
       × SpellsFurther (p + length front) rest more
 
-  -- each behind a comma
+  -- each after a comma
   pub SpellsFurther : ℕ → Tokens → Expressions → Type 0
   SpellsFurther p ts Empty = ts ≡ []
   SpellsFurther p ts (Listed e more) =

@@ -98,17 +98,17 @@ infix_of (tokens.Sign signs.Minus) = Some Subtract
 infix_of (tokens.Sign signs.Times) = Some Multiply
 infix_of t = None
 
--- an operator and what stands behind it, where its level is min or more
+-- an operator and what stands after it, where its level is min or more
 abbrev pub not_below : ℕ → Option InfixOperator → Tokens → Option (InfixOperator × Tokens)
 not_below min None ts = None
 not_below min (Some operator) ts = if nat_lt (level_of operator) min then None else Some (operator, ts)
 
--- the infix operator of level min or more that the tokens begin with, and what stands behind it
+-- the infix operator of level min or more that the tokens begin with, and what stands after it
 unfoldable pub operator_at : ℕ → Tokens → Option (InfixOperator × Tokens)
 operator_at min [] = None
 operator_at min (t ∷ ts) = not_below min (infix_of t) ts
 
--- how the part that comes next is joined, and what stands behind `.` or `->`
+-- how the part that comes next is joined, and what stands after `.` or `->`
 unfoldable pub joining_at : Tokens → Option (Joining × Tokens)
 joining_at (tokens.Sign signs.Period ∷ ts) = Some (Member, ts)
 joining_at (tokens.Sign signs.Arrow ∷ ts) = Some (Located, ts)

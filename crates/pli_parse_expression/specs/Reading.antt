@@ -1,4 +1,4 @@
--- Reading expressions and references at the front of tokens (X3.74, limits own): the tree, the place behind
+-- Reading expressions and references at the front of tokens (X3.74, limits own): the tree, the place after
 -- it and the rest, or the one fault. Tokens are counted from 0, and p is the place of the first.
 use Rattle.std.specs.Prelude.{ℕ, zero, suc, ◌+◌, nat_lt, Bool, true, false, Option, Some, None, Result}
 use Rattle.std.specs.Prelude.{◌∷◌, length, option_map, if◌then◌else◌}
@@ -19,7 +19,7 @@ use Rattle.pli_base.specs.declared.token.Sign.TheVariants.{Not}
 use Rattle.pli_base.specs.declared.token.TokenText.TheVariants.{Word, Decimal, Binary, Characters, Bits, Sign}
 use Rattle.pli_parse_expression.specs.Operators.{operator_limit, level_of, operator_at, joining_at}
 use Rattle.pli_parse_expression.specs.Operators.{begins_expression}
-use Rattle.pli_base.specs.Words.{Tokens, name_first, behind, is_comma, is_close}
+use Rattle.pli_base.specs.Words.{Tokens, name_first, rest_after, is_comma, is_close}
 use Rattle.pli_base.specs.Results.{◌>>=◌}
 use Rattle.pli_base.specs.Reading.{Front, read_as, at_fault, expected, taken}
 use Rattle.pli_parse_expression.specs.declared.counted.Counted.{Counted}
@@ -28,11 +28,11 @@ use Rattle.pli_parse_expression.specs.declared.counted.Counted.{Counted}
 abbrev pub counting : {A : Type 0} → A → (count : ℕ) → Counted A
 counting tree count = record { tree = tree; count = count }
 
--- such a tree, the place behind it and the tokens from there
+-- such a tree, the place after it and the tokens from there
 abbrev pub counted : {A : Type 0} → A → (count p : ℕ) → Tokens → Result (Front (Counted A)) Fault
 counted tree count p ts = read_as (counting tree count) p ts
 
--- what reads an expression behind so many operators
+-- what reads an expression after so many operators
 abbrev pub Reader : Type 0
 Reader = (count p : ℕ) → Tokens → Result (Front (Counted Expression)) Fault
 
@@ -45,7 +45,7 @@ abbrev pub opened : {A : Type 0} → Option Reader → (p : ℕ) → (Reader →
 opened None p read = at_fault NestedTooDeep p
 opened (Some inside) p read = read inside
 
--- behind a value: its closing parenthesis
+-- after a value: its closing parenthesis
 abbrev pub closed : {A : Type 0} → A → (count p : ℕ) → Tokens → Result (Front (Counted A)) Fault
 closed value count p ts =
     taken is_close ParenthesisExpected p ts >>= λ us. counted value count (p + 1) us
@@ -58,7 +58,7 @@ abbrev pub operand_then : Reader
 operand_then operand more min count p ts = operand count p ts
     >>= λ x. more min x.value.count x.value.tree x.next x.rest
 
--- behind a left operand: an infix operator, its right operand, which takes all that binds tighter, and so on;
+-- after a left operand: an infix operator, its right operand, which takes all that binds tighter, and so on;
 -- or the end
 abbrev pub grouped : Reader
     → (more : (min count : ℕ) → Expression → ℕ → Tokens → Result (Front (Counted Expression)) Fault)
@@ -78,7 +78,7 @@ infix_from operand zero min count left p ts = expected ExpressionExpected p ts
 infix_from operand (suc bound) min count left p ts =
     grouped operand (infix_from operand bound) min count left p ts (operator_at min ts)
 
--- behind an infix operator: its right operand, which takes all that binds tighter
+-- after an infix operator: its right operand, which takes all that binds tighter
 abbrev pub right_of : Reader → (bound : ℕ) → InfixOperator → Reader
 right_of operand bound operator count p ts =
     limited count p (operand_then operand (infix_from operand bound) (level_of operator + 1) (count + 1) (p
@@ -88,23 +88,23 @@ right_of operand bound operator count p ts =
 unfoldable pub expression_of : Reader → Reader
 expression_of operand count p ts = operand_then operand (infix_from operand (length ts + 1)) 0 count p ts
 
--- an expression behind a comma, and then what more reads; or the end
-abbrev pub listed_behind : Reader → (more : (count p : ℕ) → Tokens
+-- an expression after a comma, and then what more reads; or the end
+abbrev pub listed_after : Reader → (more : (count p : ℕ) → Tokens
     → Result (Front (Counted Expressions)) Fault)
     → (count p : ℕ) → Tokens → Option Tokens → Result (Front (Counted Expressions)) Fault
-listed_behind one more count p ts None = counted Empty count p ts
-listed_behind one more count p ts (Some us) =
+listed_after one more count p ts None = counted Empty count p ts
+listed_after one more count p ts (Some us) =
     one count (p
     + 1) us >>= λ x. more x.value.count x.next x.rest
     >>= λ y. counted (Listed x.value.tree y.value.tree) y.value.count y.next y.rest
 
--- expressions, each behind a comma, as long as commas come; each takes one of the bound, which is more than
+-- expressions, each after a comma, as long as commas come; each takes one of the bound, which is more than
 -- the number of tokens
 unfoldable pub further_from : Reader → (bound count p : ℕ) → Tokens
     → Result (Front (Counted Expressions)) Fault
 further_from one zero count p ts = expected ExpressionExpected p ts
 further_from one (suc bound) count p ts =
-    listed_behind one (further_from one bound) count p ts (behind is_comma ts)
+    listed_after one (further_from one bound) count p ts (rest_after is_comma ts)
 
 -- one expression or more, with commas between, and the closing parenthesis
 unfoldable pub listed_at : Reader → (count p : ℕ) → Tokens → Result (Front (Counted Expressions)) Fault
@@ -113,11 +113,11 @@ listed_at one count p ts =
     + 1) x.value.count x.next x.rest
     >>= λ y. closed (Listed x.value.tree y.value.tree) y.value.count y.next y.rest
 
--- behind `(`: expressions and `)`, or `)` alone
+-- after `(`: expressions and `)`, or `)` alone
 unfoldable pub list_at : Reader → (count p : ℕ) → Tokens → Result (Front (Counted Expressions)) Fault
 list_at one count p ts = if begins_expression ts then listed_at one count p ts else closed Empty count p ts
 
--- what stands in parentheses behind a name, if there are some
+-- what stands in parentheses after a name, if there are some
 unfoldable pub arguments_at : Option Reader → (count p : ℕ) → Tokens
     → Result (Front (Counted Arguments)) Fault
 arguments_at one count p (Sign OpenParenthesis ∷ ts) =
@@ -126,33 +126,33 @@ arguments_at one count p (Sign OpenParenthesis ∷ ts) =
 arguments_at one count p ts = counted Absent count p ts
 
 -- a part that is joined, from its name on, and then what more reads
-abbrev pub part_behind : Option Reader → (more : (count p : ℕ) → Tokens
+abbrev pub part_after : Option Reader → (more : (count p : ℕ) → Tokens
     → Result (Front (Counted JoinedParts)) Fault)
     → Joining → (count p : ℕ) → Tokens → Option (Name × Tokens) → Result (Front (Counted JoinedParts)) Fault
-part_behind one more joining count p ts None = expected NameExpected p ts
-part_behind one more joining count p ts (Some n) =
+part_after one more joining count p ts None = expected NameExpected p ts
+part_after one more joining count p ts (Some n) =
     arguments_at one count (p + 1) n.1 >>= λ x. more x.value.count x.next x.rest
     >>= λ y. counted (Joined joining (record { name = n.0; at = p }) x.value.tree y.value.tree)
     y.value.count y.next y.rest
 
 -- the further names of a reference, if a sign joins one
-abbrev pub parts_behind : Option Reader → (more : (count p : ℕ) → Tokens
+abbrev pub parts_after : Option Reader → (more : (count p : ℕ) → Tokens
     → Result (Front (Counted JoinedParts)) Fault)
     → (count p : ℕ) → Tokens → Option (Joining × Tokens) → Result (Front (Counted JoinedParts)) Fault
-parts_behind one more count p ts None = counted Alone count p ts
-parts_behind one more count p ts (Some x) = part_behind one more x.0 count (p + 1) x.1 (name_first x.1)
+parts_after one more count p ts None = counted Alone count p ts
+parts_after one more count p ts (Some x) = part_after one more x.0 count (p + 1) x.1 (name_first x.1)
 
 -- parts, as long as `.` or `->` comes; each takes one of the bound, which is more than the number of tokens
 unfoldable pub joined_from : Option Reader → (bound count p : ℕ) → Tokens
     → Result (Front (Counted JoinedParts)) Fault
 joined_from one zero count p ts = expected NameExpected p ts
-joined_from one (suc bound) count p ts = parts_behind one (joined_from one bound) count p ts (joining_at ts)
+joined_from one (suc bound) count p ts = parts_after one (joined_from one bound) count p ts (joining_at ts)
 
 -- a reference from its first name on
-abbrev pub reference_behind : Option Reader → (count p : ℕ) → Tokens → Option (Name × Tokens)
+abbrev pub reference_after : Option Reader → (count p : ℕ) → Tokens → Option (Name × Tokens)
     → Result (Front (Counted Reference)) Fault
-reference_behind one count p ts None = expected NameExpected p ts
-reference_behind one count p ts (Some n) =
+reference_after one count p ts None = expected NameExpected p ts
+reference_after one count p ts (Some n) =
     arguments_at one count (p + 1) n.1
     >>= λ x. joined_from one (length x.rest + 1) x.value.count x.next x.rest
     >>= λ y. counted (Named (record { name = n.0; at = p }) x.value.tree y.value.tree)
@@ -161,7 +161,7 @@ reference_behind one count p ts (Some n) =
 -- a reference, whose arguments are read by one
 unfoldable pub reference_of : Option Reader → (count p : ℕ) → Tokens
     → Result (Front (Counted Reference)) Fault
-reference_of one count p ts = reference_behind one count p ts (name_first ts)
+reference_of one count p ts = reference_after one count p ts (name_first ts)
 
 -- a prefix operator, which opens a level, and its operand
 unfoldable pub prefix_of : Option Reader → PrefixOperator → (count p : ℕ) → Tokens
@@ -170,7 +170,7 @@ prefix_of inside operator count p ts =
     limited count p (opened inside p (λ operand. operand (count + 1) (p
     + 1) ts >>= λ x. counted (Prefix operator p x.value.tree) x.value.count x.next x.rest))
 
--- behind `(`, which opens a level: an expression and `)`
+-- after `(`, which opens a level: an expression and `)`
 unfoldable pub parenthesis_of : Option Reader → (count p : ℕ) → Tokens
     → Result (Front (Counted Expression)) Fault
 parenthesis_of inside count p ts =
@@ -209,7 +209,7 @@ inside (suc levels) = Some (operand_of (inside levels))
 abbrev pub operand_at : (levels : ℕ) → Reader
 operand_at levels = operand_of (inside levels)
 
--- the longest expression, behind so many operators of the outermost one
+-- the longest expression, after so many operators of the outermost one
 unfoldable pub expression_at : (levels : ℕ) → Reader
 expression_at levels = expression_of (operand_at levels)
 

@@ -1,7 +1,7 @@
 //! The test for an assignment: a reference, `=` and one expression. It is one pass over the tokens, with a stack of the
 //! parentheses that are open, so that no number of them is a depth of calls.
 ghost use Rattle.std.specs.Prelude.{◌≡◌, IfOk, List, [], Bool};
-ghost use Rattle.pli_parse_expression.specs.Assignments.{kind_of, move, operand_move, behind_move, behind_frame};
+ghost use Rattle.pli_parse_expression.specs.Assignments.{kind_of, move, operand_move, after_move, after_frame};
 ghost use Rattle.pli_parse_expression.specs.Assignments.{may_end, moved, is_assignment};
 ghost use Rattle.pli_parse_expression.specs.declared.assignment.Frame as frames;
 ghost use Rattle.pli_parse_expression.specs.declared.assignment.State as states;
@@ -33,18 +33,18 @@ enum TokenKind {
 enum State {
     NameWanted,
     OperandWanted,
-    /// Right behind the `(` of a list: an operand or `)` must come.
+    /// Right after the `(` of a list: an operand or `)` must come.
     ListBegun,
-    BehindName,
-    BehindList,
-    BehindOperand,
+    AfterName,
+    AfterList,
+    AfterOperand,
 }
 
 /// What the test stands in.
 #[derive(Clone, Copy)]
 enum Frame {
     Target,
-    /// The expression behind `=`.
+    /// The expression after `=`.
     Whole,
     /// The parentheses of an expression.
     Group,
@@ -96,17 +96,17 @@ fn operand_move(kind: TokenKind) -> Move
     ensures { result ≡ operand_move kind }
 {
     match kind {
-        TokenKind::Name => Move::Goes(State::BehindName),
-        TokenKind::Value => Move::Goes(State::BehindOperand),
+        TokenKind::Name => Move::Goes(State::AfterName),
+        TokenKind::Value => Move::Goes(State::AfterOperand),
         TokenKind::Opens => Move::Enters(Frame::Group, State::OperandWanted),
         TokenKind::Sign | TokenKind::Negates => Move::Goes(State::OperandWanted),
         _ => Move::Stops,
     }
 }
 
-/// What a token does behind an operand that nothing joins any more.
-fn behind_move(frame: Frame, kind: TokenKind) -> Move
-    ensures { result ≡ behind_move frame kind }
+/// What a token does after an operand that nothing joins any more.
+fn after_move(frame: Frame, kind: TokenKind) -> Move
+    ensures { result ≡ after_move frame kind }
 {
     match (frame, kind) {
         (Frame::Target, TokenKind::Equal) => Move::Turns,
@@ -125,23 +125,23 @@ fn movement(state: State, frame: Frame, kind: TokenKind) -> Move
     ensures { result ≡ move state frame kind }
 {
     match (state, kind) {
-        (State::NameWanted, TokenKind::Name) => Move::Goes(State::BehindName),
+        (State::NameWanted, TokenKind::Name) => Move::Goes(State::AfterName),
         (State::NameWanted, _) => Move::Stops,
         (State::ListBegun, TokenKind::Closes) => Move::Leaves,
         (State::OperandWanted | State::ListBegun, _) => operand_move(kind),
-        (State::BehindName, TokenKind::Opens) => Move::Enters(Frame::Arguments, State::ListBegun),
-        (State::BehindName | State::BehindList, TokenKind::Joins) => Move::Goes(State::NameWanted),
-        _ => behind_move(frame, kind),
+        (State::AfterName, TokenKind::Opens) => Move::Enters(Frame::Arguments, State::ListBegun),
+        (State::AfterName | State::AfterList, TokenKind::Joins) => Move::Goes(State::NameWanted),
+        _ => after_move(frame, kind),
     }
 }
 
-/// Where the test stands behind the parenthesis that ends the frame.
-fn behind_frame(frame: Frame) -> State
-    ensures { result ≡ behind_frame frame }
+/// Where the test stands after the parenthesis that ends the frame.
+fn after_frame(frame: Frame) -> State
+    ensures { result ≡ after_frame frame }
 {
     match frame {
-        Frame::Arguments => State::BehindList,
-        _ => State::BehindOperand,
+        Frame::Arguments => State::AfterList,
+        _ => State::AfterOperand,
     }
 }
 
@@ -152,7 +152,7 @@ fn may_end(state: State, frame: Frame) -> bool
     matches!(
         (state, frame),
         (
-            State::BehindName | State::BehindList | State::BehindOperand,
+            State::AfterName | State::AfterList | State::AfterOperand,
             Frame::Whole
         )
     )
@@ -175,7 +175,7 @@ fn moved(
             Ok(Some((next, inner)))
         }
         Move::Leaves => match around.pop() {
-            Some(outer) => Ok(Some((behind_frame(frame), outer))),
+            Some(outer) => Ok(Some((after_frame(frame), outer))),
             None => Ok(None),
         },
         Move::Turns => Ok(Some((State::OperandWanted, Frame::Whole))),

@@ -12,7 +12,7 @@ pub struct Counted<T> {
 }
 
 impl<T> Counted<T> {
-    /// A tree that was read, with the count so far, and the place and the tokens behind it.
+    /// A tree that was read, with the count so far, and the place and the tokens after it.
     pub fn front<'a>(tree: T, count: u32, next: u32, rest: &'a [TokenText]) -> Front<'a, Counted<T>>
         ensures { result ≡ record { value = record { tree = tree; count = count }; next = next; rest = rest.entry } }
     {

@@ -18,7 +18,7 @@ use pli_base::syntax::{
     PrefixOperator, Reference,
 };
 use pli_base::{
-    Code, Front, ParseError, Sign, TokenText, behind_comma, close_taken, fault, misfit, name_first,
+    Code, Front, ParseError, Sign, TokenText, after_comma, close_taken, fault, misfit, name_first,
 };
 use std::alloc::{AllocError, Global};
 
@@ -66,7 +66,7 @@ fn level_of(operator: InfixOperator) -> u32
     }
 }
 
-/// The infix operator of level `min` or more that the tokens begin with, and the tokens behind it.
+/// The infix operator of level `min` or more that the tokens begin with, and the tokens after it.
 #[tactic(auto, unfolding(crate::specs::Operators::operator_at))]
 fn operator_at(min: u32, texts: &[TokenText]) -> Option<(InfixOperator, &[TokenText])>
     ensures value { operator_at min texts.now ≡ option_map (λ x. (x.0, x.1.now)) result }
@@ -83,7 +83,7 @@ fn operator_at(min: u32, texts: &[TokenText]) -> Option<(InfixOperator, &[TokenT
     }
 }
 
-/// How the part that comes next is joined, and the tokens behind `.` or `->`.
+/// How the part that comes next is joined, and the tokens after `.` or `->`.
 #[tactic(auto, unfolding(crate::specs::Operators::joining_at))]
 fn joining_at(texts: &[TokenText]) -> Option<(Joining, &[TokenText])>
     ensures value { joining_at texts.now ≡ option_map (λ x. (x.0, x.1.now)) result }
@@ -111,7 +111,7 @@ fn begins_expression(texts: &[TokenText]) -> bool
     }
 }
 
-/// The longest expression at the front, behind so many operators of the outermost one.
+/// The longest expression at the front, after so many operators of the outermost one.
 #[cycle(expression)]
 #[tactic(auto, unfolding(crate::specs::Reading::expression_of))]
 fn expression_at<'a>(
@@ -138,7 +138,7 @@ fn expression_at<'a>(
     )
 }
 
-/// Goes on behind the expression `left` as long as infix operators of level `min` or more come. It is a loop, so that
+/// Goes on after the expression `left` as long as infix operators of level `min` or more come. It is a loop, so that
 /// the number of operators is no depth of calls; a right operand is read with a greater `min`.
 #[cycle(expression)]
 #[tactic(auto)]
@@ -162,8 +162,8 @@ fn infix_from<'a>(
     let mut operators = operators;
     let mut next = at;
     let mut rest = texts;
-    while let Some((operator, behind)) = operator_at(min, rest) {
-        let right = right_of(alloc, levels, operator, operators, next, behind)?;
+    while let Some((operator, tail)) = operator_at(min, rest) {
+        let right = right_of(alloc, levels, operator, operators, next, tail)?;
         operators = right.value.count;
         sum = infix(alloc, operator, next, sum, right.value.tree)?;
         next = right.next;
@@ -172,7 +172,7 @@ fn infix_from<'a>(
     Ok(Counted::front(sum, operators, next, rest))
 }
 
-/// Behind the infix operator at `at`: its right operand, which takes all that binds tighter.
+/// After the infix operator at `at`: its right operand, which takes all that binds tighter.
 #[cycle(expression)]
 #[tactic(auto)]
 fn right_of<'a>(
@@ -181,18 +181,18 @@ fn right_of<'a>(
     operator: InfixOperator,
     operators: u32,
     at: u32,
-    behind: &'a [TokenText],
+    tail: &'a [TokenText],
 ) -> Result<Front<'a, Counted<Expression>>, ParseError>
-    requires { at + 1 + length behind.now ≤ 200000 }
-    ensures value { (bound : ℕ) → length behind.now < bound →
+    requires { at + 1 + length tail.now ≤ 200000 }
+    ensures value { (bound : ℕ) → length tail.now < bound →
         Gives (front_view (counted_view expression_view)) result
-        (right_of (operand_at levels) bound operator operators at behind.now) }
-    ensures place { IfOk result (Advances (at + 1) behind.now) }
+        (right_of (operand_at levels) bound operator operators at tail.now) }
+    ensures place { IfOk result (Advances (at + 1) tail.now) }
 {
     if operators >= OPERATOR_LIMIT {
         return Err(fault(Code::NestedTooDeep, at));
     }
-    let operand = operand_at(alloc, levels, operators + 1, at + 1, behind)?;
+    let operand = operand_at(alloc, levels, operators + 1, at + 1, tail)?;
     infix_from(
         alloc,
         levels,
@@ -329,7 +329,7 @@ fn prefix_of<'a>(
     ))
 }
 
-/// Behind the `(` at `at`, which opens a level: an expression and `)`.
+/// After the `(` at `at`, which opens a level: an expression and `)`.
 #[cycle(expression)]
 #[tactic(auto, unfolding(crate::specs::Reading::parenthesis_of, crate::specs::Reading::inside))]
 fn parenthesis_of<'a>(
@@ -348,8 +348,8 @@ fn parenthesis_of<'a>(
         return Err(fault(Code::NestedTooDeep, at));
     }
     let read = expression_at(alloc, levels - 1, operators, at + 1, rest)?;
-    let behind = match close_taken(read.next, read.rest) {
-        Ok(behind) => behind,
+    let tail = match close_taken(read.next, read.rest) {
+        Ok(tail) => tail,
         Err(error) => {
             drop(read);
             return Err(error);
@@ -361,7 +361,7 @@ fn parenthesis_of<'a>(
         Expression::Parenthesized { at, inner },
         operators,
         read.next + 1,
-        behind,
+        tail,
     ))
 }
 
@@ -431,10 +431,10 @@ fn joined_from<'a>(
     let mut operators = operators;
     let mut next = at;
     let mut rest = texts;
-    while let Some((joining, behind)) = joining_at(rest) {
+    while let Some((joining, tail)) = joining_at(rest) {
         let at = next + 1;
-        let Some(named) = name_first(behind) else {
-            return Err(misfit(Code::NameExpected, at, behind));
+        let Some(named) = name_first(tail) else {
+            return Err(misfit(Code::NameExpected, at, tail));
         };
         let (name, more) = named;
         let name = Identifier { name, at };
@@ -451,7 +451,7 @@ fn joined_from<'a>(
     Ok(Counted::front(parts, operators, next, rest))
 }
 
-/// What stands in parentheses behind a name, if there are some.
+/// What stands in parentheses after a name, if there are some.
 #[cycle(expression)]
 #[tactic(auto, unfolding(crate::specs::Reading::arguments_at, crate::specs::Reading::inside))]
 fn arguments_at<'a>(
@@ -482,7 +482,7 @@ fn arguments_at<'a>(
     ))
 }
 
-/// Behind `(`: expressions and `)`, or `)` alone.
+/// After `(`: expressions and `)`, or `)` alone.
 #[cycle(expression)]
 #[tactic(auto, unfolding(crate::specs::Reading::list_at))]
 fn list_at<'a>(
@@ -501,8 +501,8 @@ fn list_at<'a>(
     if begins_expression(texts) {
         return listed_at(alloc, outermost, levels, operators, at, texts);
     }
-    let behind = close_taken(at, texts)?;
-    Ok(Counted::front(Vec::new(alloc), operators, at + 1, behind))
+    let tail = close_taken(at, texts)?;
+    Ok(Counted::front(Vec::new(alloc), operators, at + 1, tail))
 }
 
 /// One expression or more, with commas between, and `)`.
@@ -527,15 +527,15 @@ fn listed_at<'a>(
     list.push(first.value.tree)?;
     let mut next = first.next;
     let mut rest = first.rest;
-    while let Some(behind) = behind_comma(rest) {
-        let one = argument_at(alloc, outermost, levels, operators, next + 1, behind)?;
+    while let Some(tail) = after_comma(rest) {
+        let one = argument_at(alloc, outermost, levels, operators, next + 1, tail)?;
         operators = one.value.count;
         list.push(one.value.tree)?;
         next = one.next;
         rest = one.rest;
     }
-    let behind = close_taken(next, rest)?;
-    Ok(Counted::front(list, operators, next + 1, behind))
+    let tail = close_taken(next, rest)?;
+    Ok(Counted::front(list, operators, next + 1, tail))
 }
 
 /// An argument: an outermost expression, or a part of one.
@@ -595,7 +595,7 @@ pub fn reference_at<'a>(
     reference_of(alloc, true, levels, 0, at, texts)
 }
 
-/// What stands in parentheses behind a name that is no part of an expression, if there are some: each argument is an
+/// What stands in parentheses after a name that is no part of an expression, if there are some: each argument is an
 /// outermost expression. `F()` has an empty list, `F` has none.
 #[tactic(auto)]
 pub fn outermost_arguments_at<'a>(

@@ -17,7 +17,7 @@ ghost use Rattle.pli_parse_expression.specs.Assignments.{is_assignment};
 ghost use Rattle.pli_parse_expression.specs.examples.Examples.{SignAndSum, Differences, AllLevels, Comparisons};
 ghost use Rattle.pli_parse_expression.specs.examples.Examples.{Alternatives, LocatedMember, NoArguments, InParentheses};
 ghost use Rattle.pli_parse_expression.specs.examples.Examples.{TwoLists, TextEnds, NoOperand, NotClosed, NoListThere};
-ghost use Rattle.pli_parse_expression.specs.examples.Examples.{NothingBehindComma, NoMember, NothingLocated};
+ghost use Rattle.pli_parse_expression.specs.examples.Examples.{NothingAfterComma, NoMember, NothingLocated};
 ghost use Rattle.pli_parse_expression.specs.examples.Examples.{DeepestList, TooDeepList, TooDeepSign, LastOperator};
 ghost use Rattle.pli_parse_expression.specs.examples.Examples.{TooManyOperators, Target};
 ghost use Rattle.pli_base.specs.Words.{Tokens};
@@ -37,7 +37,7 @@ pub fn worked_examples()
     ensures no_operand { NoOperand }
     ensures not_closed { NotClosed }
     ensures no_list_there { NoListThere }
-    ensures nothing_behind_comma { NothingBehindComma }
+    ensures nothing_after_comma { NothingAfterComma }
     ensures no_member { NoMember }
     ensures nothing_located { NothingLocated }
     ensures deepest_list { DeepestList }

@@ -19,7 +19,7 @@ same_head h = cc
 same_tail : {t u : TokenText} {ts us : Tokens} → ◌≡◌ {A = Tokens} (t ∷ ts) (u ∷ us) → ts ≡ us
 same_tail h = cc
 
--- a longer front has the token behind the shorter one
+-- a longer front has the token after the shorter one
 beyond : (one two : Tokens) (t : TokenText) (rest more : Tokens) → one ++ t ∷ rest ≡ two ++ more
     → length one < length two → (us : Tokens) × (two ≡ (one ++ t ∷ []) ++ us)
 beyond [] [] t rest more h small = absurd (omega (arith, small))

@@ -9,7 +9,7 @@ use Rattle.pli_base.specs.declared.code.Code.{Code}
 use Rattle.pli_base.specs.declared.token.Fault.{Fault}
 use Rattle.pli_parse_fault.specs.FaultCodes.{is_of_part, IsToldOf}
 use Rattle.pli_parse_fault.proofs.StepLemmas.{same_err}
-use Rattle.pli_parse_fault.proofs.ToldFaults.{told_first, told_ended, told_behind}
+use Rattle.pli_parse_fault.proofs.ToldFaults.{told_first, told_ended, told_after}
 
 -- what was read passes over so many tokens at least, and a fault stands at one of them
 abbrev pub Stands : {A : Type 0} → (least p : ℕ) → Tokens → Result (Front A) Fault → Type 0
@@ -26,15 +26,15 @@ pub at_least : {A : Type 0} (most least p : ℕ) (ts : Tokens) (r : Result (Fron
 at_least most least p ts (Ok x) less h = (omega (arith, h.0), h.1)
 at_least most least p ts (Err f) less h = h
 
--- behind tokens that were passed over
-pub stands_behind : {A : Type 0} (a b p q : ℕ) (ts us : Tokens) (r : Result (Front A) Fault) → Passes a p ts q us → Stands b q us r → Stands (a + b) p ts r
-stands_behind a b p q ts us (Ok x) passed h = passes_on a b p q x.next ts us x.rest passed h
-stands_behind a b p q ts us (Err f) passed h = told_behind a p q ts us f passed h
+-- after tokens that were passed over
+pub stands_after : {A : Type 0} (a b p q : ℕ) (ts us : Tokens) (r : Result (Front A) Fault) → Passes a p ts q us → Stands b q us r → Stands (a + b) p ts r
+stands_after a b p q ts us (Ok x) passed h = passes_on a b p q x.next ts us x.rest passed h
+stands_after a b p q ts us (Err f) passed h = told_after a p q ts us f passed h
 
--- one step behind another
+-- one step after another
 pub stands_then : {A B : Type 0} (a b p : ℕ) (ts : Tokens) (r : Result (Front A) Fault) (f : Front A → Result (Front B) Fault)
     → Stands a p ts r → ((x : Front A) → Passes a p ts x.next x.rest → Stands b x.next x.rest (f x)) → Stands (a + b) p ts (r >>= f)
-stands_then a b p ts (Ok x) f h more = stands_behind a b p x.next ts x.rest (f x) h (more x h)
+stands_then a b p ts (Ok x) f h more = stands_after a b p x.next ts x.rest (f x) h (more x h)
 stands_then a b p ts (Err e) f h more = h
 
 -- where something is made of what was read

@@ -1,5 +1,5 @@
--- Where reading stops: at a token before which all can be completed, whatever stands behind it. What is read
--- has the tokens behind it (`rest`), their place (`next`), and can be given other tokens behind it (`put`).
+-- Where reading stops: at a token before which all can be completed, whatever stands after it. What is read
+-- has the tokens after it (`rest`), their place (`next`), and can be given other tokens after it (`put`).
 use Rattle.std.specs.Prelude.{◌≡◌, ℕ, ◌+◌, ◌-◌, ◌<◌, ◌⊎◌, Result, Ok, Err, [], ◌∷◌, ◌++◌, length}
 use Rattle.std.proofs.Common.{refl, ap, ◌∙◌, sym, subst, arith, inl, inr, ⊎_elim, append_assoc, append-nil, length-append}
 use Rattle.pli_base.specs.Words.{Tokens}
@@ -26,10 +26,10 @@ SameFirst ts us = ⊥
 abbrev pub Gives : {X : Type 0} → (read : ℕ → Tokens → Result X Fault) → Tokens → Result X Fault → Type 0
 Gives read ts r = (b : ℕ) → length ts < b → read b ts ≡ r
 
--- a fault behind the front stands at the next token, or at the last where there is none
-abbrev pub StopsBehind : ℕ → Tokens → Tokens → Fault → Type 0
-StopsBehind p front [] f = (f.code ≡ EndMissing) × (f.at ≡ p + length front - 1)
-StopsBehind p front (t ∷ rest) f = f.at ≡ p + length front
+-- a fault after the front stands at the next token, or at the last where there is none
+abbrev pub StopsAfter : ℕ → Tokens → Tokens → Fault → Type 0
+StopsAfter p front [] f = (f.code ≡ EndMissing) × (f.at ≡ p + length front - 1)
+StopsAfter p front (t ∷ rest) f = f.at ≡ p + length front
 
 -- the front can be completed before tokens that may be last; where it is empty, by what may be first
 abbrev pub Completes : {X : Type 0} → Reads X → (read : ℕ → Tokens → Result X Fault)
@@ -49,14 +49,14 @@ Stops R read First Last p ts (Ok x) =
     × ((us : Tokens) → SameFirst (R.rest x) us ⊎ Last us → Gives read (front ++ us) (Ok (R.put x us)))
     × (front ≡ [] → (us : Tokens) → Last us → First us)
 Stops R read First Last p ts (Err f) =
-    (front : Tokens) × (rest : Tokens) × (ts ≡ front ++ rest) × StopsBehind p front rest f
+    (front : Tokens) × (rest : Tokens) × (ts ≡ front ++ rest) × StopsAfter p front rest f
     × ((us : Tokens) → SameFirst rest us → Gives read (front ++ us) (Err f))
     × Completes R read First Last front
 
--- tokens that may be last in the whole, made last in the first part; behind them the second part ends
-abbrev pub EndsBehind : {X Y : Type 0} → Reads X → Reads Y → (two : ℕ → X → Result Y Fault)
+-- tokens that may be last in the whole, made last in the first part; after them the second part ends
+abbrev pub EndsAfter : {X Y : Type 0} → Reads X → Reads Y → (two : ℕ → X → Result Y Fault)
     → (Middle Last : Tokens → Type 0) → Type 0
-EndsBehind {X = X} {Y = Y} R S two Middle Last =
+EndsAfter {X = X} {Y = Y} R S two Middle Last =
     (extra : Tokens) × ((us : Tokens) → Last us → Middle (extra ++ us))
     × ((x : X) (us : Tokens) → Last us
     → (y : Y) × Gives (λ b vs. two b (R.put x vs)) (extra ++ us) (Ok (S.put y us)))
@@ -67,9 +67,9 @@ abbrev pub Composes : {X Y : Type 0} → (one : ℕ → Tokens → Result X Faul
 Composes one two both =
     (b : ℕ) (ts : Tokens) → length ts < b → (c : ℕ) × (length ts < c) × (both b ts ≡ (one c ts >>= two c))
 
--- the place of a fault, behind two fronts
+-- the place of a fault, after two fronts
 pub stops_further : (p q : ℕ) (one two rest : Tokens) (f : Fault) → q ≡ p + length one
-    → StopsBehind q two rest f → StopsBehind p (one ++ two) rest f
+    → StopsAfter q two rest f → StopsAfter p (one ++ two) rest f
 stops_further p q one two [] f there at =
     let whole : q + length two ≡ p + length (one ++ two) = omega (arith, there, length-append one two) in
     (at.0, at.1 ∙ ap (λ n. n - 1) whole)
@@ -104,20 +104,20 @@ front_first : (t : TokenText) (ts front rest us : Tokens) → ts ≡ (t ∷ fron
 front_first t ts front rest us shape = subst (λ vs. SameFirst vs ((t ∷ front) ++ us)) (sym shape) refl
 
 module _ {X : Type 0} (R : Reads X) where
-  -- behind a token that is passed over
-  pub behind_token : (t : TokenText) (inner both : ℕ → Tokens → Result X Fault)
+  -- after a token that is passed over
+  pub after_token : (t : TokenText) (inner both : ℕ → Tokens → Result X Fault)
       (Inner First Last : Tokens → Type 0) (p : ℕ) (ts : Tokens) (r : Result X Fault)
       → ((b : ℕ) (us : Tokens) → length (t ∷ us) < b
       → (c : ℕ) × (length us < c) × (both b (t ∷ us) ≡ inner c us))
       → Stops R inner Inner Last (p + 1) ts r → Stops R both First Last p (t ∷ ts) r
-  behind_token t inner both Inner First Last p ts (Ok x) agrees (front, shape, place, again, first) = (
+  after_token t inner both Inner First Last p ts (Ok x) agrees (front, shape, place, again, first) = (
     t ∷ front,
     ap (λ us. t ∷ us) shape,
     omega (arith, place),
     (λ us goes b small. let c = agrees b (front ++ us) small in c.2 ∙ again us goes c.0 c.1),
     (λ none us last. absurd (no_tokens none)),
   )
-  behind_token t inner both Inner First Last p ts (Err f) agrees (front, rest, shape, at, again, (more, complete, first)) = (
+  after_token t inner both Inner First Last p ts (Err f) agrees (front, rest, shape, at, again, (more, complete, first)) = (
     t ∷ front,
     rest,
     ap (λ us. t ∷ us) shape,
@@ -272,11 +272,11 @@ module _ {X Y : Type 0} (R : Reads X) (S : Reads Y) where
   module _ (one : ℕ → Tokens → Result X Fault) (two : ℕ → X → Result Y Fault)
       (both : ℕ → Tokens → Result Y Fault) (First Middle Last : Tokens → Type 0) (p : ℕ) (ts : Tokens)
       (composes : Composes one two both) where
-    -- behind what the first part has read
-    behind_read : (x : X) → Stops R one First Middle p ts (Ok x) → (r : Result Y Fault)
+    -- after what the first part has read
+    after_read : (x : X) → Stops R one First Middle p ts (Ok x) → (r : Result Y Fault)
         → Stops S (λ b us. two b (R.put x us)) Middle Last (R.next x) (R.rest x) r
         → Stops S both First Last p ts r
-    behind_read x (front, shape, place, again, first) (Ok y) (later, shape₂, place₂, again₂, first₂) = (
+    after_read x (front, shape, place, again, first) (Ok y) (later, shape₂, place₂, again₂, first₂) = (
       front ++ later,
       shape ∙ ap (λ us. front ++ us) shape₂ ∙ sym (append_assoc front later (S.rest y)),
       omega (arith, place, place₂, length-append front later),
@@ -293,7 +293,7 @@ module _ {X Y : Type 0} (R : Reads X) (S : Reads Y) where
           ∙ again₂ us goes c.0 (omega (arith, c.1, size))),
       (λ none us last. first (empty_first front later none) us (first₂ (empty_second front later none) us last)),
     )
-    behind_read x (front, shape, place, again, first) (Err f) (later, left, shape₂, at, again₂, (more, complete, first₂)) = (
+    after_read x (front, shape, place, again, first) (Err f) (later, left, shape₂, at, again₂, (more, complete, first₂)) = (
       front ++ later,
       left,
       shape ∙ ap (λ us. front ++ us) shape₂ ∙ sym (append_assoc front later left),
@@ -329,13 +329,13 @@ module _ {X Y : Type 0} (R : Reads X) (S : Reads Y) where
       ),
     )
 
-    -- one part behind another
-    pub stops_then : EndsBehind R S two Middle Last → (r : Result X Fault) (f : X → Result Y Fault)
+    -- one part after another
+    pub stops_then : EndsAfter R S two Middle Last → (r : Result X Fault) (f : X → Result Y Fault)
         → Stops R one First Middle p ts r
         → ((x : X) → r ≡ Ok x
         → Stops S (λ b us. two b (R.put x us)) Middle Last (R.next x) (R.rest x) (f x))
         → Stops S both First Last p ts (r >>= f)
-    stops_then ends (Ok x) f stops more = behind_read x stops (f x) (more x refl)
+    stops_then ends (Ok x) f stops more = after_read x stops (f x) (more x refl)
     stops_then (extra, last_is, ending) (Err e) f (front, rest, shape, at, again, (more, complete, first)) later = (
       front,
       rest,

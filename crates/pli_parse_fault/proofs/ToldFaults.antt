@@ -21,10 +21,10 @@ told_ended p =
     let none : p ≡ p + 0 = omega arith in
     inr (refl, ap (λ n. n - 1) none)
 
--- a fault behind what was passed over
-pub told_behind : (least p q : ℕ) (ts us : Tokens) (f : Fault) → Passes least p ts q us → IsToldOf q us f
+-- a fault after what was passed over
+pub told_after : (least p q : ℕ) (ts us : Tokens) (f : Fault) → Passes least p ts q us → IsToldOf q us f
     → IsToldOf p ts f
-told_behind least p q ts us f passed told =
+told_after least p q ts us f passed told =
     ⊎_elim (λ here. inl (
       omega (arith, passed.0, here.0),
       omega (arith, passed.1, here.1),

@@ -6,7 +6,7 @@ use Rattle.pli_base.specs.declared.code.Code.TheVariants.{EndMissing}
 use Rattle.pli_base.specs.declared.token.Fault.{Fault}
 use Rattle.pli_base.specs.declared.token.TokenText.{TokenText}
 
--- some tokens behind them make of them what spells a value
+-- some tokens after them make of them what spells a value
 abbrev pub CanBeCompleted : {A : Type 0} → (Spells : ℕ → Tokens → A → Type 0) → ℕ → Tokens → Type 0
 CanBeCompleted {A = A} Spells p ts = (more : Tokens) × (value : A) × Spells p (ts ++ more) value
 

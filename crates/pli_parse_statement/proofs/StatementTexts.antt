@@ -10,7 +10,7 @@ use Rattle.pli_base.specs.declared.token.Sign.TheVariants as signs
 use Rattle.pli_base.specs.declared.token.TokenText.{TokenText}
 use Rattle.pli_base.specs.declared.token.TokenText.TheVariants as tokens
 use Rattle.pli_parse_statement.specs.StatementWords.{up_to_semicolon, kind_of}
-use Rattle.pli_parse_statement.specs.answers.StatementAnswers.{BehindKind}
+use Rattle.pli_parse_statement.specs.answers.StatementAnswers.{AfterKind}
 use Rattle.pli_parse_statement.specs.declared.first.StatementKind.{StatementKind}
 use Rattle.pli_parse_statement.specs.StatementReading.{has_semicolon, label_at, Another, next_by, next_of}
 
@@ -90,7 +90,7 @@ next_unlabelled (tokens.Word n ∷ tokens.Sign signs.Colon ∷ us) ahead none = 
 next_unlabelled ts ahead none = rw ahead refl
 
 -- where no label stands, tokens are passed over of the statement itself
-pub behind_unlabelled : (ts : Tokens) (k : StatementKind) → is_some (label_at 0 ts).value ≡ false → BehindKind (length (label_at 0 ts).rest) k → BehindKind (length ts) k
+pub after_unlabelled : (ts : Tokens) (k : StatementKind) → is_some (label_at 0 ts).value ≡ false → AfterKind (length (label_at 0 ts).rest) k → AfterKind (length ts) k
 unfolding label_at
-behind_unlabelled (tokens.Word n ∷ tokens.Sign signs.Colon ∷ us) k none passed = absurd (true≢false none)
-behind_unlabelled ts k none passed = passed
+after_unlabelled (tokens.Word n ∷ tokens.Sign signs.Colon ∷ us) k none passed = absurd (true≢false none)
+after_unlabelled ts k none passed = passed

@@ -21,14 +21,14 @@ use Rattle.pli_base.specs.Statements.{Null, Assign, Declare, Procedure, Begin, D
 use Rattle.pli_base.specs.Statements.{Stop, Allocate, Free, Call, Goto, Return, Put, Statements, Ended}
 use Rattle.pli_base.specs.Statements.{Before, Alternative, NoElse, Else, ExternalProcedure, count, list_count}
 use Rattle.pli_base.specs.Statements.{AwaitsElse}
-use Rattle.pli_parse_statement.specs.StatementWords.{Context, standing, the_unit, a_procedure, keyword_of}
+use Rattle.pli_parse_statement.specs.StatementWords.{Context, standing, the_on_unit, a_procedure, keyword_of}
 use Rattle.pli_parse_statement.specs.StatementWords.{condition_of}
 use Rattle.pli_parse_statement.specs.declared.keyword.Keyword.{Keyword}
 use Rattle.pli_parse_statement.specs.declared.keyword.Keyword.TheVariants as words
 use Rattle.pli_parse_statement.specs.declared.keyword.StatementStanding.{StatementStanding}
 use Rattle.pli_parse_statement.specs.declared.keyword.StatementStanding.TheVariants.{InBlock, InGroup}
 use Rattle.pli_parse_statement.specs.declared.keyword.StatementStanding.TheVariants.{AsClause}
-use Rattle.pli_parse_statement.specs.declared.keyword.StatementStanding.TheVariants.{AsUnit}
+use Rattle.pli_parse_statement.specs.declared.keyword.StatementStanding.TheVariants.{AsOnUnit}
 use Rattle.pli_base.specs.declared.statement.Condition.{Condition}
 use Rattle.pli_parse_declaration.specs.declared.list.Separator.TheVariants.{Commas}
 
@@ -38,7 +38,7 @@ abbrev pub BeginsAssignment : ℕ → Tokens → Type 0
 BeginsAssignment p ts =
     (front : Tokens) × (rest : Tokens) × (ts ≡ front ++ Sign Semicolon ∷ rest) × IsAssignment p front
 
--- a statement is an assignment exactly where its tokens behind the label begin with one; otherwise its first
+-- a statement is an assignment exactly where its tokens after the label begin with one; otherwise its first
 -- keyword decides
 abbrev pub IsOfItsKind : ℕ → Tokens → Body → Type 0
 IsOfItsKind p ts (Assign target equals value) = BeginsAssignment p ts
@@ -50,12 +50,12 @@ IsOfItsKind p ts body = BeginsAssignment p ts → ⊥
 abbrev pub SpellsCondition : Tokens → Condition → Type 0
 SpellsCondition ts c = (n : Name) × (ts ≡ Word n ∷ []) × (condition_of n ≡ Some c)
 
--- a keyword, long or short, and what stands behind it
+-- a keyword, long or short, and what stands after it
 abbrev pub SpellsKeyed : Keyword → (Tokens → Type 0) → Tokens → Type 0
 SpellsKeyed keyword Spells ts =
     (n : Name) × (us : Tokens) × (ts ≡ Word n ∷ us) × (keyword_of n ≡ Some keyword) × Spells us
 
--- with a `;` behind it
+-- with a `;` after it
 abbrev pub SpellsClosed : (Tokens → Type 0) → Tokens → Type 0
 SpellsClosed Spells ts = (us : Tokens) × (ts ≡ us ++ Sign Semicolon ∷ []) × Spells us
 
@@ -64,7 +64,7 @@ abbrev pub SpellsEnclosed : {A : Type 0} → (ℕ → Tokens → A → Type 0) �
 SpellsEnclosed Spells p ts x =
     (us : Tokens) × (ts ≡ Sign OpenParenthesis ∷ us ++ Sign CloseParenthesis ∷ []) × Spells (p + 1) us x
 
--- behind a word, or not there
+-- after a word, or not there
 abbrev pub SpellsOptional : {A : Type 0} → Name → (ℕ → Tokens → A → Type 0) → ℕ → Tokens → Option A → Type 0
 SpellsOptional word Spells p ts None = ts ≡ []
 SpellsOptional word Spells p ts (Some x) = (us : Tokens) × (ts ≡ Word word ∷ us) × Spells (p + 1) us x
@@ -82,13 +82,13 @@ SpellsOption ts (Returns attributes) =
     (us : Tokens) × (ts ≡ Word (codes "RETURNS") ∷ us) × SpellsReturned us attributes
 SpellsOption ts Recursive = ts ≡ Word (codes "RECURSIVE") ∷ []
 
--- options, one behind the other
+-- options, one after the other
 abbrev pub SpellsOptions : Tokens → List ProcedureOption → Type 0
 SpellsOptions ts [] = ts ≡ []
 SpellsOptions ts (o ∷ os) =
     (front : Tokens) × (rest : Tokens) × (ts ≡ front ++ rest) × SpellsOption front o × SpellsOptions rest os
 
--- ["(" name {"," name} ")"] {popt}, behind PROCEDURE
+-- ["(" name {"," name} ")"] {popt}, after PROCEDURE
 abbrev pub SpellsHeading : ℕ → Tokens → Heading → Type 0
 SpellsHeading p ts h =
     (ps : Tokens) × (os : Tokens) × (ts ≡ ps ++ os) × SpellsParameters p ps h.parameters
@@ -108,7 +108,7 @@ SpellsRange levels p ts (Some (By by to)) =
 SpellsRange levels p ts (Some (Repeat next)) =
     (us : Tokens) × (ts ≡ Word (codes "REPEAT") ∷ us) × SpellsOutermost levels (p + 1) us next
 
--- behind DO, WHILE followed by `(` is the keyword
+-- after DO, WHILE followed by `(` is the keyword
 abbrev pub BeginsWithWhile : Tokens → Type 0
 BeginsWithWhile ts = (us : Tokens) × (ts ≡ Word (codes "WHILE") ∷ Sign OpenParenthesis ∷ us)
 
@@ -194,16 +194,16 @@ SpellsEnd (Some l) ts =
     ⊎ (ts ≡ Word (codes "END") ∷ Word l.name ∷ Sign Semicolon ∷ [])
 
 -- the statements that an ON-unit may be
-abbrev pub IsUnitBody : Body → Type 0
-IsUnitBody (Declare items) = ⊥
-IsUnitBody (Procedure heading statements end) = ⊥
-IsUnitBody (Do control statements end) = ⊥
-IsUnitBody (If condition consequence alternative) = ⊥
-IsUnitBody (On condition unit) = ⊥
-IsUnitBody (Return value) = ⊥
-IsUnitBody body = Unit {0}
+abbrev pub IsOnUnitBody : Body → Type 0
+IsOnUnitBody (Declare items) = ⊥
+IsOnUnitBody (Procedure heading statements end) = ⊥
+IsOnUnitBody (Do control statements end) = ⊥
+IsOnUnitBody (If condition consequence alternative) = ⊥
+IsOnUnitBody (On condition unit) = ⊥
+IsOnUnitBody (Return value) = ⊥
+IsOnUnitBody body = Unit {0}
 
--- PROCEDURE stands directly in a block's list and has a label, DECLARE in any list and has none; behind THEN,
+-- PROCEDURE stands directly in a block's list and has a label, DECLARE in any list and has none; after THEN,
 -- ELSE and ON there are no labels
 abbrev pub StandsIn : StatementStanding → (label : Option Identifier) → Body → Type 0
 StandsIn InBlock label (Procedure heading statements end) = label ≡ Some heading.name
@@ -215,25 +215,26 @@ StandsIn InGroup label body = Unit {0}
 StandsIn AsClause label (Procedure heading statements end) = ⊥
 StandsIn AsClause label (Declare items) = ⊥
 StandsIn AsClause label body = label ≡ None
-StandsIn AsUnit label body = (label ≡ None) × IsUnitBody body
+StandsIn AsOnUnit label body = (label ≡ None) × IsOnUnitBody body
 
 -- there is no RETURN in an ON-unit, save in a procedure inside it
-abbrev pub MayReturn : (in_unit : Bool) → Body → Type 0
+abbrev pub MayReturn : (in_on_unit : Bool) → Body → Type 0
 MayReturn true (Return value) = ⊥
-MayReturn in_unit body = Unit {0}
+MayReturn in_on_unit body = Unit {0}
 
 -- where so many levels may still be opened. PROCEDURE, BEGIN, DO, IF and ON open one, up to their ends; so do
 -- prefix operators and the parentheses of expressions and of lists of arguments. The statements of a list
--- stand one behind another, and each takes as many numbers as statements begin in it
+-- stand one after another, and each takes as many numbers as statements begin in it
 abbrev mutual
   pub SpellsStatement : Context → (levels p k : ℕ) → Tokens → Statement → Type 0
   SpellsStatement c levels p k ts (Numbered number label at body) =
       (front : Tokens) × (rest : Tokens) × (ts ≡ front ++ rest) × SpellsLabel p front label × (number ≡ k)
       × (at ≡ p + length front)
-      × StandsIn c.standing label body × MayReturn c.in_unit body × IsOfItsKind (p + length front) rest body
+      × StandsIn c.standing label body × MayReturn c.in_on_unit body
+      × IsOfItsKind (p + length front) rest body
       × SpellsBody c levels label (p + length front) k rest body
 
-  -- behind the label
+  -- after the label
   pub SpellsBody : Context → (levels : ℕ) → (label : Option Identifier) → (p k : ℕ) → Tokens → Body → Type 0
   SpellsBody c levels label p k ts Null = ts ≡ Sign Semicolon ∷ []
   SpellsBody c levels label p k ts (Assign target equals value) =
@@ -268,7 +269,7 @@ abbrev mutual
   SpellsBody c levels label p k ts (On condition unit) =
       SpellsKeyed words.On (λ us. (cs : Tokens) × (ss : Tokens) × (us ≡ cs ++ ss)
       × SpellsCondition cs condition
-      × Deeper (λ m. SpellsStatement the_unit m (p + 1 + length cs) (k + 1) ss unit) levels) ts
+      × Deeper (λ m. SpellsStatement the_on_unit m (p + 1 + length cs) (k + 1) ss unit) levels) ts
   SpellsBody c levels label p k ts (Revert condition) =
       SpellsKeyed words.Revert (SpellsClosed (λ us. SpellsCondition us condition)) ts
   SpellsBody c levels label p k ts (Signal condition) =
@@ -288,7 +289,7 @@ abbrev mutual
   SpellsBody c levels label p k ts (Put skip items) =
       SpellsKeyed words.Put (SpellsClosed (λ us. SpellsPut levels (p + 1) us skip items)) ts
 
-  -- statements one behind another, numbered on
+  -- statements one after another, numbered on
   pub SpellsStatements : Context → (levels p k : ℕ) → Tokens → Statements → Type 0
   SpellsStatements c levels p k ts Ended = ts ≡ []
   SpellsStatements c levels p k ts (Before first more) =

@@ -5,7 +5,7 @@
 use Rattle.std.specs.Prelude.{ℕ, zero, suc, ◌+◌, ◌-◌, Bool, true, false, ◌||◌, Option, Some, None, Result, Ok}
 use Rattle.std.specs.Prelude.{List, [], ◌∷◌, length, option_map, is_some, codes, if◌then◌else◌}
 use Rattle.pli_base.specs.Name.{Name}
-use Rattle.pli_base.specs.Words.{Tokens, same_name, is_word, is_open, is_semicolon, behind}
+use Rattle.pli_base.specs.Words.{Tokens, same_name, is_word, is_open, is_semicolon, rest_after}
 use Rattle.pli_base.specs.Results.{◌>>=◌}
 use Rattle.pli_base.specs.Reading.{at_fault, Front, misplaced, expected, read_as, mapped, taken}
 use Rattle.pli_base.specs.Reading.{enclosed, if_open, or_none}
@@ -32,8 +32,9 @@ use Rattle.pli_base.specs.Statements.{Repeat, Control, While, Iterate, Allocatio
 use Rattle.pli_base.specs.Statements.{Statements, Ended, Before, Alternative, NoElse, Else, ExternalProcedure}
 use Rattle.pli_base.specs.Statements.{count}
 use Rattle.pli_base.specs.Statements as body
-use Rattle.pli_parse_statement.specs.StatementWords.{Context, standing, the_unit, a_procedure, condition_of}
-use Rattle.pli_parse_statement.specs.StatementWords.{behind_word, begins_assignment, StatementKind, Assigns}
+use Rattle.pli_parse_statement.specs.StatementWords.{Context, standing, the_on_unit, a_procedure}
+use Rattle.pli_parse_statement.specs.StatementWords.{condition_of}
+use Rattle.pli_parse_statement.specs.StatementWords.{after_word, begins_assignment, StatementKind, Assigns}
 use Rattle.pli_parse_statement.specs.StatementWords.{Empty}
 use Rattle.pli_parse_statement.specs.StatementWords.{Keyed, Unknown, kind_of}
 use Rattle.pli_parse_statement.specs.declared.keyword.Keyword.{Keyword}
@@ -44,7 +45,7 @@ use Rattle.pli_parse_statement.specs.declared.keyword.Keyword.TheVariants.{Retur
 use Rattle.pli_parse_statement.specs.declared.keyword.StatementStanding.{StatementStanding}
 use Rattle.pli_parse_statement.specs.declared.keyword.StatementStanding.TheVariants.{InBlock, InGroup}
 use Rattle.pli_parse_statement.specs.declared.keyword.StatementStanding.TheVariants.{AsClause}
-use Rattle.pli_parse_statement.specs.declared.keyword.StatementStanding.TheVariants.{AsUnit}
+use Rattle.pli_parse_statement.specs.declared.keyword.StatementStanding.TheVariants.{AsOnUnit}
 use Rattle.pli_base.specs.declared.statement.Condition.{Condition}
 use Rattle.pli_parse_declaration.specs.declared.list.Separator.TheVariants.{Commas}
 
@@ -62,11 +63,11 @@ expression_in levels p ts = uncounted (expression_at levels 0 p ts)
 unfoldable pub reference_in : (levels p : ℕ) → Tokens → Result (Front Reference) Fault
 reference_in levels p ts = uncounted (reference_at levels p ts)
 
--- a value, and the `;` behind it
+-- a value, and the `;` after it
 unfoldable pub stopped : {A : Type 0} → A → ℕ → Tokens → Result (Front A) Fault
 stopped value p ts = taken is_semicolon SemicolonExpected p ts >>= λ us. read_as value (p + 1) us
 
--- what was read, with the `;` behind it
+-- what was read, with the `;` after it
 abbrev pub closing : {A B : Type 0} → (A → B) → Result (Front A) Fault → Result (Front B) Fault
 closing f read = read >>= λ x. stopped (f x.value) x.next x.rest
 
@@ -93,12 +94,12 @@ abbrev pub condition_from : ℕ → Tokens → Option Condition → Result (Fron
 condition_from p us (Some c) = read_as c (p + 1) us
 condition_from p us None = at_fault BadCondition p
 
--- the condition behind ON, SIGNAL or REVERT
+-- the condition after ON, SIGNAL or REVERT
 unfoldable pub condition_at : ℕ → Tokens → Result (Front Condition) Fault
 condition_at p (Word n ∷ us) = condition_from p us (condition_of n)
 condition_at p ts = expected BadCondition p ts
 
--- what is read behind a word, if the word stands there
+-- what is read after a word, if the word stands there
 abbrev pub if_word : {A : Type 0} → (ℕ → Tokens → Result (Front A) Fault) → ℕ → Tokens → Option Tokens
     → Result (Front (Option A)) Fault
 if_word read p ts None = read_as None p ts
@@ -107,14 +108,14 @@ if_word read p ts (Some us) = mapped Some (read (p + 1) us)
 -- a part that a word begins, or none
 unfoldable pub optional_at : {A : Type 0} → Name → (ℕ → Tokens → Result (Front A) Fault) → ℕ → Tokens
     → Result (Front (Option A)) Fault
-optional_at word read p ts = if_word read p ts (behind_word word ts)
+optional_at word read p ts = if_word read p ts (after_word word ts)
 
--- a word and what stands behind it
+-- a word and what stands after it
 abbrev pub paired : {A : Type 0} → Tokens → Option A → Option (A × Tokens)
 paired us (Some x) = Some (x, us)
 paired us None = None
 
--- a word in front that is known, and what stands behind it
+-- a word in front that is known, and what stands after it
 abbrev pub known_first : {A : Type 0} → (known : Name → Option A) → Tokens → Option (A × Tokens)
 known_first known (Word n ∷ us) = paired us (known n)
 known_first known ts = None
@@ -157,10 +158,10 @@ range_at levels p ts = range_from levels p ts (range_first ts)
 -- how a specification begins: WHILE followed by `(` is the keyword, and any other word a variable's name
 pub data Specified : Type 0 where
   Unspecified : Specified
-  Conditioned : (behind : Tokens) → Specified
+  Conditioned : (after : Tokens) → Specified
   Iterated : Specified
 
--- what stands behind DO: WHILE and a parenthesis, a name, or nothing of either
+-- what stands after DO: WHILE and a parenthesis, a name, or nothing of either
 unfoldable pub specified : Tokens → Specified
 specified (Word n ∷ Sign OpenParenthesis ∷ us) =
     if same_name n (codes "WHILE") then Conditioned (Sign OpenParenthesis ∷ us) else Iterated
@@ -181,7 +182,7 @@ control_from levels p ts Iterated = do
   read_as (Some (Iterate variable.value variable.next first.value range.value condition.value)) condition.next
       condition.rest
 
--- behind DO
+-- after DO
 unfoldable pub control_at : (levels p : ℕ) → Tokens → Result (Front (Option Control)) Fault
 control_at levels p ts = control_from levels p ts (specified ts)
 
@@ -265,16 +266,16 @@ put_from levels zero skip items p ts = at_fault BadOption p
 put_from levels (suc bound) skip items p ts =
     put_by levels (put_from levels bound) skip items p ts (put_first ts)
 
--- behind PUT, where one of them must stand
+-- after PUT, where one of them must stand
 abbrev pub put_begun : (levels p : ℕ) → Tokens → Option (PutWord × Tokens) → Result (Front Body) Fault
 put_begun levels p ts None = expected BadOption p ts
 put_begun levels p ts (Some x) = put_from levels 3 false [] p ts
 
--- what stands behind PUT
+-- what stands after PUT
 unfoldable pub put_at : (levels p : ℕ) → Tokens → Result (Front Body) Fault
 put_at levels p ts = put_begun levels p ts (put_first ts)
 
--- behind CALL: each argument is an outermost expression
+-- after CALL: each argument is an outermost expression
 unfoldable pub call_at : (levels p : ℕ) → Tokens → Result (Front Body) Fault
 call_at levels p ts = do
   name ← identifier_at p ts
@@ -298,7 +299,7 @@ option_word n =
 unfoldable pub option_first : Tokens → Option (OptionWord × Tokens)
 option_first = known_first option_word
 
--- behind OPTIONS
+-- after OPTIONS
 unfoldable pub main_at : ℕ → Tokens → Result (Front ProcedureOption) Fault
 main_at p ts =
     parenthesized (λ p ts. taken (is_word (codes "MAIN")) BadOption p ts >>= λ us. read_as Main (p
@@ -319,10 +320,10 @@ unfoldable pub options_from : (bound p : ℕ) → Tokens → Result (Front (List
 options_from zero p ts = at_fault SemicolonExpected p
 options_from (suc bound) p ts = options_by (options_from bound) p ts (option_first ts)
 
--- behind PROCEDURE, of this name and number
+-- after PROCEDURE, of this name and number
 unfoldable pub heading_at : Identifier → (number p : ℕ) → Tokens → Result (Front Heading) Fault
 heading_at name number p ts = do
-  parameters ← if_open (list_at Commas identifier_at) p ts (behind is_open ts)
+  parameters ← if_open (list_at Commas identifier_at) p ts (rest_after is_open ts)
   options ← options_from (length parameters.rest + 1) parameters.next parameters.rest
   stopped (record {
     name = name;
@@ -372,30 +373,30 @@ second_label p (Some l) = Some p
 abbrev pub bad_label : StatementStanding → Front (Option Identifier) → Option Identifier → Option ℕ
 bad_label s x None = None
 bad_label AsClause x (Some l) = Some l.at
-bad_label AsUnit x (Some l) = Some l.at
+bad_label AsOnUnit x (Some l) = Some l.at
 bad_label s x (Some l) = second_label x.next (label_at x.next x.rest).value
 
--- a statement that may not stand where it does: the fault is at its label, or at its first token behind that
+-- a statement that may not stand where it does: the fault is at its label, or at its first token after that
 pub data Misplacement : Type 0 where
   AtLabel AtStatement : (code : Code) → Misplacement
 
 -- an ON-unit is an assignment, a null statement, or one that begins with one of these
-abbrev pub unit_misplaced : Keyword → Option Misplacement
-unit_misplaced Allocate = None
-unit_misplaced Begin = None
-unit_misplaced Call = None
-unit_misplaced Free = None
-unit_misplaced Goto = None
-unit_misplaced GoTo = None
-unit_misplaced Put = None
-unit_misplaced Revert = None
-unit_misplaced Signal = None
-unit_misplaced Stop = None
-unit_misplaced keyword = Some (AtStatement MisplacedStatement)
+abbrev pub on_unit_misplaced : Keyword → Option Misplacement
+on_unit_misplaced Allocate = None
+on_unit_misplaced Begin = None
+on_unit_misplaced Call = None
+on_unit_misplaced Free = None
+on_unit_misplaced Goto = None
+on_unit_misplaced GoTo = None
+on_unit_misplaced Put = None
+on_unit_misplaced Revert = None
+on_unit_misplaced Signal = None
+on_unit_misplaced Stop = None
+on_unit_misplaced keyword = Some (AtStatement MisplacedStatement)
 
 -- what is wrong with a keyword by where the statement stands
 abbrev pub standing_misplaced : StatementStanding → Keyword → (is_labelled : Bool) → Option Misplacement
-standing_misplaced AsUnit keyword l = unit_misplaced keyword
+standing_misplaced AsOnUnit keyword l = on_unit_misplaced keyword
 standing_misplaced AsClause Procedure l = Some (AtStatement MisplacedStatement)
 standing_misplaced AsClause Declare l = Some (AtStatement MisplacedStatement)
 standing_misplaced AsClause End l = Some (AtStatement MisplacedStatement)
@@ -407,9 +408,9 @@ standing_misplaced s End true = Some (AtLabel BadLabel)
 standing_misplaced s keyword l = None
 
 -- what is wrong with a keyword where it stands; RETURN may not stand inside an ON-unit
-abbrev pub misplacement : Context → Keyword → (is_labelled : Bool) → (in_unit : Bool) → Option Misplacement
+abbrev pub misplacement : Context → Keyword → (is_labelled : Bool) → (in_on_unit : Bool) → Option Misplacement
 misplacement c Return l true = Some (AtStatement MisplacedStatement)
-misplacement c keyword l in_unit = standing_misplaced c.standing keyword l
+misplacement c keyword l in_on_unit = standing_misplaced c.standing keyword l
 
 -- a fault at the label, if there is one, else at the statement
 abbrev pub at_label : {A : Type 0} → Code → ℕ → Option Identifier → Result A Fault
@@ -426,19 +427,19 @@ abbrev pub is_label : Option Identifier → Name → Bool
 is_label None n = false
 is_label (Some l) n = same_name n l.name
 
--- the name behind END, which is the label's or P8
+-- the name after END, which is the label's or P8
 abbrev pub named_end : Bool → ℕ → Tokens → Result (Front (Unit {0})) Fault
 named_end true p us = stopped tt (p + 1) us
 named_end false p us = at_fault WrongEndName p
 
--- behind END: nothing, or the label of the nearest open block or group
+-- after END: nothing, or the label of the nearest open block or group
 unfoldable pub ending_at : Option Identifier → ℕ → Tokens → Result (Front (Unit {0})) Fault
 ending_at label p (Word n ∷ us) = named_end (is_label label n) p us
 ending_at label p ts = stopped tt p ts
 
 -- what comes next in a list: its END, or another statement
 pub data NextStatement : Type 0 where
-  EndsHere : (behind : Tokens) → NextStatement
+  EndsHere : (after : Tokens) → NextStatement
   Another : NextStatement
 
 -- END that closes the list, or one more statement
@@ -475,15 +476,15 @@ abbrev pub list_in : Inside → Context → (label : Option Identifier) → (p k
     → Result (Front Listing) Fault
 list_in i c label p k ts = list_from i.statement c label (length ts + 1) p k ts
 
--- ELSE, where neither a label nor an assignment begins with it: what stands behind it
+-- ELSE, where neither a label nor an assignment begins with it: what stands after it
 abbrev pub else_by : (is_label is_assignment : Bool) → Option Tokens → Option Tokens
-else_by false false behind = behind
-else_by l a behind = None
+else_by false false after = after
+else_by l a after = None
 
--- what is behind ELSE, if an ELSE part begins here
+-- what is after ELSE, if an ELSE part begins here
 unfoldable pub else_first : Tokens → Option Tokens
 else_first ts =
-    else_by (is_labelled (label_at 0 ts).value) (begins_assignment ts) (behind_word (codes "ELSE") ts)
+    else_by (is_labelled (label_at 0 ts).value) (begins_assignment ts) (after_word (codes "ELSE") ts)
 
 -- an ELSE belongs to the nearest IF that has none
 abbrev pub alternative_from : Inside → Context → (p k : ℕ) → Tokens → Option Tokens
@@ -491,7 +492,7 @@ abbrev pub alternative_from : Inside → Context → (p k : ℕ) → Tokens → 
 alternative_from i c p k ts None = read_as NoElse p ts
 alternative_from i c p k ts (Some us) = mapped Else (i.statement (standing AsClause c) (p + 1) k us)
 
--- what stands behind IF: a condition, THEN, a statement, and perhaps ELSE and another
+-- what stands after IF: a condition, THEN, a statement, and perhaps ELSE and another
 unfoldable pub if_at : Inside → Context → (p k : ℕ) → Tokens → Result (Front Body) Fault
 if_at i c p k ts = do
   condition ← expression_in i.levels p ts
@@ -501,14 +502,14 @@ if_at i c p k ts = do
       + count consequence.value) consequence.rest (else_first consequence.rest)
   read_as (body.If condition.value consequence.value alternative.value) alternative.next alternative.rest
 
--- what stands behind ON: a condition and an ON-unit
+-- what stands after ON: a condition and an ON-unit
 unfoldable pub on_at : Inside → (p k : ℕ) → Tokens → Result (Front Body) Fault
 on_at i p k ts = do
   condition ← condition_at p ts
-  unit ← i.statement the_unit condition.next k condition.rest
+  unit ← i.statement the_on_unit condition.next k condition.rest
   read_as (body.On condition.value unit.value) unit.next unit.rest
 
--- what stands behind DO: the control, `;`, the statements and END
+-- what stands after DO: the control, `;`, the statements and END
 unfoldable pub do_at : Inside → Context → (label : Option Identifier) → (p k : ℕ) → Tokens
     → Result (Front Body) Fault
 do_at i c label p k ts = do
@@ -517,7 +518,7 @@ do_at i c label p k ts = do
   list ← list_in i (standing InGroup c) label (control.next + 1) k us
   read_as (body.Do control.value list.value.statements list.value.end) list.next list.rest
 
--- what stands behind BEGIN: `;`, the statements and END
+-- what stands after BEGIN: `;`, the statements and END
 unfoldable pub begin_at : Inside → Context → (label : Option Identifier) → (p k : ℕ) → Tokens
     → Result (Front Body) Fault
 begin_at i c label p k ts = do
@@ -525,11 +526,11 @@ begin_at i c label p k ts = do
   list ← list_in i (standing InBlock c) label (p + 1) k us
   read_as (body.Begin list.value.statements list.value.end) list.next list.rest
 
--- the statements of a procedure behind its heading
+-- the statements of a procedure after its heading
 abbrev pub inner_list : Inside → Identifier → (p k : ℕ) → Tokens → Result (Front Listing) Fault
 inner_list i name p k ts = list_in i a_procedure (Some name) p k ts
 
--- what stands behind PROCEDURE, which has a label
+-- what stands after PROCEDURE, which has a label
 unfoldable pub procedure_at : Inside → (label : Option Identifier) → (number p : ℕ) → Tokens
     → Result (Front Body) Fault
 procedure_at i None number p ts = at_fault BadLabel p
@@ -538,7 +539,7 @@ procedure_at i (Some name) number p ts = do
   list ← inner_list i name heading.next (number + 1) heading.rest
   read_as (body.Procedure heading.value list.value.statements list.value.end) list.next list.rest
 
--- behind a keyword at p, which begins the statement of number k
+-- after a keyword at p, which begins the statement of number k
 abbrev pub keyed_at : (levels : ℕ) → Option Inside → Context → (label : Option Identifier) → (p k : ℕ)
     → Tokens → Keyword → Result (Front Body) Fault
 keyed_at levels inside c label p k us Procedure = deeper inside p (λ i. procedure_at i label k (p + 1) us)
@@ -559,7 +560,7 @@ keyed_at levels inside c label p k us Call = closing (λ x. x) (call_at levels (
 keyed_at levels inside c label p k us Goto = closing body.Goto (identifier_at (p + 1) us)
 keyed_at levels inside c label p k us GoTo = closing body.Goto (identifier_at (p + 2) us)
 keyed_at levels inside c label p k us Return =
-    closing body.Return (if_open (expression_in levels) (p + 1) us (behind is_open us))
+    closing body.Return (if_open (expression_in levels) (p + 1) us (rest_after is_open us))
 keyed_at levels inside c label p k us Put = closing (λ x. x) (put_at levels (p + 1) us)
 
 -- the statement of a keyword, unless it may not stand here
@@ -569,21 +570,21 @@ unless_misplaced levels inside c label p k us keyword (Some (AtLabel code)) = at
 unless_misplaced levels inside c label p k us keyword (Some (AtStatement code)) = at_fault code p
 unless_misplaced levels inside c label p k us keyword None = keyed_at levels inside c label p k us keyword
 
--- a statement behind its label
+-- a statement after its label
 abbrev pub body_from : (levels : ℕ) → Option Inside → Context → (label : Option Identifier) → (p k : ℕ)
     → Tokens → StatementKind → Result (Front Body) Fault
 body_from levels inside c label p k ts Assigns = assignment_at levels p ts
 body_from levels inside c label p k ts (Empty us) = read_as body.Null (p + 1) us
 body_from levels inside c label p k ts (Keyed keyword us) =
     unless_misplaced levels inside c label p k us keyword
-    (misplacement c keyword (is_labelled label) c.in_unit)
+    (misplacement c keyword (is_labelled label) c.in_on_unit)
 body_from levels inside c label p k ts Unknown = at_fault NotAStatement p
 
--- the statement behind its label, unless the label may not stand here
-abbrev pub behind_label : (levels : ℕ) → Option Inside → Context → (k : ℕ) → Front (Option Identifier)
+-- the statement after its label, unless the label may not stand here
+abbrev pub after_label : (levels : ℕ) → Option Inside → Context → (k : ℕ) → Front (Option Identifier)
     → Option ℕ → Result (Front Statement) Fault
-behind_label levels inside c k x (Some p) = at_fault BadLabel p
-behind_label levels inside c k x None =
+after_label levels inside c k x (Some p) = at_fault BadLabel p
+after_label levels inside c k x None =
     mapped (Numbered k x.value x.next) (body_from levels inside c x.value x.next k x.rest (kind_of x.rest))
 
 -- where no `;` is ahead the text has ended
@@ -591,7 +592,7 @@ abbrev pub begun : (levels : ℕ) → Option Inside → Context → (p k : ℕ) 
     → Result (Front Statement) Fault
 begun levels inside c p k ts false = at_fault EndMissing (p + length ts - 1)
 begun levels inside c p k ts true =
-    behind_label levels inside c k (label_at p ts)
+    after_label levels inside c k (label_at p ts)
     (bad_label c.standing (label_at p ts) (label_at p ts).value)
 
 -- a statement with its label, where so many levels may be opened
@@ -607,12 +608,12 @@ inside_of (suc levels) = Some (record { levels = levels; statement = statement_o
 abbrev pub statement_at : (levels : ℕ) → StatementReader
 statement_at levels = statement_of levels (inside_of levels)
 
--- nothing may stand behind the unit's END
+-- nothing may stand after the unit's END
 abbrev pub finished : ExternalProcedure → ℕ → Tokens → Result ExternalProcedure Fault
 finished unit p [] = Ok unit
 finished unit p (t ∷ ts) = at_fault TextAfterEnd p
 
--- the external procedure, behind PROCEDURE; it is the first level, and its PROCEDURE is statement 1
+-- the external procedure, after PROCEDURE; it is the first level, and its PROCEDURE is statement 1
 unfoldable pub external_at : Identifier → Tokens → Result ExternalProcedure Fault
 external_at name ts = deeper (inside_of nesting_limit) 2 (λ i. do
   heading ← heading_at name 1 3 ts

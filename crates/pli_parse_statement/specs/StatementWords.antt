@@ -14,26 +14,26 @@ use Rattle.pli_parse_statement.specs.declared.keyword.Keyword.TheVariants.{If, O
 use Rattle.pli_parse_statement.specs.declared.keyword.Keyword.TheVariants.{Allocate, Free, Call, Goto, GoTo}
 use Rattle.pli_parse_statement.specs.declared.keyword.Keyword.TheVariants.{Return, Put}
 use Rattle.pli_parse_statement.specs.declared.keyword.StatementStanding.{StatementStanding}
-use Rattle.pli_parse_statement.specs.declared.keyword.StatementStanding.TheVariants.{InBlock, AsUnit}
+use Rattle.pli_parse_statement.specs.declared.keyword.StatementStanding.TheVariants.{InBlock, AsOnUnit}
 use Rattle.pli_base.specs.declared.statement.Condition.{Condition}
 use Rattle.pli_base.specs.declared.statement.Condition.TheVariants.{FixedOverflow, ZeroDivide, Area}
 
 -- where a statement stands, and whether it belongs to an ON-unit, in which there is no RETURN
 pub record Context : Type 0 where
   pub standing : StatementStanding
-  pub in_unit : Bool
+  pub in_on_unit : Bool
 
 -- the same place in the text, where a statement stands so
 abbrev pub standing : StatementStanding → Context → Context
-standing s c = record { standing = s; in_unit = c.in_unit }
+standing s c = record { standing = s; in_on_unit = c.in_on_unit }
 
 -- where an ON-unit stands
-abbrev pub the_unit : Context
-the_unit = record { standing = AsUnit; in_unit = true }
+abbrev pub the_on_unit : Context
+the_on_unit = record { standing = AsOnUnit; in_on_unit = true }
 
 -- where the statements of a procedure stand
 abbrev pub a_procedure : Context
-a_procedure = record { standing = InBlock; in_unit = false }
+a_procedure = record { standing = InBlock; in_on_unit = false }
 
 -- the keywords of one word that begin statements with no statement inside, but for DECLARE and END
 abbrev pub simple_keyword_of : Name → Option Keyword
@@ -49,7 +49,7 @@ simple_keyword_of n =
     else if same_name n (codes "PUT") then Some Put
     else None
 
--- the keyword of one word that begins a statement; GO is none without TO behind it
+-- the keyword of one word that begins a statement; GO is none without TO after it
 unfoldable pub keyword_of : Name → Option Keyword
 keyword_of n =
     if is_either (codes "PROCEDURE") (codes "PROC") n then Some Procedure
@@ -61,7 +61,7 @@ keyword_of n =
     else if same_name n (codes "ON") then Some On
     else simple_keyword_of n
 
--- the condition that a name is, behind ON, REVERT and SIGNAL
+-- the condition that a name is, after ON, REVERT and SIGNAL
 unfoldable pub condition_of : Name → Option Condition
 condition_of n =
     if is_either (codes "FIXEDOVERFLOW") (codes "FOFL") n then Some FixedOverflow
@@ -69,10 +69,10 @@ condition_of n =
     else if same_name n (codes "AREA") then Some Area
     else None
 
--- the tokens behind a word, if the first token is that word
-unfoldable pub behind_word : Name → Tokens → Option Tokens
-behind_word w (tokens.Word n ∷ us) = if same_name n w then Some us else None
-behind_word w us = None
+-- the tokens after a word, if the first token is that word
+unfoldable pub after_word : Name → Tokens → Option Tokens
+after_word w (tokens.Word n ∷ us) = if same_name n w then Some us else None
+after_word w us = None
 
 -- the tokens before the first `;`, if there is one
 unfoldable pub up_to_semicolon : Tokens → Option Tokens
@@ -90,22 +90,22 @@ is_assigned (Some us) = is_assignment us
 unfoldable pub begins_assignment : Tokens → Bool
 begins_assignment ts = is_assigned (up_to_semicolon ts)
 
--- what a statement is, by its tokens behind the label
+-- what a statement is, by its tokens after the label
 pub data StatementKind : Type 0 where
   Assigns : StatementKind
-  Empty : (behind : Tokens) → StatementKind
-  Keyed : (keyword : Keyword) (behind : Tokens) → StatementKind
+  Empty : (after : Tokens) → StatementKind
+  Keyed : (keyword : Keyword) (after : Tokens) → StatementKind
   Unknown : StatementKind
 
--- GO with its TO behind it
+-- GO with its TO after it
 abbrev pub go_kind : Option Tokens → StatementKind
 go_kind (Some us) = Keyed GoTo us
 go_kind None = Unknown
 
--- GO is a keyword where TO stands behind it
+-- GO is a keyword where TO stands after it
 abbrev pub word_kind : Option Keyword → Name → Tokens → StatementKind
 word_kind (Some k) n us = Keyed k us
-word_kind None n us = if same_name n (codes "GO") then go_kind (behind_word (codes "TO") us) else Unknown
+word_kind None n us = if same_name n (codes "GO") then go_kind (after_word (codes "TO") us) else Unknown
 
 -- the kind of a statement by its first token, where it is no assignment
 unfoldable pub first_kind : Tokens → StatementKind

@@ -7,12 +7,12 @@ ghost use Rattle.pli_parse_statement.specs.StatementReading.{expression_in, pare
 ghost use Rattle.pli_parse_statement.specs.StatementReading.{specified, control_from, control_at};
 ghost use Rattle.pli_parse_statement.specs.StatementReading as reading;
 ghost use Rattle.pli_parse_statement.specs.answers.ControlAnswers.{limited};
-ghost use Rattle.pli_parse_statement.specs.answers.StatementAnswers.{specified_view, BehindWhile};
+ghost use Rattle.pli_parse_statement.specs.answers.StatementAnswers.{specified_view, AfterWhile};
 ghost use Rattle.pli_base.specs.answers.FailureAnswers.{Gives};
 ghost use Rattle.pli_base.specs.answers.ReadingAnswers.{Advances, Continues, front_view};
 
 use crate::cursor::{
-    EachExpression, behind_word, equals_taken, expression_in, is_name, parenthesized, reference_in,
+    EachExpression, after_word, equals_taken, expression_in, is_name, parenthesized, reference_in,
 };
 use crate::word::{RangeWord, range_first};
 use pli_base::statement::{Control, Range};
@@ -23,7 +23,7 @@ use std::alloc::Global;
 /// How a specification begins.
 enum SpecificationStart<'a> {
     Unspecified,
-    /// With the tokens behind WHILE, of which the first is `(`.
+    /// With the tokens after WHILE, of which the first is `(`.
     Conditioned(&'a [TokenText]),
     Iterated,
 }
@@ -32,7 +32,7 @@ enum SpecificationStart<'a> {
 #[tactic(auto, unfolding(crate::specs::StatementReading::specified))]
 fn specified(texts: &[TokenText]) -> SpecificationStart<'_>
     ensures value { specified_view result ≡ specified texts.now }
-    ensures place { BehindWhile texts.now result }
+    ensures place { AfterWhile texts.now result }
 {
     match texts {
         [
@@ -65,9 +65,9 @@ fn optional_expression<'a>(
         (optional_at word.now (expression_in levels) at texts.now) }
     ensures place { IfOk result (Continues at texts.now) }
 {
-    match behind_word(word, texts) {
-        Some(behind) => {
-            let read = expression_in(alloc, levels, at + 1, behind)?;
+    match after_word(word, texts) {
+        Some(after) => {
+            let read = expression_in(alloc, levels, at + 1, after)?;
             Ok(Front::new(Some(read.value), read.next, read.rest))
         }
         None => Ok(Front::new(None, at, texts)),
@@ -87,9 +87,9 @@ fn optional_condition<'a>(
         (optional_at (codes "WHILE") (parenthesized (expression_in levels)) at texts.now) }
     ensures place { IfOk result (Continues at texts.now) }
 {
-    match behind_word(b"WHILE", texts) {
-        Some(behind) => {
-            let read = parenthesized(&EachExpression { alloc, levels }, at + 1, behind)?;
+    match after_word(b"WHILE", texts) {
+        Some(after) => {
+            let read = parenthesized(&EachExpression { alloc, levels }, at + 1, after)?;
             Ok(Front::new(Some(read.value), read.next, read.rest))
         }
         None => Ok(Front::new(None, at, texts)),
@@ -110,8 +110,8 @@ fn range_at<'a>(
 {
     match range_first(texts) {
         None => Ok(Front::new(None, at, texts)),
-        Some((RangeWord::To, behind)) => {
-            let to = expression_in(alloc, levels, at + 1, behind)?;
+        Some((RangeWord::To, after)) => {
+            let to = expression_in(alloc, levels, at + 1, after)?;
             match optional_expression(alloc, levels, b"BY", to.next, to.rest) {
                 Ok(by) => {
                     let range = Range::To {
@@ -126,8 +126,8 @@ fn range_at<'a>(
                 }
             }
         }
-        Some((RangeWord::By, behind)) => {
-            let by = expression_in(alloc, levels, at + 1, behind)?;
+        Some((RangeWord::By, after)) => {
+            let by = expression_in(alloc, levels, at + 1, after)?;
             match optional_expression(alloc, levels, b"TO", by.next, by.rest) {
                 Ok(to) => {
                     let range = Range::By {
@@ -142,14 +142,14 @@ fn range_at<'a>(
                 }
             }
         }
-        Some((RangeWord::Repeat, behind)) => {
-            let next = expression_in(alloc, levels, at + 1, behind)?;
+        Some((RangeWord::Repeat, after)) => {
+            let next = expression_in(alloc, levels, at + 1, after)?;
             Ok(Front::new(Some(Range::Repeat(next.value)), next.next, next.rest))
         }
     }
 }
 
-/// What limits or continues an iteration, behind its variable and its first value.
+/// What limits or continues an iteration, after its variable and its first value.
 #[tactic(auto)]
 fn limited<'a>(
     alloc: Global,
@@ -205,14 +205,14 @@ fn iteration_at<'a>(
     ensures place { IfOk result (Advances at texts.now) }
 {
     let variable = reference_in(alloc, levels, at, texts)?;
-    let behind = match equals_taken(Code::BadDo, variable.next, variable.rest) {
-        Ok(behind) => behind,
+    let after = match equals_taken(Code::BadDo, variable.next, variable.rest) {
+        Ok(after) => after,
         Err(error) => {
             drop(variable);
             return Err(error);
         }
     };
-    match expression_in(alloc, levels, variable.next + 1, behind) {
+    match expression_in(alloc, levels, variable.next + 1, after) {
         Ok(first) => limited(alloc, levels, variable.value, variable.next, first),
         Err(error) => {
             drop(variable);
@@ -221,7 +221,7 @@ fn iteration_at<'a>(
     }
 }
 
-/// What stands behind DO: WHILE with its condition, an iteration, or nothing.
+/// What stands after DO: WHILE with its condition, an iteration, or nothing.
 #[tactic(auto, unfolding(crate::specs::StatementReading::control_at))]
 pub fn control_at<'a>(
     alloc: Global,
@@ -235,8 +235,8 @@ pub fn control_at<'a>(
 {
     match specified(texts) {
         SpecificationStart::Unspecified => Ok(Front::new(None, at, texts)),
-        SpecificationStart::Conditioned(behind) => {
-            let condition = parenthesized(&EachExpression { alloc, levels }, at + 1, behind)?;
+        SpecificationStart::Conditioned(after) => {
+            let condition = parenthesized(&EachExpression { alloc, levels }, at + 1, after)?;
             Ok(Front::new(
                 Some(Control::While(condition.value)),
                 condition.next,

@@ -5,7 +5,7 @@ ghost use Rattle.pli_base.specs.Words.{same_name};
 ghost use Rattle.pli_base.specs.views.SyntaxView.{expression_view, reference_view, arguments_view};
 ghost use Rattle.pli_parse_expression.specs.Reading.{arguments_at, argument_of, inside};
 ghost use Rattle.pli_parse_declaration.specs.DeclarationReading.{list_at};
-ghost use Rattle.pli_parse_statement.specs.StatementWords.{behind_word};
+ghost use Rattle.pli_parse_statement.specs.StatementWords.{after_word};
 ghost use Rattle.pli_parse_statement.specs.StatementReading.{uncounted, expression_in, reference_in, parenthesized};
 ghost use Rattle.pli_parse_statement.specs.StatementReading.{is_equals};
 ghost use Rattle.pli_base.specs.Reading.{taken};
@@ -30,10 +30,10 @@ pub fn is_name(name: &Name, word: &[u8]) -> bool
     name.is(word)
 }
 
-/// The tokens behind the word, if they begin with it.
-#[tactic(auto, unfolding(crate::specs::StatementWords::behind_word))]
-pub fn behind_word<'a>(word: &[u8], texts: &'a [TokenText]) -> Option<&'a [TokenText]>
-    ensures value { behind_word word.now texts.now ≡ option_copied result }
+/// The tokens after the word, if they begin with it.
+#[tactic(auto, unfolding(crate::specs::StatementWords::after_word))]
+pub fn after_word<'a>(word: &[u8], texts: &'a [TokenText]) -> Option<&'a [TokenText]>
+    ensures value { after_word word.now texts.now ≡ option_copied result }
     ensures place { IfSome result (λ rest. length rest.now + 1 ≡ length texts.now) }
 {
     let [TokenText::Word(name), rest @ ..] = texts else {
@@ -46,8 +46,8 @@ pub fn behind_word<'a>(word: &[u8], texts: &'a [TokenText]) -> Option<&'a [Token
     }
 }
 
-/// The tokens behind `=`, which must stand.
-#[tactic(auto, unfolding(pli_base::specs::Reading::taken, pli_base::specs::Words::behind))]
+/// The tokens after `=`, which must stand.
+#[tactic(auto, unfolding(pli_base::specs::Reading::taken, pli_base::specs::Words::rest_after))]
 pub fn equals_taken(code: Code, at: u32, texts: &[TokenText]) -> Result<&[TokenText], ParseError>
     ensures value { Gives (λ rest. rest.now) result (taken is_equals code at texts.now) }
     ensures place { IfOk result (λ rest. length rest.now + 1 ≡ length texts.now) }
@@ -95,7 +95,7 @@ pub fn reference_in<'a>(
     Ok(uncounted(reference_at(alloc, levels, at, texts)?))
 }
 
-/// The arguments behind the name of CALL, if there are parentheses.
+/// The arguments after the name of CALL, if there are parentheses.
 #[tactic(auto)]
 pub fn arguments_in<'a>(
     alloc: Global,

@@ -4,15 +4,15 @@ ghost use Rattle.std.specs.Prelude.{◌≡◌, ℕ, ◌≤◌, ◌+◌, length, 
 ghost use Rattle.pli_base.specs.Words.{is_semicolon};
 ghost use Rattle.pli_parse_statement.specs.StatementWords.{up_to_semicolon, begins_assignment, keyword_of, word_kind};
 ghost use Rattle.pli_parse_statement.specs.StatementWords.{first_kind, kind_of};
-ghost use Rattle.pli_parse_statement.specs.StatementReading.{has_semicolon, label_at, bad_label, unit_misplaced};
+ghost use Rattle.pli_parse_statement.specs.StatementReading.{has_semicolon, label_at, bad_label, on_unit_misplaced};
 ghost use Rattle.pli_parse_statement.specs.StatementReading.{standing_misplaced, misplacement, else_first, next_by};
 ghost use Rattle.pli_parse_statement.specs.StatementReading.{next_of};
-ghost use Rattle.pli_parse_statement.specs.answers.StatementAnswers.{context_view, kind_view, BehindKind};
-ghost use Rattle.pli_parse_statement.specs.answers.StatementAnswers.{misplacement_view, next_view, BehindNext};
+ghost use Rattle.pli_parse_statement.specs.answers.StatementAnswers.{context_view, kind_view, AfterKind};
+ghost use Rattle.pli_parse_statement.specs.answers.StatementAnswers.{misplacement_view, next_view, AfterNext};
 ghost use Rattle.pli_parse_statement.specs.answers.StatementAnswers.{IsBeginning};
 ghost use Rattle.pli_base.specs.answers.ReadingAnswers.{Continues, front_view};
 
-use crate::cursor::{behind_word, is_name};
+use crate::cursor::{after_word, is_name};
 use crate::keyword::{Keyword, StatementStanding, statement_keyword};
 use pli_base::syntax::Identifier;
 use pli_base::{Code, Front, Name, Sign, TokenText};
@@ -23,10 +23,10 @@ use std::alloc::{AllocError, Global};
 #[derive(Clone, Copy)]
 pub struct Context {
     pub standing: StatementStanding,
-    pub in_unit: bool,
+    pub in_on_unit: bool,
 }
 
-/// What a statement is, by its tokens behind the label. Keyed and Empty have the tokens behind the keyword and the `;`.
+/// What a statement is, by its tokens after the label. Keyed and Empty have the tokens after the keyword and the `;`.
 #[derive(Clone, Copy)]
 pub enum StatementKind<'a> {
     Assigns,
@@ -47,11 +47,11 @@ pub enum Misplacement {
 pub struct Beginning<'a> {
     /// Whether a `;` is ahead.
     pub has_semicolon: bool,
-    /// What the statement is, by its tokens behind the label.
+    /// What the statement is, by its tokens after the label.
     pub kind: StatementKind<'a>,
 }
 
-/// What comes next in a list of statements: its END, with the tokens behind it, or another statement.
+/// What comes next in a list of statements: its END, with the tokens after it, or another statement.
 #[derive(Clone, Copy)]
 pub enum NextStatement<'a> {
     EndsHere(&'a [TokenText]),
@@ -104,14 +104,14 @@ fn begins_assignment(alloc: Global, texts: &[TokenText]) -> Result<bool, AllocEr
 #[tactic(auto)]
 fn word_kind<'a>(name: &Name, rest: &'a [TokenText]) -> StatementKind<'a>
     ensures value { kind_view result ≡ word_kind (keyword_of name.now) name.now rest.now }
-    ensures place { BehindKind (length rest.now + 1) result }
+    ensures place { AfterKind (length rest.now + 1) result }
 {
     match statement_keyword(name) {
         Some(keyword) => StatementKind::Keyed(keyword, rest),
         None => {
             if is_name(name, b"GO") {
-                match behind_word(b"TO", rest) {
-                    Some(behind) => StatementKind::Keyed(Keyword::GoTo, behind),
+                match after_word(b"TO", rest) {
+                    Some(after) => StatementKind::Keyed(Keyword::GoTo, after),
                     None => StatementKind::Unknown,
                 }
             } else {
@@ -125,7 +125,7 @@ fn word_kind<'a>(name: &Name, rest: &'a [TokenText]) -> StatementKind<'a>
 #[tactic(auto, unfolding(crate::specs::StatementWords::first_kind))]
 fn first_kind(texts: &[TokenText]) -> StatementKind<'_>
     ensures value { kind_view result ≡ first_kind texts.now }
-    ensures place { BehindKind (length texts.now) result }
+    ensures place { AfterKind (length texts.now) result }
 {
     match texts {
         [TokenText::Sign(Sign::Semicolon), rest @ ..] => StatementKind::Empty(rest),
@@ -143,7 +143,7 @@ fn kind_of<'a>(
 ) -> Result<StatementKind<'a>, AllocError>
     requires { up_to_semicolon texts.now ≡ option_copied text }
     ensures value { IfOk result (λ kind. kind_view kind ≡ kind_of texts.now) }
-    ensures place { IfOk result (BehindKind (length texts.now)) }
+    ensures place { IfOk result (AfterKind (length texts.now)) }
 {
     if let Some(text) = text {
         if is_assignment(alloc, text)? {
@@ -159,9 +159,9 @@ pub fn beginning_of(alloc: Global, texts: &[TokenText]) -> Result<Beginning<'_>,
     requires { length texts.now ≤ 200000 }
     ensures { IfOk result (IsBeginning texts.now) }
 {
-    let behind = label_at(0, texts).rest;
-    let text = text_of(behind);
-    let kind = kind_of(alloc, text, behind)?;
+    let after = label_at(0, texts).rest;
+    let text = text_of(after);
+    let kind = kind_of(alloc, text, after)?;
     Ok(Beginning {
         has_semicolon: text.is_some(),
         kind,
@@ -185,7 +185,7 @@ pub fn label_at(at: u32, texts: &[TokenText]) -> Front<'_, Option<Identifier>>
     }
 }
 
-/// The place of a label that may not stand: behind THEN, ELSE and ON the first, elsewhere a second.
+/// The place of a label that may not stand: after THEN, ELSE and ON the first, elsewhere a second.
 #[tactic(auto)]
 pub fn bad_label(standing: StatementStanding, at: u32, texts: &[TokenText]) -> Option<u32>
     requires { at + length texts.now ≤ 200000 }
@@ -194,7 +194,7 @@ pub fn bad_label(standing: StatementStanding, at: u32, texts: &[TokenText]) -> O
     let first = label_at(at, texts);
     match (first.value, standing) {
         (None, _) => None,
-        (Some(label), StatementStanding::AsClause | StatementStanding::AsUnit) => Some(label.at),
+        (Some(label), StatementStanding::AsClause | StatementStanding::AsOnUnit) => Some(label.at),
         (Some(_), StatementStanding::InBlock | StatementStanding::InGroup) => {
             match label_at(first.next, first.rest).value {
                 Some(_) => Some(first.next),
@@ -206,8 +206,8 @@ pub fn bad_label(standing: StatementStanding, at: u32, texts: &[TokenText]) -> O
 
 /// Why a statement of this keyword is no ON-unit.
 #[tactic(auto)]
-fn unit_misplaced(keyword: Keyword) -> Option<Misplacement>
-    ensures { option_map misplacement_view result ≡ unit_misplaced keyword }
+fn on_unit_misplaced(keyword: Keyword) -> Option<Misplacement>
+    ensures { option_map misplacement_view result ≡ on_unit_misplaced keyword }
 {
     match keyword {
         Keyword::Allocate
@@ -234,7 +234,7 @@ fn standing_misplaced(
     ensures { option_map misplacement_view result ≡ standing_misplaced standing keyword labelled }
 {
     match (standing, keyword, labelled) {
-        (StatementStanding::AsUnit, _, _) => unit_misplaced(keyword),
+        (StatementStanding::AsOnUnit, _, _) => on_unit_misplaced(keyword),
         (StatementStanding::AsClause, Keyword::Procedure | Keyword::Declare | Keyword::End, _) => {
             Some(Misplacement::AtStatement(Code::MisplacedStatement))
         }
@@ -256,22 +256,22 @@ fn standing_misplaced(
 #[tactic(auto)]
 pub fn why_misplaced(context: Context, keyword: Keyword, labelled: bool) -> Option<Misplacement>
     ensures { option_map misplacement_view result ≡ misplacement
-        (context_view context) keyword labelled context.in_unit }
+        (context_view context) keyword labelled context.in_on_unit }
 {
-    match (keyword, context.in_unit) {
+    match (keyword, context.in_on_unit) {
         (Keyword::Return, true) => Some(Misplacement::AtStatement(Code::MisplacedStatement)),
         _ => standing_misplaced(context.standing, keyword, labelled),
     }
 }
 
-/// The tokens behind ELSE, where it begins neither a label nor an assignment.
+/// The tokens after ELSE, where it begins neither a label nor an assignment.
 #[tactic(auto, unfolding(crate::specs::StatementReading::else_first))]
 pub fn else_first(alloc: Global, texts: &[TokenText]) -> Result<Option<&[TokenText]>, AllocError>
     requires { length texts.now ≤ 200000 }
     ensures value { IfOk result (λ rest. else_first texts.now ≡ option_copied rest) }
     ensures place { IfOk result (λ found. IfSome found (λ rest. length rest.now + 1 ≡ length texts.now)) }
 {
-    let Some(behind) = behind_word(b"ELSE", texts) else {
+    let Some(after) = after_word(b"ELSE", texts) else {
         return Ok(None);
     };
     if label_at(0, texts).value.is_some() {
@@ -280,28 +280,28 @@ pub fn else_first(alloc: Global, texts: &[TokenText]) -> Result<Option<&[TokenTe
     if begins_assignment(alloc, texts)? {
         return Ok(None);
     }
-    Ok(Some(behind))
+    Ok(Some(after))
 }
 
 /// What comes next in a list of statements, by what the statement is that has no label.
 #[tactic(auto)]
 fn next_by(kind: StatementKind<'_>) -> NextStatement<'_>
     ensures value { next_view result ≡ next_by true None (kind_view kind.entry) }
-    ensures place { (n : ℕ) → BehindKind n kind.entry → BehindNext n result }
+    ensures place { (n : ℕ) → AfterKind n kind.entry → AfterNext n result }
 {
     match kind {
-        StatementKind::Keyed(Keyword::End, behind) => NextStatement::EndsHere(behind),
+        StatementKind::Keyed(Keyword::End, after) => NextStatement::EndsHere(after),
         _ => NextStatement::Another,
     }
 }
 
 /// What comes next in a list of statements, which begins with this.
-#[tactic(auto, using(crate::proofs::StatementTexts::next_unlabelled, crate::proofs::StatementTexts::next_labelled, crate::proofs::StatementTexts::next_endless, crate::proofs::StatementTexts::behind_unlabelled))]
+#[tactic(auto, using(crate::proofs::StatementTexts::next_unlabelled, crate::proofs::StatementTexts::next_labelled, crate::proofs::StatementTexts::next_endless, crate::proofs::StatementTexts::after_unlabelled))]
 pub fn next_of<'a>(beginning: &Beginning<'a>, texts: &[TokenText]) -> NextStatement<'a>
     requires place { length texts.now ≤ 200000 }
     requires begins { IsBeginning texts.now beginning.now }
     ensures value { next_view result ≡ next_of texts.now }
-    ensures place { BehindNext (length texts.now) result }
+    ensures place { AfterNext (length texts.now) result }
 {
     if !beginning.has_semicolon {
         return NextStatement::Another;

@@ -1,6 +1,6 @@
 //! The heading of a procedure.
 ghost use Rattle.std.specs.Prelude.{◌≡◌, ℕ, ◌≤◌, ◌<◌, ◌+◌, length, map, IfOk};
-ghost use Rattle.pli_base.specs.Words.{is_word, is_open, behind};
+ghost use Rattle.pli_base.specs.Words.{is_word, is_open, rest_after};
 ghost use Rattle.pli_base.specs.declared.syntax.Identifier as identifier;
 ghost use Rattle.pli_parse_declaration.specs.DeclarationReading.{list_at, identifier_at};
 ghost use Rattle.pli_base.specs.views.StatementView as views;
@@ -16,13 +16,13 @@ use crate::word::{OptionWord, option_first};
 use pli_base::statement::ProcedureOption;
 use pli_base::syntax::Identifier;
 use pli_base::{
-    Code, Front, ParseError, TokenText, behind_open, close_taken, misfit, open_taken,
+    Code, Front, ParseError, TokenText, after_open, close_taken, misfit, open_taken,
     semicolon_taken,
 };
 use pli_parse_declaration::{identifiers_at, returned_at};
 use std::alloc::Global;
 
-/// What a heading has behind its PROCEDURE.
+/// What a heading has after its PROCEDURE.
 #[derive(Drop)]
 pub struct Heading {
     pub parameters: Vec<Identifier>,
@@ -39,8 +39,8 @@ fn is_word(text: &TokenText, word: &[u8]) -> bool
     }
 }
 
-/// The tokens behind the word, which must stand.
-#[tactic(auto, unfolding(pli_base::specs::Reading::taken, pli_base::specs::Words::behind))]
+/// The tokens after the word, which must stand.
+#[tactic(auto, unfolding(pli_base::specs::Reading::taken, pli_base::specs::Words::rest_after))]
 pub fn word_taken<'a>(
     word: &[u8],
     code: Code,
@@ -56,7 +56,7 @@ pub fn word_taken<'a>(
     }
 }
 
-/// What stands behind OPTIONS.
+/// What stands after OPTIONS.
 #[tactic(auto, unfolding(crate::specs::StatementReading::main_at, crate::specs::StatementReading::parenthesized))]
 fn main_at(at: u32, texts: &[TokenText]) -> Result<Front<'_, ProcedureOption>, ParseError>
     requires { at + length texts.now ≤ 200000 }
@@ -64,12 +64,12 @@ fn main_at(at: u32, texts: &[TokenText]) -> Result<Front<'_, ProcedureOption>, P
     ensures place { IfOk result (Advances at texts.now) }
 {
     let inside = open_taken(at, texts)?;
-    let behind = word_taken(b"MAIN", Code::BadOption, at + 1, inside)?;
-    let rest = close_taken(at + 2, behind)?;
+    let after = word_taken(b"MAIN", Code::BadOption, at + 1, inside)?;
+    let rest = close_taken(at + 2, after)?;
     Ok(Front::new(ProcedureOption::Main, at + 3, rest))
 }
 
-/// An option behind its word.
+/// An option after its word.
 #[tactic(auto)]
 fn option_at<'a>(
     alloc: Global,
@@ -105,8 +105,8 @@ fn options_from<'a>(
     let mut options = Vec::new(alloc);
     let mut next = at;
     let mut rest = texts;
-    while let Some((word, behind)) = option_first(rest) {
-        let read = option_at(alloc, word, next + 1, behind)?;
+    while let Some((word, after)) = option_first(rest) {
+        let read = option_at(alloc, word, next + 1, after)?;
         options.push(read.value)?;
         next = read.next;
         rest = read.rest;
@@ -123,10 +123,10 @@ fn parameters_at<'a>(
 ) -> Result<Front<'a, Vec<Identifier>>, ParseError>
     requires { at + length texts.now ≤ 200000 }
     ensures value { Gives (front_view (λ v. v.items)) result
-        (mapped or_none (if_open (list_at Commas identifier_at) at texts.now (behind is_open texts.now))) }
+        (mapped or_none (if_open (list_at Commas identifier_at) at texts.now (rest_after is_open texts.now))) }
     ensures place { IfOk result (Continues at texts.now) }
 {
-    match behind_open(texts) {
+    match after_open(texts) {
         Some(inside) => {
             let names = identifiers_at(alloc, at + 1, inside)?;
             let rest = close_taken(names.next, names.rest)?;
@@ -136,7 +136,7 @@ fn parameters_at<'a>(
     }
 }
 
-/// What stands behind PROCEDURE, up to its `;`.
+/// What stands after PROCEDURE, up to its `;`.
 #[tactic(auto, unfolding(crate::specs::StatementReading::heading_at, crate::specs::StatementReading::stopped))]
 pub fn heading_at<'a>(
     alloc: Global,

@@ -25,7 +25,7 @@ pub enum Keyword {
     Free,
     Call,
     Goto,
-    /// GO with TO behind it.
+    /// GO with TO after it.
     GoTo,
     Return,
     Put,
@@ -38,10 +38,10 @@ pub enum StatementStanding {
     InBlock,
     /// Directly in the list of a DO group.
     InGroup,
-    /// Behind THEN or ELSE.
+    /// After THEN or ELSE.
     AsClause,
-    /// Behind ON.
-    AsUnit,
+    /// After ON.
+    AsOnUnit,
 }
 
 /// Whether the name is this word or its abbreviation.
@@ -51,7 +51,7 @@ fn is_either(name: &Name, long: &[u8], short: &[u8]) -> bool
     name.is(long) || name.is(short)
 }
 
-/// The keyword of one word that a name is where a statement begins (X3.74). GO is none without TO behind it.
+/// The keyword of one word that a name is where a statement begins (X3.74). GO is none without TO after it.
 #[tactic(auto, unfolding(crate::specs::StatementWords::keyword_of))]
 pub fn statement_keyword(name: &Name) -> Option<Keyword>
     ensures value { result ≡ keyword_of name.now }
@@ -106,7 +106,7 @@ fn simple_keyword(name: &Name) -> Option<Keyword>
     }
 }
 
-/// The condition that a name is behind ON, REVERT and SIGNAL (X3.53).
+/// The condition that a name is after ON, REVERT and SIGNAL (X3.53).
 #[tactic(auto, unfolding(crate::specs::StatementWords::condition_of))]
 pub fn named_condition(name: &Name) -> Option<Condition>
     ensures { result ≡ condition_of name.now }

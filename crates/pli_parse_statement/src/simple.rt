@@ -1,13 +1,13 @@
 //! Statements with no statement inside.
 ghost use Rattle.std.specs.Prelude.{◌≡◌, ◌≤◌, ◌+◌, ◌<◌, length, map, option_map, IfOk, None};
 ghost use Rattle.pli_parse_declaration.specs.DeclarationReading.{list_at, declaration_at, identifier_at};
-ghost use Rattle.pli_base.specs.Words.{is_open, behind};
+ghost use Rattle.pli_base.specs.Words.{is_open, rest_after};
 ghost use Rattle.pli_base.specs.views.SyntaxView.{expression_view, reference_view};
 ghost use Rattle.pli_base.specs.Statements as tree;
 ghost use Rattle.pli_base.specs.Statements.{body_count};
 ghost use Rattle.pli_base.specs.views.StatementView.{allocation_view, body_view};
 ghost use Rattle.pli_parse_statement.specs.answers.StatementAnswers.{words, place_view};
-ghost use Rattle.pli_parse_statement.specs.StatementWords.{the_unit};
+ghost use Rattle.pli_parse_statement.specs.StatementWords.{the_on_unit};
 ghost use Rattle.pli_parse_statement.specs.StatementReading.{stopped, closing, condition_at, assignment_at, has_place};
 ghost use Rattle.pli_parse_statement.specs.StatementReading.{with_place, places_from, allocation_at, put_from, put_at};
 ghost use Rattle.pli_parse_statement.specs.StatementReading.{call_at, keyed_at, expression_in, reference_in};
@@ -26,12 +26,12 @@ use crate::word::{PlaceWord, PutWord, place_first, put_first};
 use pli_base::statement::{Allocation, Body, Condition};
 use pli_base::syntax::{Expression, Identifier, Reference};
 use pli_base::{
-    Code, Front, ParseError, TokenText, behind_open, close_taken, fault, misfit, semicolon_taken,
+    Code, Front, ParseError, TokenText, after_open, close_taken, fault, misfit, semicolon_taken,
 };
 use pli_parse_declaration::{ListReader, Separator, declaration_at, list_at};
 use std::alloc::Global;
 
-/// The statement's `;`, behind all else.
+/// The statement's `;`, after all else.
 #[tactic(auto, unfolding(crate::specs::StatementReading::stopped))]
 pub fn stopped(body: Body, at: u32, texts: &[TokenText]) -> Result<Front<'_, Body>, ParseError>
     requires { at + length texts.now ≤ 200000 }
@@ -62,14 +62,14 @@ pub fn assignment_at<'a>(
     ensures place { IfOk result (Advances at texts.now) }
 {
     let target = reference_in(alloc, levels, at, texts)?;
-    let behind = match equals_taken(Code::NotAStatement, target.next, target.rest) {
-        Ok(behind) => behind,
+    let after = match equals_taken(Code::NotAStatement, target.next, target.rest) {
+        Ok(after) => after,
         Err(error) => {
             drop(target);
             return Err(error);
         }
     };
-    match expression_in(alloc, levels, target.next + 1, behind) {
+    match expression_in(alloc, levels, target.next + 1, after) {
         Ok(value) => {
             let body = Body::Assign {
                 target: target.value,
@@ -258,7 +258,7 @@ fn put_from<'a>(
     }
 }
 
-/// What stands behind PUT: SKIP, LIST or both.
+/// What stands after PUT: SKIP, LIST or both.
 #[tactic(auto, unfolding(crate::specs::StatementReading::put_at))]
 fn put_at<'a>(
     alloc: Global,
@@ -280,7 +280,7 @@ fn put_at<'a>(
     }
 }
 
-/// What stands behind CALL.
+/// What stands after CALL.
 #[tactic(auto, unfolding(crate::specs::StatementReading::call_at, pli_parse_declaration::specs::DeclarationReading::identifier_at, pli_parse_declaration::specs::DeclarationReading::name_at, pli_base::specs::Words::name_first))]
 fn call_at<'a>(
     alloc: Global,
@@ -304,7 +304,7 @@ fn call_at<'a>(
     stopped(body, arguments.next, arguments.rest)
 }
 
-/// What stands behind GOTO or GO TO.
+/// What stands after GOTO or GO TO.
 #[tactic(auto, unfolding(pli_parse_declaration::specs::DeclarationReading::identifier_at, pli_parse_declaration::specs::DeclarationReading::name_at, pli_base::specs::Words::name_first))]
 fn goto_at(at: u32, texts: &[TokenText]) -> Result<Front<'_, Body>, ParseError>
     requires { at + length texts.now ≤ 200000 }
@@ -318,7 +318,7 @@ fn goto_at(at: u32, texts: &[TokenText]) -> Result<Front<'_, Body>, ParseError>
     stopped(Body::Goto(Identifier { name: *name, at }), at + 1, rest)
 }
 
-/// What stands behind RETURN.
+/// What stands after RETURN.
 #[tactic(auto)]
 fn return_at<'a>(
     alloc: Global,
@@ -328,11 +328,11 @@ fn return_at<'a>(
 ) -> Result<Front<'a, Body>, ParseError>
     requires { at + length texts.now ≤ 200000 }
     ensures value { Gives (front_view body_view) result (closing tree.Return
-        (if_open (expression_in levels) at texts.now (behind is_open texts.now))) }
+        (if_open (expression_in levels) at texts.now (rest_after is_open texts.now))) }
     ensures alone { IfOk result (λ x. body_count (body_view x.value) ≡ 0) }
     ensures place { IfOk result (Advances at texts.now) }
 {
-    match behind_open(texts) {
+    match after_open(texts) {
         Some(inside) => {
             let value = expression_in(alloc, levels, at + 1, inside)?;
             match close_taken(value.next, value.rest) {
@@ -347,7 +347,7 @@ fn return_at<'a>(
     }
 }
 
-/// What stands behind DECLARE.
+/// What stands after DECLARE.
 #[tactic(auto)]
 fn declare_at(alloc: Global, at: u32, texts: &[TokenText]) -> Result<Front<'_, Body>, ParseError>
     requires { at + length texts.now ≤ 200000 }
@@ -359,7 +359,7 @@ fn declare_at(alloc: Global, at: u32, texts: &[TokenText]) -> Result<Front<'_, B
     Ok(Front::new(Body::Declare(items.value), items.next, items.rest))
 }
 
-/// What stands behind REVERT.
+/// What stands after REVERT.
 #[tactic(auto)]
 fn revert_at(at: u32, texts: &[TokenText]) -> Result<Front<'_, Body>, ParseError>
     requires { at + length texts.now ≤ 200000 }
@@ -371,7 +371,7 @@ fn revert_at(at: u32, texts: &[TokenText]) -> Result<Front<'_, Body>, ParseError
     stopped(Body::Revert(read.value), read.next, read.rest)
 }
 
-/// What stands behind SIGNAL.
+/// What stands after SIGNAL.
 #[tactic(auto)]
 fn signal_at(at: u32, texts: &[TokenText]) -> Result<Front<'_, Body>, ParseError>
     requires { at + length texts.now ≤ 200000 }
@@ -383,7 +383,7 @@ fn signal_at(at: u32, texts: &[TokenText]) -> Result<Front<'_, Body>, ParseError
     stopped(Body::Signal(read.value), read.next, read.rest)
 }
 
-/// What stands behind ALLOCATE.
+/// What stands after ALLOCATE.
 #[tactic(auto)]
 fn allocate_at<'a>(
     alloc: Global,
@@ -402,7 +402,7 @@ fn allocate_at<'a>(
     stopped(Body::Allocate(read.value), read.next, read.rest)
 }
 
-/// What stands behind FREE.
+/// What stands after FREE.
 #[tactic(auto)]
 fn free_at<'a>(
     alloc: Global,
@@ -421,7 +421,7 @@ fn free_at<'a>(
     stopped(Body::Free(read.value), read.next, read.rest)
 }
 
-/// A statement behind its keyword at `at`, where no level may be opened.
+/// A statement after its keyword at `at`, where no level may be opened.
 #[tactic(auto)]
 pub fn simple_at<'a>(
     alloc: Global,
@@ -431,7 +431,7 @@ pub fn simple_at<'a>(
     rest: &'a [TokenText],
 ) -> Result<Front<'a, Body>, ParseError>
     requires { at + words keyword + length rest.now ≤ 200000 }
-    ensures value { Gives (front_view body_view) result (keyed_at levels None the_unit None at 0 rest.now keyword) }
+    ensures value { Gives (front_view body_view) result (keyed_at levels None the_on_unit None at 0 rest.now keyword) }
     ensures alone { IfOk result (λ x. body_count (body_view x.value) ≡ 0) }
     ensures place { IfOk result (λ x. (at < x.next) × (x.next + length x.rest.now
         ≡ at + words keyword + length rest.now)) }

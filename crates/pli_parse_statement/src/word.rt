@@ -6,21 +6,21 @@ ghost use Rattle.pli_parse_statement.specs.answers.StatementAnswers.{place_view,
 use crate::cursor::is_name;
 use pli_base::TokenText;
 
-/// A word behind a variable of ALLOCATE.
+/// A word after a variable of ALLOCATE.
 #[derive(Clone, Copy)]
 pub enum PlaceWord {
     In,
     Set,
 }
 
-/// A word behind PUT.
+/// A word after PUT.
 #[derive(Clone, Copy)]
 pub enum PutWord {
     Skip,
     List,
 }
 
-/// A word behind the first value of an iteration.
+/// A word after the first value of an iteration.
 #[derive(Clone, Copy)]
 pub enum RangeWord {
     To,
@@ -28,7 +28,7 @@ pub enum RangeWord {
     Repeat,
 }
 
-/// A word behind PROCEDURE and its parameters.
+/// A word after PROCEDURE and its parameters.
 #[derive(Clone, Copy)]
 pub enum OptionWord {
     Options,
@@ -36,7 +36,7 @@ pub enum OptionWord {
     Recursive,
 }
 
-/// IN or SET, if it stands first, and the tokens behind it.
+/// IN or SET, if it stands first, and the tokens after it.
 #[tactic(auto, unfolding(crate::specs::StatementReading::place_first, crate::specs::StatementReading::place_word))]
 pub fn place_first(texts: &[TokenText]) -> Option<(PlaceWord, &[TokenText])>
     ensures value { place_first texts.now ≡ option_map (λ x. (place_view x.0, x.1.now)) result }
@@ -54,7 +54,7 @@ pub fn place_first(texts: &[TokenText]) -> Option<(PlaceWord, &[TokenText])>
     }
 }
 
-/// SKIP or LIST, if it stands first, and the tokens behind it.
+/// SKIP or LIST, if it stands first, and the tokens after it.
 #[tactic(auto, unfolding(crate::specs::StatementReading::put_first, crate::specs::StatementReading::put_word))]
 pub fn put_first(texts: &[TokenText]) -> Option<(PutWord, &[TokenText])>
     ensures value { put_first texts.now ≡ option_map (λ x. (put_view x.0, x.1.now)) result }
@@ -72,7 +72,7 @@ pub fn put_first(texts: &[TokenText]) -> Option<(PutWord, &[TokenText])>
     }
 }
 
-/// TO, BY or REPEAT, if it stands first, and the tokens behind it.
+/// TO, BY or REPEAT, if it stands first, and the tokens after it.
 #[tactic(auto, unfolding(crate::specs::StatementReading::range_first, crate::specs::StatementReading::range_word))]
 pub fn range_first(texts: &[TokenText]) -> Option<(RangeWord, &[TokenText])>
     ensures value { range_first texts.now ≡ option_map (λ x. (range_view x.0, x.1.now)) result }
@@ -92,7 +92,7 @@ pub fn range_first(texts: &[TokenText]) -> Option<(RangeWord, &[TokenText])>
     }
 }
 
-/// OPTIONS, RETURNS or RECURSIVE, if it stands first, and the tokens behind it.
+/// OPTIONS, RETURNS or RECURSIVE, if it stands first, and the tokens after it.
 #[tactic(auto, unfolding(crate::specs::StatementReading::option_first, crate::specs::StatementReading::option_word))]
 pub fn option_first(texts: &[TokenText]) -> Option<(OptionWord, &[TokenText])>
     ensures value { option_first texts.now ≡ option_map (λ x. (option_view x.0, x.1.now)) result }

@@ -66,7 +66,7 @@ fn put_lead(output: &mut Vec<u8>, column: u32, size: usize) -> Result<u32, Alloc
     }
 }
 
-/// Puts what stands behind an item that ends before a column.
+/// Puts what stands after an item that ends before a column.
 fn put_end(output: &mut Vec<u8>, column: u32) -> Result<u32, AllocError>
     requires { column ≤ 121 }
     ensures printed { IfOk result (λ after. Prints output.old.items output.new.items after
@@ -82,7 +82,7 @@ fn put_end(output: &mut Vec<u8>, column: u32) -> Result<u32, AllocError>
     }
 }
 
-/// Puts the characters of an item from a column on, with what stands behind them, and answers the next column.
+/// Puts the characters of an item from a column on, with what stands after them, and answers the next column.
 fn put_characters(output: &mut Vec<u8>, column: u32, text: &[u8]) -> Result<u32, AllocError>
     requires { column ≤ 121 }
     ensures printed { IfOk result (λ after. Prints output.old.items output.new.items after
@@ -112,7 +112,7 @@ pub fn put_item(output: &mut Vec<u8>, column: u32, text: &[u8]) -> Result<u32, A
     put_characters(output, begin, text)
 }
 
-/// Puts digits at the right of so many columns of one line, with what stands behind them, and answers the next column.
+/// Puts digits at the right of so many columns of one line, with what stands after them, and answers the next column.
 fn put_digits(
     output: &mut Vec<u8>,
     column: u32,

@@ -3,7 +3,7 @@
 /// How generations come of a variable that is there for the whole program (X3.74).
 #[derive(Clone, Copy, Debug, PartialEq, Eq)]
 pub enum VariableKind {
-    /// One is made before the program begins.
+    /// It is static.
     Static,
     /// ALLOCATE stacks them, and FREE removes the newest.
     Controlled,

@@ -38,7 +38,7 @@ abbrev pub memory_val : Ptr → Val
 memory_val p = vstruct (vcons (ptr_val p) vnil)
 
 module _ {M : Type 1} {𝓤 : Ura M} {𝓛 : Logic 𝓤} {K : Type 0} {Γ : List (Item 𝓤)} {G : Goal 𝓤 𝓛.H} where
-  -- [the bytes; the room behind them]
+  -- [the bytes; the room after them]
   pub memory_had : K → (m : Memory) (vs : List Val)
       → ((b o : ℕ) → m.ptr ≡ block_ptr b o → vs ≡ memory_val (block_ptr b o) ∷ [] → length m.items + m.room < 2 ^ 63
       → Seq K 𝓛 (‵ (bytes full_share m.items b o) ∷ ‵ (froom (block_of m.room) b (o + length m.items)) ∷ Γ) G)
@@ -58,7 +58,7 @@ module _ {M : Type 1} {𝓤 : Ura M} {𝓛 : Logic 𝓤} {K : Type 0} {Γ : List
       rewrite t 0 (λ (p : Ptr). ‵ (fsep (Word.own_val (p, tt) (memory_val (block_ptr b o) ∷ [])) (owned p m.items m.room))) (sym at) refl $ s)
 
 module _ {M : Type 1} {𝓤 : Ura M} {𝓛 : Logic 𝓤} {K : Type 0} {Γ : List (Item 𝓤)} {G : Goal 𝓤 𝓛.H} where
-  -- [the bytes; the room behind them; the pointer's cell; the open borrow; obs; auth]
+  -- [the bytes; the room after them; the pointer's cell; the open borrow; obs; auth]
   pub memory_opens : K → Soaks G → {κ : Lft} {q : Share} {γ : GName} (m : Memory) (rb ro : ℕ)
       → ((b o : ℕ) → m.ptr ≡ block_ptr b o → length m.items + m.room < 2 ^ 63
       → Seq K 𝓛 (‵ (bytes full_share m.items b o) ∷ ‵ (froom (block_of m.room) b (o + length m.items)) ∷ ‵ (cell_at full_share R.mir (memory_val (block_ptr b o) ∷ []) rb ro) ∷ ‵ (fobor κ q (Body (mem R) rb ro γ)) ∷ ‵ (fobs γ (R.coded.code m)) ∷ ‵ (fauth γ (R.coded.code m)) ∷ Γ) G)

@@ -34,7 +34,7 @@ module _ {M : Type 1} {𝓤 : Ura M} (𝓛 : Logic 𝓤) (l : Lft) where
 
   pub Lends-memory : (p : Ptr) (xs : List ℕ) (room : ℕ) → Lends 𝓛 (owned p xs room) (lent p xs room) l
   Lends-memory (block_ptr b o) xs room =
-      let few = flt (length xs + room) (2 ^ 63) in let behind = froom (block_of room) b (o + length xs) in
-      Lends-both 𝓛 few (fsep (bytes full_share xs b o) behind) (said few) (elements_shared u8 xs b o) l
-      (Lends-said 𝓛 few tt l) (Lends-first 𝓛 (bytes full_share xs b o) behind (elements_shared u8 xs b o) l (Lends-bytes xs b o))
+      let few = flt (length xs + room) (2 ^ 63) in let after = froom (block_of room) b (o + length xs) in
+      Lends-both 𝓛 few (fsep (bytes full_share xs b o) after) (said few) (elements_shared u8 xs b o) l
+      (Lends-said 𝓛 few tt l) (Lends-first 𝓛 (bytes full_share xs b o) after (elements_shared u8 xs b o) l (Lends-bytes xs b o))
   Lends-memory null_ptr xs room = Lends-false 𝓛 (said ffalse) l

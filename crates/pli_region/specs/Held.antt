@@ -3,7 +3,7 @@ use Rattle.std.specs.Prelude.{◌≡◌, ◌^◌, ◌<◌, ℕ, length}
 use Rattle.pli_region.specs.declared.memory.Lease.{Lease}
 use Rattle.pli_region.specs.declared.memory.Memory.{Memory}
 
--- the memory has as many bytes as the length says, no room behind them, and goes back whole to its allocator
+-- the memory has as many bytes as the length says, no room after them, and goes back whole to its allocator
 pub record IsHeld {A : Type 0} (memory : Memory) (len : ℕ) (lease : Lease A) (alloc : A) : Type 0 where
   pub count : length memory.items ≡ len
   pub small : len < 2 ^ 32

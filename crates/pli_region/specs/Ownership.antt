@@ -18,7 +18,7 @@ abbrev pub bytes_at : Share → Ptr → List ℕ → Fml
 bytes_at q (block_ptr b o) xs = bytes q xs b o
 bytes_at q null_ptr xs = ffalse
 
--- from a pointer on these bytes, and behind them room for so many more, fewer than 2^63 in all
+-- from a pointer on these bytes, and after them room for so many more, fewer than 2^63 in all
 abbrev pub owned : Ptr → List ℕ → (room : ℕ) → Fml
 owned (block_ptr b o) xs room =
     fsep (flt (length xs + room) (2 ^ 63))

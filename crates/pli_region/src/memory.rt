@@ -1,4 +1,4 @@
-//! Bytes of memory behind a pointer.
+//! Bytes of memory at a pointer.
 ghost use Rattle.std.specs.Prelude.{◌≡◌, ◌+◌, ◌^◌, ◌<◌, ◌≤◌, ℕ, List, [], ◌∷◌, ◌++◌, length, take, drop, IfSome};
 ghost use Rattle.std.specs.Borrow.{sem};
 ghost use Rattle.pli_region.specs.Ownership.{block_of, bytes_at, owned, lent};
@@ -11,7 +11,7 @@ use std::alloc::Allocator;
 use std::marker::{Model, PhantomData};
 use std::slice;
 
-/// Bytes of memory that were written, and room for more behind them.
+/// Bytes of memory that were written, and room for more after them.
 pub struct Memory {
     ptr: *mut u8,
     ghost items: { List ℕ },
@@ -54,7 +54,7 @@ impl Memory {
         }
     }
 
-    /// Writes one byte more, into the room at the place behind all others.
+    /// Writes one byte more, into the room at the place after all others.
     pub(crate) fn push(&mut self, at: usize, byte: u8)
         requires { (at ≡ length self.old.items) × (0 < self.old.room) }
         ensures items { self.new.items ≡ self.old.items ++ byte ∷ [] }

@@ -15,7 +15,7 @@ use Rattle.pli_resolve.specs.BlockNumbers.{block_begun, block_kind, blocks_after
 use Rattle.pli_resolve.specs.StatementPlaces.{statement_starts, body_starts, statements_starts, alternative_starts, unit_starts}
 use Rattle.pli_resolve.specs.Symbols.{number_declared}
 use Rattle.pli_resolve.specs.ResolvedUnits.{block_of, block_regions_of, numbers_of, region_block, no_block}
-use Rattle.pli_resolve.specs.TreeBlocks.{TreeBlock, inner_block, blocks_in, blocks_of, blocks_among, blocks_behind, statement_blocks, body_blocks, statements_blocks, alternative_blocks}
+use Rattle.pli_resolve.specs.TreeBlocks.{TreeBlock, inner_block, blocks_in, blocks_of, blocks_among, blocks_in_else, statement_blocks, body_blocks, statements_blocks, alternative_blocks}
 use Rattle.pli_resolve.specs.laws.BlockLaws.{in_tree, BlocksAreOfTheTree}
 use Rattle.pli_resolve.specs.declared.block_numbers.BlockRegion.{BlockRegion}
 use Rattle.pli_resolve.specs.declared.block_numbers.ResolvedBlockKind.{ResolvedBlockKind}
@@ -52,7 +52,7 @@ mutual
         list_blocks_counted more outer (next + blocks_in first),
       )
 
-  pub else_blocks_counted : (a : Alternative) (outer next : ℕ) → length (alternative_blocks outer next a) ≡ blocks_behind a
+  pub else_blocks_counted : (a : Alternative) (outer next : ℕ) → length (alternative_blocks outer next a) ≡ blocks_in_else a
   else_blocks_counted NoElse outer next = refl
   else_blocks_counted (Else statement) outer next = blocks_counted statement outer next
 
@@ -84,10 +84,10 @@ abbrev pub among : (number : ℕ) → List Region → List BlockRegion
 among n [] = []
 among n (r ∷ rs) = block_begun n r (block_kind r.kind) ++ among (n + 1) rs
 
-pub behind_those : (bs : List BlockRegion) (n : ℕ) (rs : List Region) → blocks_after bs n rs ≡ bs ++ among n rs
-behind_those bs n [] = sym (append-nil bs)
-behind_those bs n (r ∷ rs) =
-    behind_those (bs ++ block_begun n r (block_kind r.kind)) (n + 1) rs ∙ append_assoc bs (block_begun n r (block_kind r.kind)) (among (n + 1) rs)
+pub after_those : (bs : List BlockRegion) (n : ℕ) (rs : List Region) → blocks_after bs n rs ≡ bs ++ among n rs
+after_those bs n [] = sym (append-nil bs)
+after_those bs n (r ∷ rs) =
+    after_those (bs ++ block_begun n r (block_kind r.kind)) (n + 1) rs ∙ append_assoc bs (block_begun n r (block_kind r.kind)) (among (n + 1) rs)
 
 -- how many parameters a heading has
 abbrev count_of : Option Heading → ℕ
@@ -259,7 +259,7 @@ first_region = record { region = 0; kind = kinds.Procedure; outer = None }
 
 regions_are : (u : ExternalProcedure) → block_regions_of u ≡ first_region ∷ among 1 (inner_regions u)
 unfolding resolved_of outline_of
-regions_are u = behind_those (first_region ∷ []) 1 (inner_regions u)
+regions_are u = after_those (first_region ∷ []) 1 (inner_regions u)
 
 abbrev number_of_region : ExternalProcedure → ℕ → ℕ
 number_of_region u n = get_or (numbers_of u) n 0

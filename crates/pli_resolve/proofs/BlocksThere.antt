@@ -57,9 +57,9 @@ module _ (first : Region) (more : List Region) (block : is_block first.kind ≡ 
   itself : (n : ℕ) → n < length all → is_block (kind_at all n) ≡ true → HasBlock n
   itself n lt t = (n, innermost_step all n lt ∙ ap (λ (b : Bool). if b then Some n else next all n (get_or all n outside).outer) t)
 
-  behind : (k : ℕ) → suc k < length all → ((o : ℕ) → o < suc k → HasBlock o) → (b : Bool) → is_block (kind_at all (suc k)) ≡ b → HasBlock (suc k)
-  behind k lt inner true t = itself (suc k) lt t
-  behind k lt inner false t =
+  after : (k : ℕ) → suc k < length all → ((o : ℕ) → o < suc k → HasBlock o) → (b : Bool) → is_block (kind_at all (suc k)) ≡ b → HasBlock (suc k)
+  after k lt inner true t = itself (suc k) lt t
+  after k lt inner false t =
       let o = outer_of 1 k (suc k) more h (omega (arith, lt)) (omega arith) in
       let found = inner o.0 o.2 in (
         found.0,
@@ -71,7 +71,7 @@ module _ (first : Region) (more : List Region) (block : is_block first.kind ≡ 
   has_below : (m n : ℕ) → n < m → n < length all → HasBlock n
   has_below zero n less lt = absurd (omega (arith, less))
   has_below (suc m) zero less lt = itself 0 lt block
-  has_below (suc m) (suc k) less lt = behind k lt (λ o low. has_below m o (omega (arith, less, low)) (omega (arith, low, lt))) (is_block (kind_at all (suc k))) refl
+  has_below (suc m) (suc k) less lt = after k lt (λ o low. has_below m o (omega (arith, less, low)) (omega (arith, low, lt))) (is_block (kind_at all (suc k))) refl
 
   has : (n : ℕ) → n < length all → HasBlock n
   has n lt = has_below (suc n) n (omega arith) lt

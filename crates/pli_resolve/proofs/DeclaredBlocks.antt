@@ -19,10 +19,10 @@ use Rattle.pli_resolve.specs.declared.block_numbers.BlockRegion.{BlockRegion}
 use Rattle.pli_resolve.specs.declared.block_numbers.ResolvedBlockKind.{ResolvedBlockKind}
 use Rattle.pli_resolve.specs.declared.block_numbers.ResolvedBlockKind.TheVariants as kinds
 use Rattle.pli_resolve.specs.declared.symbol.SymbolKey.{SymbolKey}
-use Rattle.pli_resolve.proofs.BlocksOfTrees.{among, behind_those}
+use Rattle.pli_resolve.proofs.BlocksOfTrees.{among, after_those}
 use Rattle.pli_resolve.proofs.SymbolsAt.{symbols_at, symbol_inside, symbol_outside}
 
--- lists with others behind
+-- lists with others after them
 front : {A : Type 0} (xs ys : List A) (i : ℕ) (x : A) → slice_get xs i ≡ Some x → slice_get (xs ++ ys) i ≡ Some x
 front [] ys i x h = cc
 front (z ∷ xs) ys zero x h = h
@@ -35,7 +35,7 @@ seam (x ∷ xs) y zero e = absurd (omega (arith, e))
 seam (x ∷ xs) y (suc i) e = seam xs y i (omega (arith, e))
 
 kept : (bs : List BlockRegion) (n : ℕ) (rs : List Region) (i : ℕ) (b : BlockRegion) → slice_get bs i ≡ Some b → slice_get (blocks_after bs n rs) i ≡ Some b
-kept bs n rs i b h = ap (λ cs. slice_get cs i) (behind_those bs n rs) ∙ front bs (among n rs) i b h
+kept bs n rs i b h = ap (λ cs. slice_get cs i) (after_those bs n rs) ∙ front bs (among n rs) i b h
 
 stays : (ns : List ℕ) (next : ℕ) (rs : List Region) (i : ℕ) → i < length ns → get_or (numbers_after ns next rs) i 0 ≡ get_or ns i 0
 stays ns next [] i lt = refl
@@ -72,7 +72,7 @@ kind_of_block : (k : RegionKind) → is_block k ≡ true → (kind : ResolvedBlo
 kind_of_block regions.Procedure h = (kinds.Procedure, refl)
 kind_of_block regions.Begin h = (kinds.Begin, refl)
 kind_of_block regions.Group h = cc
-kind_of_block regions.Unit h = cc
+kind_of_block regions.OnUnit h = cc
 
 -- the blocks round a place are regions that are blocks
 abbrev pub AreBlocks : List Region → List ℕ → Type 0

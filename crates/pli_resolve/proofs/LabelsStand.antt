@@ -11,7 +11,7 @@ use Rattle.pli_resolve.specs.Symbols.{found_after}
 use Rattle.pli_resolve.specs.ResolvedUnits.{label_statement}
 use Rattle.pli_resolve.specs.laws.UseLaws.{IsLabelledAt}
 use Rattle.pli_resolve.specs.declared.statement_places.StatementPlace.{StatementPlace}
-use Rattle.pli_resolve.proofs.LookUps.{found_behind}
+use Rattle.pli_resolve.proofs.LookUps.{found_then}
 use Rattle.pli_resolve.proofs.MarksStand.{IsLabelOf, marks_stand}
 use Rattle.pli_resolve.proofs.MeantNames.{entries_at}
 use Rattle.pli_resolve.proofs.NamesOfMarks.{mark_of, only_labelled}
@@ -40,7 +40,7 @@ one_more n at found q f same = by q.label refl
 stays : (n at : ℕ) (found : Option ℕ) (qs : List StatementPlace) → found ≡ Some n → AreAlike n at qs → found_after found (flat_map label_statement qs) at ≡ Some n
 stays n at found [] f same = f
 stays n at found (q ∷ qs) f same =
-    found_behind found (label_statement q) (flat_map label_statement qs) at
+    found_then found (label_statement q) (flat_map label_statement qs) at
     ∙ stays n at (found_after found (label_statement q) at) qs (one_more n at found q f (same 0 q (omega arith) refl))
     (λ k p lt is l. same (suc k) p (omega (arith, lt)) is l)
 
@@ -51,10 +51,10 @@ label_found found (q ∷ qs) zero p i lt is e same =
     let here : found_after found (label_statement q) i.at ≡ Some p.number =
     ap (λ (x : StatementPlace). found_after found (label_statement x) i.at) is ∙ labelled_so found i.at p (Some i) e
     ∙ ap (λ (b : Bool). if b then Some p.number else found) (eq-eqb i.at i.at refl) in
-    found_behind found (label_statement q) (flat_map label_statement qs) i.at
+    found_then found (label_statement q) (flat_map label_statement qs) i.at
     ∙ stays p.number i.at (found_after found (label_statement q) i.at) qs here (λ j r low f l. same (suc j) r (omega (arith, low)) f l)
 label_found found (q ∷ qs) (suc k) p i lt is e same =
-    found_behind found (label_statement q) (flat_map label_statement qs) i.at
+    found_then found (label_statement q) (flat_map label_statement qs) i.at
     ∙ label_found (found_after found (label_statement q) i.at) qs k p i (omega (arith, lt)) is e (λ j r low f l. same (suc j) r (omega (arith, low)) f l)
 
 -- the statement of a label

@@ -17,8 +17,8 @@ use Rattle.pli_declare_attributes.specs.declared.completed.ScopeAttribute.{Scope
 use Rattle.pli_declare_attributes.specs.Faults.{item_fault}
 use Rattle.pli_declare_outline.specs.Outlines.{Mark, Declared, Labelled, Entered, Used, Jumped, PlacedMark, outline_of}
 use Rattle.pli_declare_tables.specs.Tables.{Entity, Entry, no_entry, entries_in, heading_entries, unit_entries}
-use Rattle.pli_declare_tables.specs.answers.Answers.{AreBehindOwners}
-use Rattle.pli_declare_tables.proofs.MembersStandBehind.{owners_stand_before}
+use Rattle.pli_declare_tables.specs.answers.Answers.{AreAfterOwners}
+use Rattle.pli_declare_tables.proofs.MembersStandAfter.{owners_stand_before}
 use Rattle.pli_declare_variables.specs.Places.{members_of, owners_of, place_in, item_in, item_of, own_code, is_variable, is_unsubscripted}
 use Rattle.pli_declare_variables.specs.Descriptions.{is_of_shape, own_codes, description_of}
 use Rattle.pli_declare_variables.specs.Declarations.{Declaration, DeclaredKind, OfItem, OfLabel, OfProcedure, IsGood, AreGood, declaration_at, declared_in, kind_of, whole_description}
@@ -71,8 +71,8 @@ no_dimensions es n h = by (item_of es n).dimensions h
         let bad : false ≡ true = sym (ap not (lt-ltb 0 (length (b ∷ bs)) (omega arith))) ∙ f in
         cc
 
--- names that stand behind their owners, where owners are items, and none has a fault of its own
-module _ (es : List Entry) (ps : List Name) (owners : AreBehindOwners es) (items : OwnersAreItems es) (good : AreGood es ps) where
+-- names that stand after their owners, where owners are items, and none has a fault of its own
+module _ (es : List Entry) (ps : List Name) (owners : AreAfterOwners es) (items : OwnersAreItems es) (good : AreGood es ps) where
   abbrev pub size : ℕ
   size = length es
 
@@ -314,7 +314,7 @@ module _ (u : ExternalProcedure) (h : resolution_faults u ≡ []) (key : SymbolK
       get_or_past (resolved_of u).blocks b.region no_block (omega (arith, past, made_length (block_at (outline_of u)) (length (outline_of u).regions)))
 
   module _ (lt : b.region < length (outline_of u).regions) where
-    pub region_owners : AreBehindOwners entries
+    pub region_owners : AreAfterOwners entries
     region_owners = owners_stand_before (outline_of u) b.region
 
     pub region_items : OwnersAreItems entries

@@ -22,8 +22,8 @@ use Rattle.pli_declare_attributes.specs.declared.completed.DeclaredStorage.{Decl
 use Rattle.pli_declare_attributes.specs.declared.completed.DeclaredStorage.TheVariants as storage
 use Rattle.pli_declare_outline.specs.Outlines.{Mark, Declared, Labelled, Entered, Used, Jumped, PlacedMark, Outline, outline_of}
 use Rattle.pli_declare_tables.specs.Tables.{Entity, AsItem, AsLabel, AsProcedure, Entry, no_entry, entries_in, heading_entries, unit_entries}
-use Rattle.pli_declare_tables.specs.answers.Answers.{AreBehindOwners}
-use Rattle.pli_declare_tables.proofs.MembersStandBehind.{owners_stand_before}
+use Rattle.pli_declare_tables.specs.answers.Answers.{AreAfterOwners}
+use Rattle.pli_declare_tables.proofs.MembersStandAfter.{owners_stand_before}
 use Rattle.pli_declare_variables.specs.Places.{members_of, owners_of, place_in, position_of, item_in, item_of, is_variable, stands_alone, is_bad_level, set_in, is_unsubscripted, is_locator, is_area}
 use Rattle.pli_declare_variables.specs.Descriptions.{scalar_at, own_codes, description_of}
 use Rattle.pli_declare_variables.specs.Declarations.{Declaration, DeclaredKind, OfItem, OfLabel, OfProcedure, IsGood, AreGood, returned_by, declaration_at, declared_in, kind_of, whole_description}
@@ -134,7 +134,7 @@ locator_parts es n h =
 area_parts : (es : List Entry) (n : ℕ) → is_area es n ≡ true → (is_variable (entity es n) ≡ true) × (has (set_in es n) area ≡ true) × (is_unsubscripted es n ≡ true)
 area_parts es n h = three_true (is_variable (entity es n)) (has (set_in es n) area) (is_unsubscripted es n) h
 
-module _ (es : List Entry) (ps : List Name) (owners : AreBehindOwners es) (items : OwnersAreItems es) (good : AreGood es ps) where
+module _ (es : List Entry) (ps : List Name) (owners : AreAfterOwners es) (items : OwnersAreItems es) (good : AreGood es ps) where
   own_none : (n : ℕ) → n < length es → is_variable (entity es n) ≡ true → item_fault (place_in es ps n) (item_of es n) ≡ None
   own_none n lt h =
       let x = variable_item (entity es n) h in
@@ -175,7 +175,7 @@ module _ (u : ExternalProcedure) (h : resolution_faults u ≡ []) (b : ℕ) (is 
   abbrev way : ℕ → Way
   way n = get_or (ways_of (declared_in entries parameters)) n no_way
 
-  their_owners : AreBehindOwners entries
+  their_owners : AreAfterOwners entries
   their_owners = owners_stand_before outline b
 
   their_items : OwnersAreItems entries

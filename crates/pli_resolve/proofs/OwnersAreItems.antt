@@ -61,8 +61,8 @@ of_mark base here (Entered heading region) (suc k) o lt e = absurd (omega (arith
 of_mark base here (Used names) k o lt e = absurd (omega (arith, lt))
 of_mark base here (Jumped label) k o lt e = absurd (omega (arith, lt))
 
-behind : (es more : List Entry) (k : ℕ) → length es ≤ k → get_or (es ++ more) k no_entry ≡ get_or more (k - length es) no_entry
-behind es more k le =
+after : (es more : List Entry) (k : ℕ) → length es ≤ k → get_or (es ++ more) k no_entry ≡ get_or more (k - length es) no_entry
+after es more k le =
     let there : k ≡ length es + (k - length es) = omega (arith, le) in
     ap (λ j. get_or (es ++ more) j no_entry) there ∙ get_or-append-add es more (k - length es) no_entry
 
@@ -71,10 +71,10 @@ both es more h g k o lt e j low high = elim (cases_lt k (length es)) [
   | inl front ↦ (let here = get_or_append_left es more no_entry k front in
       let there = get_or_append_left es more no_entry j (omega (arith, front, high)) in
       subst (λ (x : Entry). IsItem x.entity) (sym there) (h k o front (ap (λ (x : Entry). x.owner) (sym here) ∙ e) j low high))
-  | inr back ↦ (let here = behind es more k back in
+  | inr back ↦ (let here = after es more k back in
       let of = g (k - length es) o (omega (arith, back, lt, length-append es more)) (ap (λ (x : Entry). x.owner) (sym here) ∙ e) in
       let past : length es ≤ j = omega (arith, of.0, low) in
-      subst (λ (x : Entry). IsItem x.entity) (sym (behind es more j past)) (of.1 (j - length es) (omega (arith, past, high, back, lt, length-append es more))))
+      subst (λ (x : Entry). IsItem x.entity) (sym (after es more j past)) (of.1 (j - length es) (omega (arith, past, high, back, lt, length-append es more))))
 ]
 
 one_more : (es : List Entry) (here : ℕ) (mark : Mark) (b : Bool) → OwnersAreItems es → OwnersAreItems (es ++ (if b then entries_of (length es) here mark else []))

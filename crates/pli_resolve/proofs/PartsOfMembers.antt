@@ -6,7 +6,7 @@ use Rattle.pli_map.specs.declared.description.Bounds.{Bounds}
 use Rattle.pli_declare_attributes.specs.Extents.{all_bounds}
 use Rattle.pli_declare_attributes.specs.Faults.{with_bounds}
 use Rattle.pli_declare_tables.specs.Tables.{Entry}
-use Rattle.pli_declare_tables.specs.answers.Answers.{AreBehindOwners}
+use Rattle.pli_declare_tables.specs.answers.Answers.{AreAfterOwners}
 use Rattle.pli_declare_variables.specs.Places.{item_of, members_of}
 use Rattle.pli_declare_variables.specs.Descriptions.{is_of_shape, scalar_at, member_then, members_made, inside, described}
 use Rattle.pli_declare_variables.proofs.MembersFound.{members_stand, enough}
@@ -58,7 +58,7 @@ within find scalar (k ∷ ks) bounds d place e lt = by (members_made find (k ∷
         (there.0, there.1, ap (λ x. member_of x place) (sym same) ∙ bounded bounds ms place ∙ there.2)
 
 -- a member of an item that is described
-pub of_owner : (size : ℕ) (entries : List Entry) → AreBehindOwners entries → (codes : List (Option Code)) → size ≡ length entries → (o place : ℕ) (d : Description)
+pub of_owner : (size : ℕ) (entries : List Entry) → AreAfterOwners entries → (codes : List (Option Code)) → size ≡ length entries → (o place : ℕ) (d : Description)
     → described size entries codes o ≡ Some d → place < length (members_of entries o)
     → (e : Description) × (described size entries codes (get_or (members_of entries o) place 0) ≡ Some e) × (member_of d place ≡ Some e)
 of_owner zero entries owners codes is o place d e lt = absurd (none_left d e)
@@ -155,7 +155,7 @@ all_inside find scalar [] each = (scalar, refl)
 all_inside find scalar (k ∷ ks) each = let ms = all_made find (k ∷ ks) each in (Structure ms.0, ap (option_map Structure) ms.1)
 
 -- where a set of items has no faults and has the members of its items, each of them is described
-pub each_described : (P : ℕ → Type 0) (bound : ℕ) (entries : List Entry) → AreBehindOwners entries → (codes : List (Option Code))
+pub each_described : (P : ℕ → Type 0) (bound : ℕ) (entries : List Entry) → AreAfterOwners entries → (codes : List (Option Code))
     → ((n : ℕ) → n < length entries → P n → is_of_shape (get_or codes n None) ≡ false) → ((n i : ℕ) → i < length (members_of entries n) → P (get_or (members_of entries n) i 0))
     → (n : ℕ) → n < length entries → P n → length entries ≤ bound + n → (d : Description) × (described bound entries codes n ≡ Some d)
 each_described P zero entries owners codes good closed n lt p enough = absurd (omega (arith, lt, enough))

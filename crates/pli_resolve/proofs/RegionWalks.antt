@@ -5,7 +5,7 @@ use Rattle.pli_base.specs.Statements.{Heading, Statement, Numbered, Body, Proced
 use Rattle.pli_declare_outline.specs.Outlines.{Region, regions_in, regions_of, regions_among, regions_else, statement_regions, body_regions, statements_regions, alternative_regions}
 use Rattle.pli_resolve.specs.BlockNumbers.{numbers_after}
 use Rattle.pli_resolve.specs.StatementPlaces.{statement_starts, body_starts, statements_starts, alternative_starts}
-use Rattle.pli_resolve.specs.TreeBlocks.{blocks_in, blocks_of, blocks_among, blocks_behind}
+use Rattle.pli_resolve.specs.TreeBlocks.{blocks_in, blocks_of, blocks_among, blocks_in_else}
 
 -- the number of the block that each region is or stands in
 abbrev mutual
@@ -173,12 +173,12 @@ passed ns inner found outer block count rs rest e ih =
     ap (λ n. numbers_after (ns ++ found ∷ []) n (rs ++ rest)) none ∙ ap (λ k. numbers_after (ns ++ k ∷ []) block (rs ++ rest)) e ∙ ih
     ∙ ap (λ ms. numbers_after ms (block + count) rest) (append_assoc ns (outer ∷ []) inner)
 
--- two parts, one behind the other
-behind : (ns xs ys : List ℕ) (block m n : ℕ) (rs ss rest : List Region)
+-- two parts, one after the other
+after : (ns xs ys : List ℕ) (block m n : ℕ) (rs ss rest : List Region)
     → numbers_after ns block (rs ++ (ss ++ rest)) ≡ numbers_after (ns ++ xs) (block + m) (ss ++ rest)
     → numbers_after (ns ++ xs) (block + m) (ss ++ rest) ≡ numbers_after ((ns ++ xs) ++ ys) ((block + m) + n) rest
     → numbers_after ns block ((rs ++ ss) ++ rest) ≡ numbers_after (ns ++ (xs ++ ys)) (block + (m + n)) rest
-behind ns xs ys block m n rs ss rest first second =
+after ns xs ys block m n rs ss rest first second =
     let all : (block + m) + n ≡ block + (m + n) = omega arith in
     ap (numbers_after ns block) (append_assoc rs ss rest) ∙ first ∙ second
     ∙ ap (λ ms. numbers_after ms ((block + m) + n) rest) (append_assoc ns xs ys)
@@ -189,7 +189,7 @@ none_passed ns block rest =
     let same : block ≡ block + 0 = omega arith in
     ap (λ ms. numbers_after ms block rest) (sym (append-nil ns)) ∙ ap (λ k. numbers_after (ns ++ []) k rest) same
 
--- what is known behind one more number
+-- what is known after one more number
 there : (ns : List ℕ) (x next : ℕ) → next ≡ length ns → get_or (ns ++ x ∷ []) next 0 ≡ x
 there ns x next e = get_or_push ns x 0 next (sym e)
 
@@ -218,7 +218,7 @@ mutual
   numbered_body (If condition consequence alternative) here next outer block ns rest h o l =
       let xs = statement_numbers outer block consequence in
       let middle = next + regions_in consequence in
-      behind ns xs (alternative_numbers outer (block + blocks_in consequence) alternative) block (blocks_in consequence) (blocks_behind alternative)
+      after ns xs (alternative_numbers outer (block + blocks_in consequence) alternative) block (blocks_in consequence) (blocks_in_else alternative)
       (statement_regions here next consequence) (alternative_regions here middle alternative) rest
       (numbered consequence here next outer block ns (alternative_regions here middle alternative ++ rest) h o l)
       (numbered_else alternative here middle outer (block + blocks_in consequence) (ns ++ xs) rest
@@ -235,7 +235,7 @@ mutual
   numbered_list (Before first more) here next outer block ns rest h o l =
       let xs = statement_numbers outer block first in
       let middle = next + regions_in first in
-      behind ns xs (statements_numbers outer (block + blocks_in first) more) block (blocks_in first) (blocks_among more)
+      after ns xs (statements_numbers outer (block + blocks_in first) more) block (blocks_in first) (blocks_among more)
       (statement_regions here next first) (statements_regions here middle more) rest
       (numbered first here next outer block ns (statements_regions here middle more ++ rest) h o l)
       (numbered_list more here middle outer (block + blocks_in first) (ns ++ xs) rest
@@ -243,6 +243,6 @@ mutual
       (omega (arith, l, length-append ns xs, numbers_counted first outer block)))
 
   numbered_else : (a : Alternative) (here next outer block : ℕ) (ns : List ℕ) (rest : List Region) → here < length ns → get_or ns here 0 ≡ outer → next ≡ length ns
-      → numbers_after ns block (alternative_regions here next a ++ rest) ≡ numbers_after (ns ++ alternative_numbers outer block a) (block + blocks_behind a) rest
+      → numbers_after ns block (alternative_regions here next a ++ rest) ≡ numbers_after (ns ++ alternative_numbers outer block a) (block + blocks_in_else a) rest
   numbered_else NoElse here next outer block ns rest h o l = none_passed ns block rest
   numbered_else (Else statement) here next outer block ns rest h o l = numbered statement here next outer block ns rest h o l

@@ -23,13 +23,13 @@ symbols_at f ps [] (d ∷ ds) n = refl
 symbols_at f ps (w ∷ ws) (d ∷ ds) zero = refl
 symbols_at f ps (w ∷ ws) (d ∷ ds) (suc n) = symbols_at f ps ws ds n
 
--- in a list with one more behind
-behind : {A B : Type 0} (f : A → List B) (xs : List A) (o : List B) (n : ℕ) → (n ≡ length xs → ⊥)
+-- in a list with one more after it
+after : {A B : Type 0} (f : A → List B) (xs : List A) (o : List B) (n : ℕ) → (n ≡ length xs → ⊥)
     → get_or (map f xs ++ o ∷ []) n [] ≡ unwrap_or (option_map f (slice_get xs n)) []
-behind f [] o zero h = absurd (h refl)
-behind f [] o (suc n) h = refl
-behind f (x ∷ xs) o zero h = refl
-behind f (x ∷ xs) o (suc n) h = behind f xs o n (λ e. h (ap suc e))
+after f [] o zero h = absurd (h refl)
+after f [] o (suc n) h = refl
+after f (x ∷ xs) o zero h = refl
+after f (x ∷ xs) o (suc n) h = after f xs o n (λ e. h (ap suc e))
 
 at_end : {A B : Type 0} (f : A → List B) (xs : List A) (o : List B) → get_or (map f xs ++ o ∷ []) (length xs) [] ≡ o
 at_end f [] o = refl
@@ -54,14 +54,14 @@ symbol_inside u key b found =
     let within : key.block < length (block_regions_of u) = slice_get_within (block_regions_of u) key.block b found in
     ap (λ xs. slice_get xs key.number)
     (listed u key.block
-    ∙ behind (symbols_in u) (block_regions_of u) (resolved_unit_of u).outermost key.block (λ e. absurd (omega (arith, within, e)))
+    ∙ after (symbols_in u) (block_regions_of u) (resolved_unit_of u).outermost key.block (λ e. absurd (omega (arith, within, e)))
     ∙ ap (λ o. unwrap_or (option_map (symbols_in u) o) []) found)
 
 pub symbol_beyond : (u : ExternalProcedure) (key : SymbolKey) → slice_get (block_regions_of u) key.block ≡ None
     → (key.block ≡ length (block_regions_of u) → ⊥) → symbol_at (resolved_unit_of u) key ≡ None
 symbol_beyond u key found h =
     ap (λ xs. slice_get xs key.number)
-    (listed u key.block ∙ behind (symbols_in u) (block_regions_of u) (resolved_unit_of u).outermost key.block h
+    (listed u key.block ∙ after (symbols_in u) (block_regions_of u) (resolved_unit_of u).outermost key.block h
     ∙ ap (λ o. unwrap_or (option_map (symbols_in u) o) []) found)
 
 pub symbol_outside : (u : ExternalProcedure) (key : SymbolKey) → key.block ≡ length (block_regions_of u)

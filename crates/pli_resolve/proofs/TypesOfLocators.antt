@@ -66,13 +66,13 @@ areas : Each BesideArea data_types
 areas = (λ h. cc, (λ h. cc, (λ h. cc, (λ h. cc, (λ h. cc, (λ h. cc, (λ h. cc, (λ h. cc, (λ h. cc, (λ h. ((refl, refl, refl, refl), refl, refl), tt))))))))))
 
 -- the type that is chosen
-behind_four : {A : Type 0} (a b c d : Bool) (v w x y z : A) → a ≡ false → b ≡ false → c ≡ false → d ≡ false
+after_four : {A : Type 0} (a b c d : Bool) (v w x y z : A) → a ≡ false → b ≡ false → c ≡ false → d ≡ false
     → (if a then v else if b then w else if c then x else if d then y else z) ≡ z
-behind_four true b c d v w x y z h k l m = cc
-behind_four false true c d v w x y z h k l m = cc
-behind_four false false true d v w x y z h k l m = cc
-behind_four false false false true v w x y z h k l m = cc
-behind_four false false false false v w x y z h k l m = refl
+after_four true b c d v w x y z h k l m = cc
+after_four false true c d v w x y z h k l m = cc
+after_four false false true d v w x y z h k l m = cc
+after_four false false false true v w x y z h k l m = cc
+after_four false false false false v w x y z h k l m = refl
 
 -- the type that is chosen where neither of these stands and no locator
 abbrev area_type : ℕ → Option ℕ → Description
@@ -86,28 +86,28 @@ module _ (s : ℕ) (n : Option ℕ) (one : is_one_of (bit_and s data_attributes)
   abbrev m : ℕ
   m = bit_and s data_attributes
 
-  behind_those : NoneBefore m → scalar_of s n ≡ (if has s pointer then described.Pointer else if has s offset then described.Offset else area_type s n)
+  after_those : NoneBefore m → scalar_of s n ≡ (if has s pointer then described.Pointer else if has s offset then described.Offset else area_type s n)
   unfolding scalar_of
-  behind_those none =
-      behind_four (has s fixed) (has s varying) (has s character) (has s bit) _ _ _ _ _
+  after_those none =
+      after_four (has s fixed) (has s varying) (has s character) (has s bit) _ _ _ _ _
       (sym (apart s fixed refl) ∙ none.0) (sym (apart s varying refl) ∙ none.1) (sym (apart s character refl) ∙ none.2) (sym (apart s bit refl) ∙ none.3)
 
   pub pointer_of : has s pointer ≡ true → scalar_of s n ≡ described.Pointer
   pointer_of h =
-      behind_those (among BesidePointer m data_types one pointers (apart s pointer refl ∙ h))
+      after_those (among BesidePointer m data_types one pointers (apart s pointer refl ∙ h))
       ∙ ap (λ (b : Bool). if b then described.Pointer else if has s offset then described.Offset else area_type s n) h
 
   pub offset_of : has s offset ≡ true → scalar_of s n ≡ described.Offset
   offset_of h =
       let none = among BesideOffset m data_types one offsets (apart s offset refl ∙ h) in
-      behind_those none.0
+      after_those none.0
       ∙ ap (λ (b : Bool). if b then described.Pointer else if has s offset then described.Offset else area_type s n) (sym (apart s pointer refl) ∙ none.1)
       ∙ ap (λ (b : Bool). if b then described.Offset else area_type s n) h
 
   pub area_of : has s area ≡ true → scalar_of s n ≡ scalar_of area n
   area_of h =
       let none = among BesideArea m data_types one areas (apart s area refl ∙ h) in
-      behind_those none.0
+      after_those none.0
       ∙ ap (λ (b : Bool). if b then described.Pointer else if has s offset then described.Offset else area_type s n) (sym (apart s pointer refl) ∙ none.1)
       ∙ ap (λ (b : Bool). if b then described.Offset else area_type s n) (sym (apart s offset refl) ∙ none.2)
       ∙ ap (λ (b : Bool). if b then described.area (number_or 1000 n) else described.area 1000) h ∙ area_alone_type n

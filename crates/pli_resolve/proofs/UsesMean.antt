@@ -37,7 +37,7 @@ use Rattle.pli_resolve.specs.declared.statement_places.StatementPlace.{Statement
 use Rattle.pli_resolve.specs.declared.symbol.NameMeaning.{NameMeaning}
 use Rattle.pli_resolve.specs.declared.symbol.NameMeaning.TheVariants as meanings
 use Rattle.pli_resolve.specs.declared.symbol.SymbolKey.{SymbolKey}
-use Rattle.pli_resolve.proofs.LookUps.{found_behind}
+use Rattle.pli_resolve.proofs.LookUps.{found_then}
 use Rattle.pli_resolve.proofs.BuiltInNames.{named_so, has_function}
 use Rattle.pli_resolve.proofs.DeclaredBlocks.{IsRegion, HasSymbol, key_in, declared_symbol}
 use Rattle.pli_resolve.proofs.LabelsStand.{label_found, label_place}
@@ -54,9 +54,9 @@ Fit P at (u ∷ us) = (u.at ≡ at → P u.target) × Fit P at us
 abbrev pub IsOne : {A : Type 0} → (A → Type 0) → Option A → Type 0
 IsOne {A} P found = (t : A) × (found ≡ Some t) × P t
 
-meaning_behind : (found : Option Target) (xs ys : List Use) (at : ℕ) → meaning_after found (xs ++ ys) at ≡ meaning_after (meaning_after found xs at) ys at
-meaning_behind found [] ys at = refl
-meaning_behind found (x ∷ xs) ys at = meaning_behind (if nat_eq x.at at then Some x.target else found) xs ys at
+meaning_then : (found : Option Target) (xs ys : List Use) (at : ℕ) → meaning_after found (xs ++ ys) at ≡ meaning_after (meaning_after found xs at) ys at
+meaning_then found [] ys at = refl
+meaning_then found (x ∷ xs) ys at = meaning_then (if nat_eq x.at at then Some x.target else found) xs ys at
 
 more_found : (P : Target → Type 0) (found : Option Target) (us : List Use) (at : ℕ) → IsOne P found → Fit P at us → IsOne P (meaning_after found us at)
 more_found P found [] at one fit = one
@@ -91,11 +91,11 @@ module _ (P : Target → Type 0) (at : ℕ) (uses : ℕ → Mark → List Use) w
       let here : uses q.region q.mark ≡ record { at = at; target = t } ∷ [] = ap (λ (r : PlacedMark). uses r.region r.mark) is ∙ e in
       let found_here : meaning_after found (uses q.region q.mark) at ≡ Some t =
       ap (λ us. meaning_after found us at) here ∙ ap (λ (b : Bool). if b then Some t else found) (eq-eqb at at refl) in
-      subst (IsOne P) (sym (meaning_behind found (uses q.region q.mark) (of_marks uses qs) at))
+      subst (IsOne P) (sym (meaning_then found (uses q.region q.mark) (of_marks uses qs) at))
       (more_found P (meaning_after found (uses q.region q.mark) at) (of_marks uses qs) at (t, found_here, h)
       (fit_marks qs (λ k lt r e. all (suc k) (omega (arith, lt)) r e)))
   used_last (q ∷ qs) found (suc k) p t lt is e h all =
-      subst (IsOne P) (sym (meaning_behind found (uses q.region q.mark) (of_marks uses qs) at))
+      subst (IsOne P) (sym (meaning_then found (uses q.region q.mark) (of_marks uses qs) at))
       (used_last qs (meaning_after found (uses q.region q.mark) at) k p t (omega (arith, lt)) is e h (λ j low r f. all (suc j) (omega (arith, low)) r f))
 
 -- built-in functions by their tokens
@@ -116,10 +116,10 @@ function_found (q ∷ qs) found zero p at f lt is e =
     let first : found_after found (functions_at q.mark) at ≡ Some f =
     ap (λ fs. found_after found fs at) here ∙ ap (λ (b : Bool). if b then Some f else found) (eq-eqb at at refl) in
     let rest = stays f (functions_in qs) at in
-    (rest.0, found_behind found (functions_at q.mark) (functions_in qs) at ∙ ap (λ o. found_after o (functions_in qs) at) first ∙ rest.1)
+    (rest.0, found_then found (functions_at q.mark) (functions_in qs) at ∙ ap (λ o. found_after o (functions_in qs) at) first ∙ rest.1)
 function_found (q ∷ qs) found (suc k) p at f lt is e =
     let rest = function_found qs (found_after found (functions_at q.mark) at) k p at f (omega (arith, lt)) is e in
-    (rest.0, found_behind found (functions_at q.mark) (functions_in qs) at ∙ rest.1)
+    (rest.0, found_then found (functions_at q.mark) (functions_in qs) at ∙ rest.1)
 
 single : (i : Identifier) (is : List Identifier) → is_function (i ∷ is) ≡ true → (is ≡ []) × (is_built_in i.name ≡ true)
 single i [] h = (refl, h)

@@ -20,7 +20,7 @@ hits_more test first zero at e =
 hits_more test first (suc count) at e =
     omega (arith, hits_more test (first + 1) count at (omega (arith, e)))
 
--- a number that passes stands behind those before it that pass
+-- a number that passes stands after those before it that pass
 pub at_hit : (test : ℕ → Bool) (first size count : ℕ) → count < size → test (first + count) ≡ true
     → (get_or (filter test (numbers_from first size)) (hits test first count) 0 ≡ first + count) × (hits test first count < length (filter test (numbers_from first size)))
 at_hit test first zero count lt h = absurd (omega (arith, lt))

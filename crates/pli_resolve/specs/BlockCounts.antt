@@ -13,7 +13,7 @@ abbrev mutual
   blocks_of (Procedure heading statements end) = suc (blocks_among statements)
   blocks_of (Begin statements end) = suc (blocks_among statements)
   blocks_of (Do control statements end) = blocks_among statements
-  blocks_of (If condition consequence alternative) = blocks_in consequence + blocks_behind alternative
+  blocks_of (If condition consequence alternative) = blocks_in consequence + blocks_in_else alternative
   blocks_of (On condition unit) = suc (blocks_in unit)
   blocks_of body = 0
 
@@ -23,6 +23,6 @@ abbrev mutual
   blocks_among (Before first more) = blocks_in first + blocks_among more
 
   -- how many begin in an ELSE
-  pub blocks_behind : Alternative → ℕ
-  blocks_behind NoElse = 0
-  blocks_behind (Else statement) = blocks_in statement
+  pub blocks_in_else : Alternative → ℕ
+  blocks_in_else NoElse = 0
+  blocks_in_else (Else statement) = blocks_in statement

@@ -14,14 +14,14 @@ abbrev pub block_kind : RegionKind → Option ResolvedBlockKind
 block_kind kinds.Procedure = Some Procedure
 block_kind kinds.Begin = Some Begin
 block_kind kinds.Group = None
-block_kind kinds.Unit = Some OnUnit
+block_kind kinds.OnUnit = Some OnUnit
 
 -- the block that a region of this number is, as a list of one or none
 abbrev pub block_begun : (number : ℕ) → Region → Option ResolvedBlockKind → List BlockRegion
 block_begun number r None = []
 block_begun number r (Some kind) = record { region = number; kind = kind; outer = r.outer } ∷ []
 
--- the blocks among regions, behind others; the first of the regions has this number
+-- the blocks among regions, after others; the first of the regions has this number
 abbrev pub blocks_after : List BlockRegion → (number : ℕ) → List Region → List BlockRegion
 blocks_after blocks number [] = blocks
 blocks_after blocks number (r ∷ rs) =
@@ -46,7 +46,7 @@ abbrev pub begun_by : Option ResolvedBlockKind → ℕ
 begun_by None = 0
 begun_by (Some kind) = 1
 
--- for each region the number of the block that it is or stands in, behind those of the regions before
+-- for each region the number of the block that it is or stands in, after those of the regions before
 abbrev pub numbers_after : List ℕ → (next : ℕ) → List Region → List ℕ
 numbers_after numbers next [] = numbers
 numbers_after numbers next (r ∷ rs) =

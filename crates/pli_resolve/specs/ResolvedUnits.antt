@@ -1,4 +1,4 @@
--- The resolved unit, as the passes behind see it: the tree, with what its blocks declare and what its names
+-- The resolved unit, as the later passes see it: the tree, with what its blocks declare and what its names
 -- mean.
 use Rattle.std.specs.Prelude.{ℕ, ◌+◌, Option, Some, None, option_map, List, [], ◌∷◌, ◌++◌, map, length}
 use Rattle.std.specs.Prelude.{get_or, slice_get, option_and_then}
@@ -37,7 +37,7 @@ pub record ResolvedBlock : Type 0 where
   pub parameters : List ℕ
   pub symbols : List Symbol
 
--- a unit: its tree; its blocks, each under its number; the outermost block, whose number is that behind the
+-- a unit: its tree; its blocks, each under its number; the outermost block, whose number is that after the
 -- last of them, and which declares the unit's own name; what the name at a token means, where it is used; the
 -- block in which the statement of a number stands
 pub record ResolvedUnit : Type 0 where

@@ -1,4 +1,4 @@
--- What the names of a block are declared as, as the passes behind need it.
+-- What the names of a block are declared as, as the later passes need it.
 use Rattle.std.specs.Prelude.{ℕ, ◌+◌, nat_eq, Option, Some, None, List, [], ◌∷◌, ◌++◌}
 use Rattle.std.specs.Prelude.{length, get_or, slice_set, if◌then◌else◌, ◌&&◌, is_none}
 use Rattle.std.specs.Option.{unwrap_or}
@@ -78,7 +78,7 @@ abbrev pub counted : (counts : List ℕ) → (owner : Option ℕ) → List ℕ
 counted counts None = counts
 counted counts (Some owner) = slice_set counts owner (get_or counts owner 0 + 1)
 
--- the ways of further names, behind those of the names before
+-- the ways of further names, after those of the names before
 abbrev pub ways_after : List Way → (counts : List ℕ) → List Declaration → List Way
 ways_after ways counts [] = ways
 ways_after ways counts (d ∷ ds) =

@@ -5,7 +5,7 @@ use Rattle.pli_base.specs.Statements.{Statement, Numbered, Body, Procedure, Begi
 use Rattle.pli_base.specs.Statements.{Statements, Ended, Before, Alternative, NoElse, Else, ExternalProcedure}
 use Rattle.pli_resolve.specs.declared.block_numbers.ResolvedBlockKind.{ResolvedBlockKind}
 use Rattle.pli_resolve.specs.declared.block_numbers.ResolvedBlockKind.TheVariants as kinds
-pub use Rattle.pli_resolve.specs.BlockCounts.{blocks_among, blocks_behind, blocks_in, blocks_of}
+pub use Rattle.pli_resolve.specs.BlockCounts.{blocks_among, blocks_in_else, blocks_in, blocks_of}
 
 -- a block: what it is; the number of the block round it; the number of its statement; how many parameters its
 -- PROCEDURE has

@@ -1,4 +1,4 @@
-//! The resolved unit, as the passes behind see it: its blocks, what its names are declared as, and what each name
+//! The resolved unit, as the later passes see it: its blocks, what its names are declared as, and what each name
 //! means.
 #![tactic(auto)]
 

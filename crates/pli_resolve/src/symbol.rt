@@ -5,7 +5,7 @@ use pli_base::syntax::Identifier;
 use pli_declare_attributes::ScopeAttribute;
 use pli_map::{Description, ParameterType};
 
-/// Under which a symbol is found: its block, and its number there. The number behind that of the last block is the
+/// Under which a symbol is found: its block, and its number there. The number after that of the last block is the
 /// outermost block's, which declares the unit's own name.
 #[derive(Clone, Copy)]
 pub struct SymbolKey {

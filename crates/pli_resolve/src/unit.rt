@@ -1,4 +1,4 @@
-//! Resolved units as the passes behind see them.
+//! Resolved units as the later passes see them.
 ghost use Rattle.std.specs.Prelude.{◌≡◌, ℕ, None, [], get_or, length, map, option_map, slice_get, IfOk};
 ghost use Rattle.pli_base.specs.views.StatementView.{unit_view};
 ghost use Rattle.pli_map.specs.views.DescriptionView.{description_view};

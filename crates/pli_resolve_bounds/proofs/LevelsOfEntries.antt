@@ -37,7 +37,7 @@ IsRanked entries e = IsUnder entries (level_in e.entity) e.owner × IsLevel e.en
 abbrev pub AreRanked : List Entry → Type 0
 AreRanked entries = (n : ℕ) → n < length entries → IsRanked entries (get_or entries n no_entry)
 
--- more entries behind
+-- more entries after them
 
 under_more : (es new : List Entry) (level : ℕ) (owner : Option ℕ) → IsUnder es level owner → IsUnder (es ++ new) level owner
 under_more es new level None h = tt

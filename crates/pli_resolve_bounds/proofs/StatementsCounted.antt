@@ -10,7 +10,7 @@ use Rattle.pli_parse.proofs.StatementRead.{unit_reads}
 use Rattle.pli_parse_expression.specs.Expressions.{Deeper}
 use Rattle.pli_parse_expression.specs.Operators.{nesting_limit}
 use Rattle.pli_parse_statement.specs.StatementGrammar.{SpellsStatement, SpellsBody, SpellsStatements, SpellsAlternative}
-use Rattle.pli_parse_statement.specs.StatementWords.{Context, standing, the_unit, a_procedure}
+use Rattle.pli_parse_statement.specs.StatementWords.{Context, standing, the_on_unit, a_procedure}
 use Rattle.pli_parse_statement.specs.declared.keyword.StatementStanding.TheVariants.{InBlock, InGroup, AsClause}
 use Rattle.pli_resolve_bounds.specs.StatementNumbers.{IsBelow, IsBodyBelow, AreBelow, IsElseBelow, StatementsAreFew}
 
@@ -57,7 +57,7 @@ mutual
       omega (arith, inner, ap length h.2, ap length h.4.3, parted h.4.0 (h.4.1 ++ h.4.2) (Word (codes "THEN")), length-append h.4.1 h.4.2)
   counted_body c levels label p k ts (On condition unit) h =
       let inner : count unit ≤ length h.4.1 =
-      opened _ (count unit ≤ length h.4.1) levels h.4.4 (λ m g. counted the_unit m _ (k + 1) h.4.1 unit g) in
+      opened _ (count unit ≤ length h.4.1) levels h.4.4 (λ m g. counted the_on_unit m _ (k + 1) h.4.1 unit g) in
       omega (arith, inner, ap length h.2, ap length h.4.2, length-append h.4.0 h.4.1)
   counted_body c levels label p k ts (Declare items) h = begun (Word h.0) ts h.1 h.2
   counted_body c levels label p k ts (Revert condition) h = begun (Word h.0) ts h.1 h.2
@@ -108,7 +108,7 @@ mutual
         (λ m g. below_else n c m _ (k + 1 + count consequence) h.4.2 consequence alternative g.2 (omega (arith, room))),
   )
   below_body n c levels label p k ts (On condition unit) h room =
-      opened _ (IsBelow n unit) levels h.4.4 (λ m g. below n the_unit m _ (k + 1) h.4.1 unit g (omega (arith, room)))
+      opened _ (IsBelow n unit) levels h.4.4 (λ m g. below n the_on_unit m _ (k + 1) h.4.1 unit g (omega (arith, room)))
   below_body n c levels label p k ts body h room = tt
 
   below_list : (n : ℕ) (c : Context) (levels p k : ℕ) (ts : Tokens) (ss : Statements) → SpellsStatements c levels p k ts ss → k + list_count ss ≤ n → AreBelow n ss

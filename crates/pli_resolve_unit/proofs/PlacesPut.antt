@@ -1,4 +1,4 @@
--- What walks over statements put, one behind another.
+-- What walks over statements put, one after another.
 use Rattle.std.proofs.Common.{◌≡◌, ℕ, ◌+◌, length, List, [], ◌∷◌, ◌++◌, ap, ◌∙◌, sym, subst, append_assoc, append-nil, arith, length-append}
 use Rattle.pli_base.specs.Statements as tree
 use Rattle.pli_base.specs.Syntax.{Expression}
@@ -15,7 +15,7 @@ pub nothing_put : (starts : List ℕ) (places : List StatementPlace) → PlacesP
 nothing_put starts places =
     record { starts = sym (append-nil starts); places = sym (append-nil places); count = omega arith }
 
--- a statement, and then those behind it
+-- a statement, and then those after it
 pub place_then : (p : StatementPlace) (starts starts' : List ℕ) (places given places' : List StatementPlace)
     (ss : List ℕ) (ps : List StatementPlace) (count : ℕ)
     → given ≡ places ++ p ∷ []
@@ -42,7 +42,7 @@ start_then start region count starts given starts' places places' ss ps n h w =
       count = omega (arith, w.count, l);
     }
 
--- one more statement behind
+-- one more statement after it
 pub then_place : (p : StatementPlace) (starts starts' : List ℕ) (places between places' : List StatementPlace)
     (ss : List ℕ) (ps : List StatementPlace) (count : ℕ)
     → places' ≡ between ++ p ∷ []
@@ -82,7 +82,7 @@ pub none_put : (here : ℕ) (starts : List ℕ) (places : List StatementPlace) (
 none_put here starts places all e =
     subst (λ xs. AllPut here xs starts starts places places) (sym e) (nothing_put starts places)
 
--- a statement, and then those behind it
+-- a statement, and then those after it
 pub statements_then : (here : ℕ) (s : Statement) (all more : List Statement)
     (starts given starts' : List ℕ) (places between places' : List StatementPlace)
     → all ≡ s ∷ more

@@ -1,8 +1,8 @@
--- What a walk over statements puts behind the statements that are there.
+-- What a walk over statements puts after the statements that are there.
 use Rattle.std.specs.Prelude.{◌≡◌, ℕ, ◌+◌, length, List, ◌++◌}
 use Rattle.pli_resolve.specs.declared.statement_places.StatementPlace.{StatementPlace}
 
--- behind these starts of regions and these statements stand those, of which so many begin regions
+-- after these starts of regions and these statements stand those, of which so many begin regions
 pub record PlacesPut (before after : List ℕ) (before' after' : List StatementPlace)
     (ss : List ℕ) (ps : List StatementPlace) (many : ℕ) : Type 0 where
   pub starts : after ≡ before ++ ss

@@ -15,7 +15,7 @@ pub(crate) fn block_kind(kind: RegionKind) -> Option<ResolvedBlockKind>
         RegionKind::Procedure => Some(ResolvedBlockKind::Procedure),
         RegionKind::Begin => Some(ResolvedBlockKind::Begin),
         RegionKind::Group => None,
-        RegionKind::Unit => Some(ResolvedBlockKind::OnUnit),
+        RegionKind::OnUnit => Some(ResolvedBlockKind::OnUnit),
     }
 }
 

@@ -152,7 +152,7 @@ fn note_block(
 }
 
 /// Notes the symbols of the names of the procedures that the outermost block and each region declare.
-#[tactic(auto, using(pli_resolve::proofs::LookUps::found_behind))]
+#[tactic(auto, using(pli_resolve::proofs::LookUps::found_then))]
 fn note_blocks(
     procedures: &mut IndexMap<usize, SymbolKey>,
     numbers: &[usize],

@@ -27,7 +27,7 @@ use pli_resolve::{
 use std::alloc::{AllocError, Global};
 
 /// The marks of an outline but the first.
-fn marks_behind<'a, 'b>(outline: &'a Outline<'b>) -> &'a [PlacedMark<'b>]
+fn marks_after<'a, 'b>(outline: &'a Outline<'b>) -> &'a [PlacedMark<'b>]
     ensures { marks_view result.now ≡ inner_marks (outline_view outline.now).marks }
 {
     let Some((_first, marks)) = outline.marks.split_first() else {
@@ -136,7 +136,7 @@ pub fn resolve_unit(alloc: Global, unit: &Procedure) -> Result<ResolvedUnit<'_>,
 {
     let outline = pli_declare_outline::outline(alloc, unit)?;
     let declared = resolve(alloc, unit, &outline)?;
-    let Ok(tables) = unit_tables(alloc, &declared, marks_behind(&outline)) else {
+    let Ok(tables) = unit_tables(alloc, &declared, marks_after(&outline)) else {
         drop(declared);
         return Err(ResolveError::OutOfMemory);
     };

@@ -87,7 +87,7 @@ fn place_region(
 
 /// The statement of the ON-unit that begins with the ON of this number.
 #[cycle(place)]
-fn place_unit(
+fn place_on_unit(
     number: u32,
     statement: &Statement,
     starts: &mut Vec<u32>,
@@ -141,7 +141,7 @@ fn place_body(
                 Some(statement) => place_statement(here, statement, starts, places),
             }
         }
-        Body::On { unit, .. } => place_unit(number, unit, starts, places),
+        Body::On { unit, .. } => place_on_unit(number, unit, starts, places),
         Body::Null
         | Body::Assign { .. }
         | Body::Declare(_)

@@ -40,7 +40,7 @@ lead_to c size (Some s) =
 abbrev pub lead : (c size : ℕ) → Printed
 lead c size = lead_to c size (tab_from c)
 
--- the characters of an item from a column on, broken where a line is full; behind them a blank, or a line end
+-- the characters of an item from a column on, broken where a line is full; after them a blank, or a line end
 -- where the line is full
 abbrev pub characters_from : ℕ → List ℕ → Printed
 characters_from c [] = if nat_eq c 121 then fresh else record { bytes = blank ∷ []; column = c + 1 }

@@ -8,7 +8,7 @@ use std::fmt;
 pub struct Difference<'a> {
     /// The number of the line, from 1.
     line: usize,
-    /// The line in the text that is wanted, with its line feed; nothing behind its end.
+    /// The line in the text that is wanted, with its line feed; nothing past its end.
     wanted: &'a [u8],
     /// The line in the text that was found.
     found: &'a [u8],
@@ -25,8 +25,8 @@ impl<'a> fmt::Display for Difference<'a> {
     }
 }
 
-/// The line behind so many others, with its line feed; nothing where the text has no such line.
-fn line_behind(text: &[u8], lines: usize) -> &[u8] {
+/// The line after so many others, with its line feed; nothing where the text has no such line.
+fn line_after(text: &[u8], lines: usize) -> &[u8] {
     text.split_inclusive(|byte| *byte == b'\n')
         .nth(lines)
         .unwrap_or(b"")
@@ -47,7 +47,7 @@ pub fn first_difference<'a>(wanted: &'a [u8], found: &'a [u8]) -> Option<Differe
         .count();
     Some(Difference {
         line: alike.saturating_add(1),
-        wanted: line_behind(wanted, alike),
-        found: line_behind(found, alike),
+        wanted: line_after(wanted, alike),
+        found: line_after(found, alike),
     })
 }

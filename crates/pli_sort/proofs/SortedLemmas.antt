@@ -63,9 +63,9 @@ module _ {X K : Type 0} (key : X → K) (cmp : K → K → Ordering) (total : Is
   Rises [] = Unit {0}
   Rises (x ∷ xs) = RisesFrom x xs
 
-  behind_first : (x : X) (ys : List X) → RisesFrom x ys → Rises ys
-  behind_first x [] up = tt
-  behind_first x (y ∷ ys) up = up.1
+  after_first : (x : X) (ys : List X) → RisesFrom x ys → Rises ys
+  after_first x [] up = tt
+  after_first x (y ∷ ys) up = up.1
 
   inserted_from : (p x : X) (ys : List X) → below p x ≡ false → RisesFrom x ys → RisesFrom x (inserted key cmp p ys)
   inserted_from p x [] h up = (h, tt)
@@ -148,10 +148,10 @@ module _ {X K : Type 0} (key : X → K) (cmp : K → K → Ordering) (total : Is
     onto true q us vs = refl
     onto false q us vs = refl
 
-    -- one that is put in stands behind those of its key
-    stands_behind : (p : X) (qs : List X) → Rises qs → filter tied (inserted key cmp p qs) ≡ filter tied qs ++ filter tied (p ∷ [])
-    stands_behind p [] up = refl
-    stands_behind p (q ∷ qs) up = by (past q p) refl (stands_behind p qs (behind_first q qs up))
+    -- one that is put in stands after those of its key
+    stands_after : (p : X) (qs : List X) → Rises qs → filter tied (inserted key cmp p qs) ≡ filter tied qs ++ filter tied (p ∷ [])
+    stands_after p [] up = refl
+    stands_after p (q ∷ qs) up = by (past q p) refl (stands_after p qs (after_first q qs up))
       where
         by : (b : Bool) → past q p ≡ b → filter tied (inserted key cmp p qs) ≡ filter tied qs ++ filter tied (p ∷ [])
             → filter tied (if b then p ∷ q ∷ qs else q ∷ inserted key cmp p qs) ≡ filter tied (q ∷ qs) ++ filter tied (p ∷ [])
@@ -163,7 +163,7 @@ module _ {X K : Type 0} (key : X → K) (cmp : K → K → Ordering) (total : Is
     all_stand sorted (p ∷ ps) up =
         all_stand (inserted key cmp p sorted) ps (inserted_rises p sorted up)
         ∙ filter-append tied (inserted key cmp p sorted) ps
-        ∙ ap (λ l. l ++ filter tied ps) (stands_behind p sorted up)
+        ∙ ap (λ l. l ++ filter tied ps) (stands_after p sorted up)
         ∙ append_assoc (filter tied sorted) (filter tied (p ∷ [])) (filter tied ps)
         ∙ ap (λ l. filter tied sorted ++ l) (sym (filter-append tied (p ∷ []) ps))
         ∙ sym (filter-append tied sorted (p ∷ ps))

@@ -84,8 +84,8 @@ module _ {X K : Type 0} (key : X → K) (cmp : K → K → Ordering) (total : Is
   sorted_once (x ∷ xs) [] up upper same = absurd (some_kept x xs [] (same x) refl)
   sorted_once (x ∷ xs) (y ∷ ys) up upper same =
       let ahead : below x y ≡ false = not_before x y (y ∷ ys) (not_below_itself y, upper.0) (some_kept x xs (y ∷ ys) (same x)) in
-      let behind : below y x ≡ false = not_before y x (x ∷ xs) (not_below_itself x, up.0) (some_kept y ys (x ∷ xs) (sym (same y))) in
-      let tie : tied x y ≡ true = ap (λ b. not b && not (below y x)) ahead ∙ ap (λ b. not b) behind in
+      let after : below y x ≡ false = not_before y x (x ∷ xs) (not_below_itself x, up.0) (some_kept y ys (x ∷ xs) (sym (same y))) in
+      let tie : tied x y ≡ true = ap (λ b. not b && not (below y x)) ahead ∙ ap (λ b. not b) after in
       let first : x ≡ y = first_is x y _ _ (sym (kept_first x x xs (ties_itself x)) ∙ same x ∙ kept_first x y ys tie) in
       let rest : (z : X) → filter (tied z) xs ≡ filter (tied z) ys =
       λ z. rest_is (tied z x) x y (filter (tied z) xs) (filter (tied z) ys) first (same z ∙ ap (λ (w : X). cond (tied z w) (y ∷ filter (tied z) ys) (filter (tied z) ys)) (sym first)) in

@@ -1,4 +1,4 @@
--- Which generations are found behind a new one, and where one has ended.
+-- Which generations are found after a new one, and where one has ended.
 use Rattle.std.proofs.Common.{◌≡◌, ◌≢◌, ℕ, Bool, true, false, nat_eq, Some, None, List, [], ◌∷◌, ◌++◌, if◌then◌else◌, refl, sym, ap, ◌∙◌, eqb-true, ne_eqb}
 use Rattle.std.proofs.lemmas.Option.{none-some}
 use Rattle.pli_world.specs.Storage.{Generation, generation_in, without}

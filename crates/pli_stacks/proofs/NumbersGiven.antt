@@ -9,8 +9,8 @@ use Rattle.pli_stacks.specs.laws.Operations as law
 use Rattle.pli_stacks.proofs.GenerationsFound.{added_none, ended_none, ended_other}
 use Rattle.pli_stacks.proofs.YieldedAnswers.{yields_further, yields_made, IsKnown, yields_known}
 
-pub ended_behind_making : law.EndedBehindMaking
-ended_behind_making d how vs w number e =
+pub ended_after_making : law.EndedAfterMaking
+ended_after_making d how vs w number e =
     yields_made d how vs w (λ _ u. HasEnded number u)
     (record {
       given = let given = e.given in omega (arith, given);
@@ -29,17 +29,17 @@ still_ended generation w number e =
           ];
     }
 
-pub ended_behind_stacking : law.EndedBehindStacking
+pub ended_after_stacking : law.EndedAfterStacking
 unfolding stacked
-ended_behind_stacking number w other e =
+ended_after_stacking number w other e =
     yields_further (stack_of number w) _ (IsKnown (slice_get w.stacks number) w) _ (yields_known (slice_get w.stacks number) w)
     (λ s u k. yields_further (made_of s.variable.description Controlled s.variable.initial u) _ (λ _ x. HasEnded other x) _
-    (ended_behind_making s.variable.description Controlled s.variable.initial u other (subst (HasEnded other) (sym k.same) e))
+    (ended_after_making s.variable.description Controlled s.variable.initial u other (subst (HasEnded other) (sym k.same) e))
     (λ p x h. record { given = h.given; gone = h.gone }))
 
-pub ended_behind_unstacking : law.EndedBehindUnstacking
+pub ended_after_unstacking : law.EndedAfterUnstacking
 unfolding unstacked
-ended_behind_unstacking number w other e =
+ended_after_unstacking number w other e =
     yields_further (stack_of number w) (λ s w. without_newest_of number s s.places w) (IsKnown (slice_get w.stacks number) w) (λ _ u. HasEnded other u)
     (yields_known (slice_get w.stacks number) w)
     (λ s u k. by s s.places u (subst (HasEnded other) (sym k.same) e))

@@ -21,7 +21,7 @@ use Rattle.pli_stacks.proofs.AnsweredCalls.{first_refused}
 
 -- ---- places
 
--- a place put behind the others is the newest
+-- a place put after the others is the newest
 pub newest_pushed : (places : List CodePlace) (p : CodePlace) → places_view (places ++ p ∷ []) ≡ place_view p ∷ places_view places
 newest_pushed places p = ap (map place_view) (reverse-append places (p ∷ []))
 
@@ -95,37 +95,37 @@ module _ (s : Stacks) (storage : Storage) (number : ℕ) (w : World) (old : Code
   abbrev was : Stack
   was = stack_view old
 
-  pub stacked_refused : (f : StoreFault) (after behind : World)
+  pub stacked_refused : (f : StoreFault) (after later : World)
       → Answered place_view (Err f) (with_storage storage (with_stacks s w)) after
       (made_of was.variable.description Controlled was.variable.initial (with_storage storage (with_stacks s w)))
-      → Answered {T = Unit {0}} (λ _. tt) (Err f) (with_stacks s (with_storage storage w)) behind (stacked number (with_stacks s (with_storage storage w)))
-  stacked_refused f after behind made =
-      subst (Answered {T = Unit {0}} (λ _. tt) (Err f) before behind) (sym (stacked_there number before was there))
-      (first_refused {U = Unit {0}} place_view (λ _. tt) f before after behind (made_of was.variable.description Controlled was.variable.initial before)
+      → Answered {T = Unit {0}} (λ _. tt) (Err f) (with_stacks s (with_storage storage w)) later (stacked number (with_stacks s (with_storage storage w)))
+  stacked_refused f after later made =
+      subst (Answered {T = Unit {0}} (λ _. tt) (Err f) before later) (sym (stacked_there number before was there))
+      (first_refused {U = Unit {0}} place_view (λ _. tt) f before after later (made_of was.variable.description Controlled was.variable.initial before)
       (λ p u. Yields tt (with_places number was (p ∷ was.places) u)) made)
 
-  pub stacked_done : (behind : Storage) (p : CodePlace) (new : CodeStack) → stack_view new ≡ record was { places = place_view p ∷ was.places }
-      → Answered place_view (Ok p) (with_storage storage (with_stacks s w)) (with_storage behind (with_stacks s w))
+  pub stacked_done : (later : Storage) (p : CodePlace) (new : CodeStack) → stack_view new ≡ record was { places = place_view p ∷ was.places }
+      → Answered place_view (Ok p) (with_storage storage (with_stacks s w)) (with_storage later (with_stacks s w))
       (made_of was.variable.description Controlled was.variable.initial (with_storage storage (with_stacks s w)))
       → stacked number (with_stacks s (with_storage storage w))
-      ≡ Yields tt (with_stacks (record { stacks = with_item s.stacks number new }) (with_storage behind w))
-  stacked_done behind p new pushed made =
+      ≡ Yields tt (with_stacks (record { stacks = with_item s.stacks number new }) (with_storage later w))
+  stacked_done later p new pushed made =
       stacked_there number before was there
       ∙ ap (λ a. further a (λ q u. Yields tt (with_places number was (q ∷ was.places) u))) made
-      ∙ ap (λ xs. Yields tt (record (with_storage behind w) { stacks = xs }))
+      ∙ ap (λ xs. Yields tt (record (with_storage later w) { stacks = xs }))
       (ap (slice_set (stacks_view s) number) (sym pushed) ∙ sym (stacks_changed s number new))
 
   pub unstacked_empty : was.places ≡ [] → unstacked number (with_stacks s (with_storage storage w)) ≡ Raises NoGeneration (with_stacks s (with_storage storage w))
   unstacked_empty empty =
       unstacked_there number before was there ∙ ap (λ ps. without_newest_of number was ps before) empty
 
-  pub unstacked_done : (behind : Storage) (p : CodePlace) (new : CodeStack) → was ≡ record (stack_view new) { places = place_view p ∷ (stack_view new).places }
-      → storage_view behind ≡ without (p.generation ∷ []) (storage_view storage) → made_count behind ≡ made_count storage
+  pub unstacked_done : (later : Storage) (p : CodePlace) (new : CodeStack) → was ≡ record (stack_view new) { places = place_view p ∷ (stack_view new).places }
+      → storage_view later ≡ without (p.generation ∷ []) (storage_view storage) → made_count later ≡ made_count storage
       → unstacked number (with_stacks s (with_storage storage w))
-      ≡ Yields tt (with_stacks (record { stacks = with_item s.stacks number new }) (with_storage behind w))
-  unstacked_done behind p new popped ends count =
+      ≡ Yields tt (with_stacks (record { stacks = with_item s.stacks number new }) (with_storage later w))
+  unstacked_done later p new popped ends count =
       unstacked_there number before was there
       ∙ ap (λ (x : Stack). without_newest_of number x x.places before) popped
       ∙ ap (λ gs. Yields tt (record (with_storage storage w) { storage = gs; stacks = slice_set (stacks_view s) number (stack_view new) })) (sym ends)
-      ∙ ap (λ n. Yields tt (record (with_storage behind w) { made = n; stacks = slice_set (stacks_view s) number (stack_view new) })) (sym count)
-      ∙ ap (λ xs. Yields tt (record (with_storage behind w) { stacks = xs })) (sym (stacks_changed s number new))
+      ∙ ap (λ n. Yields tt (record (with_storage later w) { made = n; stacks = slice_set (stacks_view s) number (stack_view new) })) (sym count)
+      ∙ ap (λ xs. Yields tt (record (with_storage later w) { stacks = xs })) (sym (stacks_changed s number new))

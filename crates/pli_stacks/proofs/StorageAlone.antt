@@ -25,12 +25,12 @@ Leaves before (Yields x w) = w ≡ before
 Leaves before (Raises e w) = w ≡ before
 Leaves before Wrong = Unit {0}
 
--- behind an answer that has changed nothing
-pub behind_leaves : {A B : Type 0} (w : World) (a : Answer A) (go : A → World → Answer B) → Leaves w a
+-- after an answer that has changed nothing
+pub after_leaves : {A B : Type 0} (w : World) (a : Answer A) (go : A → World → Answer B) → Leaves w a
     → ((x : A) → AnswerStays w (go x w)) → AnswerStays w (further a go)
-behind_leaves w (Yields x v) go same next = subst (λ u. AnswerStays w (go x u)) (sym same) (next x)
-behind_leaves w (Raises e v) go same next = same
-behind_leaves w Wrong go same next = tt
+after_leaves w (Yields x v) go same next = subst (λ u. AnswerStays w (go x u)) (sym same) (next x)
+after_leaves w (Raises e v) go same next = same
+after_leaves w Wrong go same next = tt
 
 pub known_leaves : {A : Type 0} (o : Option A) (w : World) → Leaves w (known o w)
 known_leaves None w = tt
@@ -50,12 +50,12 @@ making_stays d how vs w =
     by new true false f = tt
     by new false fits f = refl
 
--- behind what makes a generation
-pub behind_made : {A B : Type 0} (w : World) (a : Answer A) (go : A → World → Answer B) → AnswerStays w a
+-- after what makes a generation
+pub after_made : {A B : Type 0} (w : World) (a : Answer A) (go : A → World → Answer B) → AnswerStays w a
     → ((x : A) (v : World) → SameBeside w v → AnswerStays w (go x v)) → AnswerStays w (further a go)
-behind_made w (Yields x v) go f next = next x v f
-behind_made w (Raises e v) go f next = f
-behind_made w Wrong go f next = tt
+after_made w (Yields x v) go f next = next x v f
+after_made w (Raises e v) go f next = f
+after_made w Wrong go f next = tt
 
 -- ---- stacks
 
@@ -64,7 +64,7 @@ stack_leaves number w = known_leaves (slice_get w.stacks number) w
 
 pub newest_stays : law.NewestStays
 unfolding newest
-newest_stays number w = behind_leaves w (stack_of number w) _ (stack_leaves number w) (λ s. by s.places)
+newest_stays number w = after_leaves w (stack_of number w) _ (stack_leaves number w) (λ s. by s.places)
   where
     by : (ps : List Place) → AnswerStays w (newest_in ps w)
     by [] = refl
@@ -73,13 +73,13 @@ newest_stays number w = behind_leaves w (stack_of number w) _ (stack_leaves numb
 pub stacking_stays : law.StackingStays
 unfolding stacked
 stacking_stays number w =
-    behind_leaves w (stack_of number w) _ (stack_leaves number w)
-    (λ s. behind_made w (made_of s.variable.description Controlled s.variable.initial w) _ (making_stays s.variable.description Controlled s.variable.initial w)
+    after_leaves w (stack_of number w) _ (stack_leaves number w)
+    (λ s. after_made w (made_of s.variable.description Controlled s.variable.initial w) _ (making_stays s.variable.description Controlled s.variable.initial w)
     (λ p u f. record { statics = f.statics; activations = f.activations; output = f.output; column = f.column; steps = f.steps }))
 
 pub unstacking_stays : law.UnstackingStays
 unfolding unstacked
-unstacking_stays number w = behind_leaves w (stack_of number w) _ (stack_leaves number w) (λ s. by s s.places)
+unstacking_stays number w = after_leaves w (stack_of number w) _ (stack_leaves number w) (λ s. by s s.places)
   where
     by : (s : Stack) (ps : List Place) → AnswerStays w (without_newest_of number s ps w)
     by s [] = refl
@@ -87,7 +87,7 @@ unstacking_stays number w = behind_leaves w (stack_of number w) _ (stack_leaves 
 
 pub counting_stays : law.CountingStays
 unfolding counted
-counting_stays number w = behind_leaves w (stack_of number w) _ (stack_leaves number w) (λ s. by s.places (nat_le (length s.places) count_limit))
+counting_stays number w = after_leaves w (stack_of number w) _ (stack_leaves number w) (λ s. by s.places (nat_le (length s.places) count_limit))
   where
     by : (ps : List Place) (b : Bool) → AnswerStays w (if b then Yields (length ps) w else Raises FixedOverflow w)
     by ps true = same_beside w

@@ -24,7 +24,7 @@ pub yields_guarded : {A : Type 0} (b : Bool) (done refused : Answer A) (says : A
 yields_guarded true done refused says y n = y
 yields_guarded false done refused says y n = n
 
--- the world behind a new generation
+-- the world after a new generation
 abbrev pub made_world : Description → Made → List Value → World → World
 made_world d how vs w = record w {
   storage = w.storage ++ record { number = w.made; description = d; made = how; values = vs; blocks = [] } ∷ [];

@@ -1,7 +1,7 @@
 //! Laws and worked examples of the generations of CONTROLLED variables.
 ghost use Rattle.pli_stacks.specs.laws.Operations.{NewestStays, StackingStays, UnstackingStays, CountingStays};
-ghost use Rattle.pli_stacks.specs.laws.Operations.{SameBesideFollows, EndedBehindMaking, EndedBehindStacking};
-ghost use Rattle.pli_stacks.specs.laws.Operations.{EndedBehindUnstacking, BesideStacked, NewestGoes, OtherStacks};
+ghost use Rattle.pli_stacks.specs.laws.Operations.{SameBesideFollows, EndedAfterMaking, EndedAfterStacking};
+ghost use Rattle.pli_stacks.specs.laws.Operations.{EndedAfterUnstacking, BesideStacked, NewestGoes, OtherStacks};
 ghost use Rattle.pli_stacks.specs.examples.StackExamples.{NewestIsMeant, BeginsAgain, OlderIsLeft, PlaceStays};
 ghost use Rattle.pli_stacks.specs.examples.StackExamples.{NoneIsLeft, NoStack};
 
@@ -18,9 +18,9 @@ pub fn storage_alone_changes()
 /// A law: no number of a generation is used again. What has ended stays so whatever is made, and whatever is allocated
 /// and freed of CONTROLLED variables.
 pub fn numbers_stay_given()
-    ensures making { EndedBehindMaking }
-    ensures stacking { EndedBehindStacking }
-    ensures unstacking { EndedBehindUnstacking }
+    ensures making { EndedAfterMaking }
+    ensures stacking { EndedAfterStacking }
+    ensures unstacking { EndedAfterUnstacking }
 {}
 
 /// A law: what lives beside stays as it is. ALLOCATE of a CONTROLLED variable changes no generation that lives, FREE

@@ -79,7 +79,7 @@ impl AreaModel {
         self.blocks.iter().map(|block| block.end).max().unwrap_or(0)
     }
 
-    /// Whether no block covers anything from a start to an end, and this is not behind the capacity.
+    /// Whether no block covers anything from a start to an end, and this is not past the capacity.
     fn is_free(&self, start: u64, end: u64) -> bool {
         end <= u64::from(self.capacity)
             && self
@@ -157,7 +157,7 @@ impl AreaModel {
         }
     }
 
-    /// Has these blocks in the place of all, if none ends behind the capacity.
+    /// Has these blocks in the place of all, if none ends past the capacity.
     pub(crate) fn take_over(&mut self, blocks: Vec<ModelBlock>) -> bool {
         let capacity = u64::from(self.capacity);
         let fits = blocks.iter().all(|block| block.end <= capacity);

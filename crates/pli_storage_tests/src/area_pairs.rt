@@ -70,12 +70,12 @@ pub(crate) fn assign(
 ) -> Answer {
     assert!(rt; target < areas.len() && source < areas.len());
     if target < source {
-        let (front, behind) = areas.split_at_mut(source);
-        return front[target].assign(rt, &behind[0]);
+        let (front, after) = areas.split_at_mut(source);
+        return front[target].assign(rt, &after[0]);
     }
     if source < target {
-        let (front, behind) = areas.split_at_mut(target);
-        return behind[0].assign(rt, &front[source]);
+        let (front, after) = areas.split_at_mut(target);
+        return after[0].assign(rt, &front[source]);
     }
     Answer::Done
 }

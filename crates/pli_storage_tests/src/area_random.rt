@@ -26,7 +26,7 @@ impl Numbers {
         }
     }
 
-    /// A position: mostly that of a block, else any up to 9 behind the capacity.
+    /// A position: mostly that of a block, else any up to 9 past the capacity.
     fn position(&mut self, area: &AreaPair) -> u32 {
         let number = self.index(area.model.count());
         match area.model.place(number) {

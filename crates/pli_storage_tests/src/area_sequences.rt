@@ -17,7 +17,7 @@ static SEQUENCES: &str = "\
 new 32; allocate 8 => 8; allocate 8 => 24; allocate 1 => full; count => 2; extent => 32; release 8 => done
 count => 1; extent => 32; B new 24; B assign A => full; release 24 => done; release 24 => dead
 allocate 16 of 2 => 8; extent => 24; B assign A => done; B find 24 => dead; B find 8 => 16 of 2
-// four blocks fill 64 bytes; an area of 32 takes two of them only once none stands behind
+// four blocks fill 64 bytes; an area of 32 takes two of them only once none stands after them
 new 64; allocate 8 => 8; allocate 8 => 24; allocate 8 => 40; allocate 8 => 56; allocate 8 => full
 release 8 => done; release 24 => done; B new 32; B assign A => full; release 40 => done; release 56 => done
 count => 0; extent => 0; allocate 8 => 8; allocate 8 => 24; B assign A => done; B count => 2; B extent => 32
@@ -34,7 +34,7 @@ release 56 => done; allocate 8 of 2 => 8; allocate 8 => 24; allocate 8 => 56; al
 new 136; allocate 8 => 8; allocate 0 => 24; allocate 16 => 32; allocate 0 => 56; allocate 24 => 64
 allocate 0 => 96; release 8 => done; release 32 => done; release 64 => done; allocate 24 => 64
 allocate 32 => 104; allocate 16 => 32; allocate 16 => full; allocate 8 => 8; allocate 0 => full
-// what is behind the last block is the last hole
+// what is after the last block is the last hole
 new 64; allocate 8 => 8; allocate 8 => 24; release 8 => done; allocate 9 => 40; allocate 8 => 8
 allocate 1 => full; allocate 0 => 64; extent => 64; allocate 0 => full
 // holes are taken by their places, not in the order in which they came
@@ -47,7 +47,7 @@ allocate 16 => 32; allocate 0 => full; count => 4
 new 48; allocate 8 => 8; allocate 8 => 24; allocate 8 => 40; release 8 => done; release 24 => done
 allocate 25 => full; allocate 24 of 2 => 8; allocate 0 => full; count => 2; find 8 => 24 of 2
 find 24 => dead
-// a hole is joined with the one behind it
+// a hole is joined with the one after it
 new 48; allocate 8 => 8; allocate 8 => 24; allocate 8 => 40; release 24 => done; release 8 => done
 allocate 25 => full; allocate 24 of 2 => 8; allocate 0 => full; count => 2; find 8 => 24 of 2
 find 24 => dead
@@ -55,7 +55,7 @@ find 24 => dead
 new 48; allocate 8 => 8; allocate 8 => 24; allocate 8 => 40; release 8 => done; release 40 => done
 allocate 40 => full; count => 1; extent => 32; release 24 => done; allocate 41 => full; allocate 40 => 8
 extent => 48
-// the last block's hole is joined with what is behind it
+// the last block's hole is joined with what is after it
 new 64; allocate 8 => 8; allocate 8 => 24; release 24 => done; extent => 16; allocate 41 => full
 allocate 40 => 24; extent => 64; allocate 0 => full
 // blocks are released in mixed order, and one hole is left
@@ -74,7 +74,7 @@ new 56; allocate 8 => 8; allocate 33 => full; allocate 32 => 24; extent => 56; a
 // one block fills an area
 new 40; allocate 33 => full; allocate 32 => 8; extent => 40; allocate 0 => full; release 8 => done
 allocate 25 of 2 => 8; extent => 40; find 8 => 25 of 2; allocate 0 => full
-// a hole is one byte too short, between blocks and behind them
+// a hole is one byte too short, between blocks and after them
 new 80; allocate 8 => 8; allocate 8 => 24; allocate 8 => 40; release 8 => done; allocate 9 of 2 => 56
 allocate 1 of 3 => 8; allocate 1 => full; allocate 0 => 80; find 56 => 9 of 2; find 8 => 1 of 3; count => 5
 extent => 80
@@ -119,7 +119,7 @@ release 64 => done; extent => 56; release 40 => done; extent => 32; allocate 17 
 // a smaller block in the place of a larger one
 new 40; allocate 16 => 8; allocate 8 => 32; release 8 => done; allocate 3 of 2 => 8; allocate 1 => full
 allocate 0 of 3 => 24; allocate 0 => full; find 8 => 3 of 2; find 24 => 0 of 3; find 32 => 8 of 1
-// a size of 0 takes a header, every other a multiple of 8 behind it
+// a size of 0 takes a header, every other a multiple of 8 after it
 new 24; allocate 0 => 8; allocate 0 => 16; allocate 1 => full; allocate 0 => 24; allocate 0 => full
 count => 3; extent => 24; find 16 => 0 of 1; release 16 => done; release 8 => done; allocate 1 of 2 => 8
 count => 2; find 8 => 1 of 2
@@ -127,7 +127,7 @@ count => 2; find 8 => 1 of 2
 new 32; allocate 0 => 8; allocate 0 => 16; allocate 0 => 24; allocate 0 => 32; release 24 => done
 allocate 1 => full; release 16 => done; allocate 9 => full; allocate 8 of 2 => 16; find 24 => dead
 extent => 32; count => 3; allocate 0 => full
-// assigned blocks keep their positions, and what is behind them is one hole
+// assigned blocks keep their positions, and what is after them is one hole
 new 40; allocate 8 => 8; allocate 8 of 2 => 24; release 8 => done; B new 80; B assign A => done
 B find 8 => dead; B find 24 => 8 of 2; B extent => 32; B count => 1; B capacity => 80; B allocate 41 => full
 B allocate 40 of 3 => 40; B allocate 8 of 4 => 8; B allocate 0 => full; B count => 3; count => 1
@@ -169,7 +169,7 @@ fn sequences(rt: HostRuntime) {
     run(&rt, rt.alloc(), SEQUENCES);
 }
 
-/// Whether position 24 is dead once these bytes are written 8 bytes behind position 8.
+/// Whether position 24 is dead once these bytes are written 8 bytes after position 8.
 fn is_dead_below(rt: &impl Abort, alloc: Global, area: &mut AreaPair, bytes: &[u8]) -> bool {
     let call = Call::Write(8, 8, bytes);
     area.answer(rt, alloc, call) == Answer::Done

@@ -53,7 +53,7 @@ make a60 => 0; make a60 => 1; in 0 n15 1 => ^0+8; offset 0 ^0+8 => @8; offset 0 
 pointer 0 @8 => ^0+8; pointer 1 @8 => ^1+8; offset 1 ^0+8 => E7; offset 0 ^0 => E7; offset 0 ^1+8 => E7
 offset 0 ^0+32 => @32; offset 0 @8 => wrong; pointer 0 null => wrong; pointer 0 ^0+8 => wrong; free n15 ^0+8
 offset 0 ^0+8 => @8
-// an offset leads to the same block in both areas behind an assignment
+// an offset leads to the same block in both areas after an assignment
 make a60 => 0; make a32 => 1; in 0 n15 7 => ^0+8; offset 0 ^0+8 => @8; assign 0 1; pointer 1 @8 => ^1+8
 based n15 ^1+8 => ^1+8; held #0+0:n15 => 7
 // what is no whole area is none

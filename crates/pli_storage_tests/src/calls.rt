@@ -14,11 +14,11 @@ pub(crate) enum Whole {
     Met(usize),
 }
 
-/// Where a call leads: into the whole of something, there so many bytes behind its beginning, so many multiples
+/// Where a call leads: into the whole of something, there so many bytes after its beginning, so many multiples
 /// further as a subscript is above a low bound, and so many bytes further again, to a part of the description of a
 /// number.
 #[derive(Clone, Copy)]
-pub(crate) struct Spot {
+pub(crate) struct Reference {
     pub(crate) whole: Whole,
     pub(crate) first: u32,
     pub(crate) low: i32,
@@ -28,10 +28,10 @@ pub(crate) struct Spot {
     pub(crate) shape: usize,
 }
 
-impl Spot {
-    /// The part of the description of a number that stands so many bytes behind the beginning.
-    pub(crate) fn new(whole: Whole, offset: u32, shape: usize) -> Spot {
-        Spot {
+impl Reference {
+    /// The part of the description of a number that stands so many bytes after the beginning.
+    pub(crate) fn new(whole: Whole, offset: u32, shape: usize) -> Reference {
+        Reference {
             whole,
             first: offset,
             low: 0,
@@ -42,7 +42,7 @@ impl Spot {
         }
     }
 
-    /// How many bytes it stands behind the beginning; the greatest number of 64 bits where they are no fewer.
+    /// How many bytes it stands after the beginning; the greatest number of 64 bits where they are no fewer.
     pub(crate) fn offset(&self) -> u64 {
         let passed = u64::from(self.subscript.abs_diff(self.low));
         passed
@@ -61,7 +61,7 @@ pub(crate) enum Use {
     Text,
     Store(Item),
     Put(i64),
-    /// Characters are put behind others, where both are no more than so many.
+    /// Characters are put after others, where both are no more than so many.
     Append(Text, usize),
     Address,
     Empty,
@@ -81,7 +81,7 @@ pub(crate) enum Call<'a> {
     End(&'a [u32]),
     /// ALLOCATE of a BASED variable, in an area, a reference to one, and FREE.
     Allocate(usize, &'a [Item]),
-    AllocateIn(Spot, usize, &'a [Item]),
+    AllocateIn(Reference, usize, &'a [Item]),
     Based(usize, Locator),
     Free(usize, Locator),
     /// A stack more, of a CONTROLLED variable of a description; ALLOCATE of the variable of a stack, a reference to it,
@@ -91,10 +91,10 @@ pub(crate) enum Call<'a> {
     Newest(usize),
     Count(usize),
     Pop(usize),
-    At(Spot, Use),
+    At(Reference, Use),
     /// What the first place holds is put at the second; blocks of an area.
-    Copy(Spot, Spot),
-    Assign(Spot, Spot),
+    Copy(Reference, Reference),
+    Assign(Reference, Reference),
 }
 
 /// What a call answers.
@@ -107,7 +107,7 @@ pub(crate) enum Answer {
     Raised(RunError),
     /// No rule gives an answer.
     Wrong,
-    /// A place would lie too far behind the beginning, or in a block of an area, where no such call leads.
+    /// A place would lie too far from the beginning, or in a block of an area, where no such call leads.
     Far,
     /// A value, the number of a generation or of a stack, or how many there are.
     Gives(Item),

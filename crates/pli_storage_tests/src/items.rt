@@ -8,10 +8,10 @@ use std::alloc::Global;
 use std::fmt;
 use std::process::Abort;
 
-/// How many characters of a string are told apart; all behind them are blanks.
+/// How many characters of a string are told apart; all after them are blanks.
 const SHOWN: usize = 32;
 
-/// A string: its length, and its first characters, with zeros behind a short one.
+/// A string: its length, and its first characters, with zeros after a short one.
 #[derive(Clone, Copy, PartialEq, Eq)]
 pub(crate) struct Text {
     length: u16,
@@ -48,9 +48,9 @@ impl Text {
     }
 
     /// Both, where all their characters are shown.
-    pub(crate) fn and(self, rt: &impl Abort, behind: Text) -> Text {
+    pub(crate) fn and(self, rt: &impl Abort, after: Text) -> Text {
         let mut both = self;
-        for character in behind.characters(rt) {
+        for character in after.characters(rt) {
             let place = both.length();
             *both.shown.get_mut(place).expect(rt, "a short text") = *character;
             both.length = both.length.saturating_add(1);
@@ -168,9 +168,9 @@ impl Item {
                 None => Item::Number(word.parse().expect(rt, "a number")),
             };
         };
-        let (text, behind) = quoted.split_once('\'').expect(rt, "a quote");
+        let (text, after) = quoted.split_once('\'').expect(rt, "a quote");
         let text = Text::of(rt, text.as_bytes());
-        if behind == "B" {
+        if after == "B" {
             Item::Bits(text)
         } else {
             Item::Characters(text)

@@ -2,7 +2,7 @@
 //! lists of their numbers.
 
 use crate::area_model::AreaModel;
-use crate::calls::{Answer, Spot, Whole};
+use crate::calls::{Answer, Reference, Whole};
 use crate::items::{Item, Text};
 use crate::shapes::Shape;
 use crate::values::{Content, Values};
@@ -220,15 +220,16 @@ impl<'m> Model<'m> {
     }
 
     /// Where the values of a place begin.
-    fn find(&self, rt: &impl Abort, spot: Spot) -> Result<usize, Answer> {
-        let content = self.met(rt, self.meeting(rt, spot.whole))?;
-        self.values.part(rt, content, spot.offset(), spot.shape)
+    fn find(&self, rt: &impl Abort, reference: Reference) -> Result<usize, Answer> {
+        let content = self.met(rt, self.meeting(rt, reference.whole))?;
+        self.values
+            .part(rt, content, reference.offset(), reference.shape)
     }
 
     /// What the place of a scalar holds.
-    pub(crate) fn held(&self, rt: &impl Abort, spot: Spot) -> Answer {
-        match self.find(rt, spot) {
-            Ok(start) if is_scalar(&self.values.shape(rt, spot.shape).description) => {
+    pub(crate) fn held(&self, rt: &impl Abort, reference: Reference) -> Answer {
+        match self.find(rt, reference) {
+            Ok(start) if is_scalar(&self.values.shape(rt, reference.shape).description) => {
                 Answer::Gives(self.values.value(rt, start))
             }
             Ok(_) => Answer::Wrong,
@@ -237,9 +238,9 @@ impl<'m> Model<'m> {
     }
 
     /// Puts a value at the place of a scalar.
-    pub(crate) fn store(&mut self, rt: &impl Abort, spot: Spot, item: Item) -> Answer {
-        match self.find(rt, spot) {
-            Ok(start) if item.fits(&self.values.shape(rt, spot.shape).description) => {
+    pub(crate) fn store(&mut self, rt: &impl Abort, reference: Reference, item: Item) -> Answer {
+        match self.find(rt, reference) {
+            Ok(start) if item.fits(&self.values.shape(rt, reference.shape).description) => {
                 self.values.put(rt, start, item);
                 Answer::Done
             }
@@ -248,24 +249,30 @@ impl<'m> Model<'m> {
         }
     }
 
-    /// Puts characters behind those of a string that varies, where both are no more than so many.
-    pub(crate) fn append(&mut self, rt: &impl Abort, spot: Spot, more: Text, room: usize) -> bool {
-        let Description::Varying(_) = self.values.shape(rt, spot.shape).description else {
+    /// Puts characters after those of a string that varies, where both are no more than so many.
+    pub(crate) fn append(
+        &mut self,
+        rt: &impl Abort,
+        reference: Reference,
+        more: Text,
+        room: usize,
+    ) -> bool {
+        let Description::Varying(_) = self.values.shape(rt, reference.shape).description else {
             return false;
         };
-        let Answer::Gives(Item::Characters(text)) = self.held(rt, spot) else {
+        let Answer::Gives(Item::Characters(text)) = self.held(rt, reference) else {
             return false;
         };
         let both = text.and(rt, more);
-        both.length() <= room && self.store(rt, spot, Item::Characters(both)) == Answer::Done
+        both.length() <= room && self.store(rt, reference, Item::Characters(both)) == Answer::Done
     }
 
     /// Puts what one place, which is no area's, holds at another.
     pub(crate) fn copy(
         &mut self,
         rt: &impl Abort,
-        source: Spot,
-        target: Spot,
+        source: Reference,
+        target: Reference,
     ) -> Result<Answer, Answer> {
         let described = self.values.shape(rt, source.shape);
         let from = self.find(rt, source)?;

@@ -1,6 +1,6 @@
 //! Calls on plain storage by locators, in areas and on stacks; and which call is which.
 
-use crate::calls::{Answer, Call, Spot, Use};
+use crate::calls::{Answer, Call, Reference, Use};
 use crate::items::Item;
 use crate::model::{MISMATCH, Meeting, Model, StackModel};
 use pli_map::is_area;
@@ -62,10 +62,10 @@ impl<'m> Model<'m> {
     }
 
     /// ADDR of a place.
-    fn address(&self, rt: &impl Abort, spot: Spot) -> Result<Answer, Answer> {
-        let meeting = self.meeting(rt, spot.whole);
+    fn address(&self, rt: &impl Abort, reference: Reference) -> Result<Answer, Answer> {
+        let meeting = self.meeting(rt, reference.whole);
         let content = self.met(rt, meeting)?;
-        if spot.offset() == 0 && spot.shape == content.shape {
+        if reference.offset() == 0 && reference.shape == content.shape {
             Ok(Answer::locator(meeting.locator()))
         } else {
             Err(Answer::Wrong)
@@ -73,11 +73,13 @@ impl<'m> Model<'m> {
     }
 
     /// The generation that is an area, of which a place is the whole.
-    fn area(&self, rt: &impl Abort, spot: Spot) -> Result<u32, Answer> {
-        let meeting = self.meeting(rt, spot.whole);
+    fn area(&self, rt: &impl Abort, reference: Reference) -> Result<u32, Answer> {
+        let meeting = self.meeting(rt, reference.whole);
         let content = self.met(rt, meeting)?;
         let is_area = is_area(&self.values.shape(rt, content.shape).description);
-        let is_whole = meeting.position == 0 && spot.offset() == 0 && spot.shape == content.shape;
+        let is_whole = meeting.position == 0
+            && reference.offset() == 0
+            && reference.shape == content.shape;
         if is_area && is_whole {
             Ok(meeting.generation)
         } else {
@@ -90,7 +92,7 @@ impl<'m> Model<'m> {
         &mut self,
         rt: &impl Abort,
         alloc: Global,
-        area: Spot,
+        area: Reference,
         shape: usize,
         given: &[Item],
     ) -> Result<Answer, Answer> {
@@ -111,14 +113,19 @@ impl<'m> Model<'m> {
     }
 
     /// All blocks of an area end.
-    fn empty(&mut self, rt: &impl Abort, area: Spot) -> Result<Answer, Answer> {
+    fn empty(&mut self, rt: &impl Abort, area: Reference) -> Result<Answer, Answer> {
         let generation = self.area(rt, area)?;
         self.kept_mut(rt, generation).area.blocks.clear();
         Ok(Answer::Done)
     }
 
     /// The blocks of one area stand in the other, with what they hold.
-    fn assign(&mut self, rt: &impl Abort, source: Spot, target: Spot) -> Result<Answer, Answer> {
+    fn assign(
+        &mut self,
+        rt: &impl Abort,
+        source: Reference,
+        target: Reference,
+    ) -> Result<Answer, Answer> {
         let from = self.area(rt, source)?;
         let to = self.area(rt, target)?;
         let blocks = &self.kept(rt, from).area.blocks;
@@ -137,7 +144,7 @@ impl<'m> Model<'m> {
     }
 
     /// A pointer as an offset of an area.
-    fn offset(&self, rt: &impl Abort, area: Spot, locator: Locator) -> Result<Answer, Answer> {
+    fn offset(&self, rt: &impl Abort, area: Reference, locator: Locator) -> Result<Answer, Answer> {
         if let Locator::Offset(_) = locator {
             return Err(Answer::Wrong);
         }
@@ -155,7 +162,12 @@ impl<'m> Model<'m> {
     }
 
     /// An offset as a pointer into an area.
-    fn pointer(&self, rt: &impl Abort, area: Spot, locator: Locator) -> Result<Answer, Answer> {
+    fn pointer(
+        &self,
+        rt: &impl Abort,
+        area: Reference,
+        locator: Locator,
+    ) -> Result<Answer, Answer> {
         let Locator::Offset(position) = locator else {
             return Err(Answer::Wrong);
         };
@@ -269,8 +281,8 @@ impl<'m> Model<'m> {
     }
 
     /// What is held at a place, if it is a number, or characters.
-    fn held_as(&self, rt: &impl Abort, spot: Spot, number: bool) -> Answer {
-        match self.held(rt, spot) {
+    fn held_as(&self, rt: &impl Abort, reference: Reference, number: bool) -> Answer {
+        match self.held(rt, reference) {
             Answer::Gives(Item::Number(x)) if number => Answer::Gives(Item::Number(x)),
             Answer::Gives(Item::Characters(text)) if !number => Answer::Gives(Item::Characters(
                 text,
@@ -280,20 +292,20 @@ impl<'m> Model<'m> {
     }
 
     /// Does something at a place.
-    fn at(&mut self, rt: &impl Abort, spot: Spot, call: Use) -> Answer {
+    fn at(&mut self, rt: &impl Abort, reference: Reference, call: Use) -> Answer {
         match call {
-            Use::Held => self.held(rt, spot),
-            Use::Number => self.held_as(rt, spot, true),
-            Use::Text => self.held_as(rt, spot, false),
-            Use::Store(item) => self.store(rt, spot, item),
+            Use::Held => self.held(rt, reference),
+            Use::Number => self.held_as(rt, reference, true),
+            Use::Text => self.held_as(rt, reference, false),
+            Use::Store(item) => self.store(rt, reference, item),
             Use::Put(number) => {
-                Answer::of(self.store(rt, spot, Item::Number(number)) == Answer::Done)
+                Answer::of(self.store(rt, reference, Item::Number(number)) == Answer::Done)
             }
-            Use::Append(more, room) => Answer::of(self.append(rt, spot, more, room)),
-            Use::Address => either(self.address(rt, spot)),
-            Use::Empty => either(self.empty(rt, spot)),
-            Use::Offset(locator) => either(self.offset(rt, spot, locator)),
-            Use::Pointer(locator) => either(self.pointer(rt, spot, locator)),
+            Use::Append(more, room) => Answer::of(self.append(rt, reference, more, room)),
+            Use::Address => either(self.address(rt, reference)),
+            Use::Empty => either(self.empty(rt, reference)),
+            Use::Offset(locator) => either(self.offset(rt, reference, locator)),
+            Use::Pointer(locator) => either(self.pointer(rt, reference, locator)),
         }
     }
 
@@ -323,7 +335,7 @@ impl<'m> Model<'m> {
             },
             Call::Count(list) => either(self.counted(list)),
             Call::Pop(list) => either(self.pop(rt, list)),
-            Call::At(spot, call) => self.at(rt, spot, call),
+            Call::At(reference, call) => self.at(rt, reference, call),
             Call::Copy(source, target) => either(self.copy(rt, source, target)),
             Call::Assign(source, target) => either(self.assign(rt, source, target)),
         }

@@ -1,6 +1,6 @@
 //! Storage and its model, on which the same calls are made.
 
-use crate::calls::{Answer, Call, Spot, Use, Whole};
+use crate::calls::{Answer, Call, Reference, Use, Whole};
 use crate::model::Model;
 use crate::shapes::Shape;
 use crate::tested::Tested;
@@ -44,8 +44,8 @@ impl<'m> Pair<'m> {
         for part in self.model.values.shape(rt, shape).parts.iter() {
             if part.is_scalar {
                 let offset = u32::try_from(part.offset).expect(rt, "an offset");
-                let spot = Spot::new(whole, offset, part.shape);
-                self.answer(rt, alloc, Call::At(spot, Use::Held));
+                let reference = Reference::new(whole, offset, part.shape);
+                self.answer(rt, alloc, Call::At(reference, Use::Held));
             }
         }
     }

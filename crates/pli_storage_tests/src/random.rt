@@ -1,6 +1,6 @@
 //! Random sequences of calls on storage, each with the answers of the model.
 
-use crate::calls::{Answer, Call, Spot, Use, Whole};
+use crate::calls::{Answer, Call, Reference, Use, Whole};
 use crate::items::{Item, Text};
 use crate::model::Meeting;
 use crate::numbers::Numbers;
@@ -17,7 +17,7 @@ use std::test::*;
 const SMALL: u64 = 64;
 
 impl Numbers {
-    /// So many characters, from one on to another so many behind it.
+    /// So many characters, from one on to another so many after it.
     fn characters(&mut self, rt: &impl Abort, count: u16, first: u8, others: u8) -> Text {
         let mut text = [0; 16];
         let count = usize::from(count).min(16);
@@ -100,8 +100,8 @@ impl Numbers {
         items
     }
 
-    /// A place so many bytes behind the beginning of something, by any way that leads there.
-    fn way(&mut self, whole: Whole, offset: u32, shape: usize) -> Spot {
+    /// A place so many bytes after the beginning of something, by any way that leads there.
+    fn way(&mut self, whole: Whole, offset: u32, shape: usize) -> Reference {
         let first = match self.up_to(3) {
             0 => self.up_to(offset),
             1 => 0,
@@ -110,7 +110,7 @@ impl Numbers {
         let multiplier = self.up_to(7) + 1;
         let low = self.up_to(200) as i32 - 100;
         let passed = i32::try_from((offset - first) / multiplier).unwrap_or(0);
-        Spot {
+        Reference {
             whole,
             first,
             low,
@@ -122,7 +122,7 @@ impl Numbers {
     }
 
     /// A place in something: mostly that of a part of it.
-    fn spot(&mut self, rt: &impl Abort, pair: &Pair<'_>, whole: Whole) -> Spot {
+    fn reference(&mut self, rt: &impl Abort, pair: &Pair<'_>, whole: Whole) -> Reference {
         let shapes = pair.model.values.shapes;
         let shape = pair.model.meeting(rt, whole).shape;
         let parts = &pair.model.values.shape(rt, shape).parts;
@@ -153,9 +153,9 @@ impl Numbers {
     }
 
     /// A place in anything.
-    fn place(&mut self, rt: &impl Abort, pair: &Pair<'_>) -> Spot {
+    fn place(&mut self, rt: &impl Abort, pair: &Pair<'_>) -> Reference {
         let whole = self.whole(pair);
-        self.spot(rt, pair, whole)
+        self.reference(rt, pair, whole)
     }
 
     /// A locator, and a description: mostly what is at a position of a generation, and that of it.
@@ -207,7 +207,7 @@ fn make(
     pair.answer(rt, alloc, call)
 }
 
-/// What is done at a place, where a value is at hand.
+/// What is done at a place, where a value is given.
 fn use_with(numbers: &mut Numbers, item: Item) -> Use {
     match (numbers.up_to(9), item) {
         (0, _) => Use::Held,
@@ -222,20 +222,20 @@ fn use_with(numbers: &mut Numbers, item: Item) -> Use {
 
 /// Makes a call on a place, or copies from it, mostly to one of the same description.
 fn use_place(rt: &impl Abort, alloc: Global, numbers: &mut Numbers, pair: &mut Pair<'_>) -> Answer {
-    let spot = numbers.place(rt, pair);
+    let reference = numbers.place(rt, pair);
     if numbers.up_to(7) > 0 {
-        let description = &pair.model.values.shape(rt, spot.shape).description;
+        let description = &pair.model.values.shape(rt, reference.shape).description;
         let item = numbers.item(rt, description);
-        return pair.answer(rt, alloc, Call::At(spot, use_with(numbers, item)));
+        return pair.answer(rt, alloc, Call::At(reference, use_with(numbers, item)));
     }
-    let mut target = spot;
+    let mut target = reference;
     for _ in 0..8 {
         target = numbers.place(rt, pair);
-        if target.shape == spot.shape {
+        if target.shape == reference.shape {
             break;
         }
     }
-    pair.answer(rt, alloc, Call::Copy(spot, target))
+    pair.answer(rt, alloc, Call::Copy(reference, target))
 }
 
 /// Makes a call by a locator.
@@ -265,12 +265,12 @@ fn use_stack(rt: &impl Abort, alloc: Global, numbers: &mut Numbers, pair: &mut P
 }
 
 /// The whole of a late generation, mostly.
-fn likely_area(rt: &impl Abort, numbers: &mut Numbers, pair: &Pair<'_>) -> Spot {
+fn likely_area(rt: &impl Abort, numbers: &mut Numbers, pair: &Pair<'_>) -> Reference {
     for _ in 0..16 {
         let whole = numbers.whole(pair);
         let shape = pair.model.meeting(rt, whole).shape;
         if shape < AREAS {
-            return Spot::new(whole, 0, shape);
+            return Reference::new(whole, 0, shape);
         }
     }
     numbers.place(rt, pair)

@@ -21,7 +21,7 @@ pub(crate) const AREAS: usize = 3;
 
 pub(crate) const IN_AREAS: usize = 14;
 
-/// A part of a description: how many bytes behind the beginning it stands, how many scalars before it, and its own
+/// A part of a description: how many bytes after the beginning it stands, how many scalars before it, and its own
 /// description's number.
 #[derive(Clone, Copy)]
 pub(crate) struct Part {
@@ -54,7 +54,7 @@ impl Shape {
         None
     }
 
-    /// What stands so many bytes behind the beginning is a part, and its parts are.
+    /// What stands so many bytes after the beginning is a part, and its parts are.
     fn add(&mut self, rt: &impl Abort, inner: &Shape, offset: u64) {
         for part in inner.parts.iter() {
             let moved = Part {
@@ -84,7 +84,7 @@ fn shape_of<'a>(rt: &impl Abort, shapes: &'a [Shape], name: &str) -> &'a Shape {
     shapes.get(number).expect(rt, "a description")
 }
 
-/// The description of a scalar or an area, by the letter of its name and the number behind it.
+/// The description of a scalar or an area, by the letter of its name and the number after it.
 fn elementary(rt: &impl Abort, name: &str) -> Description {
     if name == "p" {
         return Description::Pointer;

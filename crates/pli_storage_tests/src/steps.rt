@@ -29,7 +29,7 @@ impl<'a> Step<'a> {
 }
 
 /// The steps of a sequence, which is a title and on further lines calls, between which `; ` stands. The answer stands
-/// behind ` => `; where none is written, it is `done`.
+/// after ` => `; where none is written, it is `done`.
 pub(crate) fn steps<'a>(rt: &impl Abort, alloc: Global, sequence: &'a str) -> Vec<Step<'a>> {
     let (title, lines) = sequence.split_once('\n').unwrap_or((sequence, ""));
     let mut steps = Vec::new(alloc);

@@ -5,11 +5,11 @@ use std::test::*;
 
 /// Sequences of calls with every answer, in the form that `run` reads; where none is written, it is `done`. `make
 /// pair 'A' 7 => 2` makes generation 2 with these values for its scalars; without values it begins with zeros,
-/// blanks, empty strings and null locators. `held 2+2:n15` is what the number holds that stands 2 bytes behind its
+/// blanks, empty strings and null locators. `held 2+2:n15` is what the number holds that stands 2 bytes after its
 /// beginning, and so are `number` and `text`, which give nothing but numbers and characters. `store` puts a value,
-/// `put` a number, `append` characters behind others where both are no more than so many, and `copy` what the first
+/// `put` a number, `append` characters after others where both are no more than so many, and `copy` what the first
 /// place holds at the second. `room` asks whether there is room for a generation. `wrong` says that no rule gives an
-/// answer, and `far` that a place would lie more than 1,000,000 bytes behind the beginning.
+/// answer, and `far` that a place would lie more than 1,000,000 bytes after the beginning.
 static SEQUENCES: &str = "\
 // generations are numbered from 0, in the order in which they are made
 make n15 => 0; make c4 => 1; make pairs => 2; make empty => 3; dummy n15 5 => 4; held 4 => 5; held 0 => 0
@@ -150,15 +150,15 @@ make letters => 1; store 1+2:c1 'X'; held 1+1:c1 => ' '; held 1+2:c1 => 'X'; hel
 make v3 => 0; text 0 => ''; store 0 'A'; text 0 => 'A'; store 0 'ABC'; text 0 => 'ABC'; store 0 'ABCD' => wrong
 text 0 => 'ABC'; store 0 'D'; held 0 => 'D'; store 0 ''; held 0 => ''; make v1 'A' => 1; append 1 'B' 9 => no
 store 1 ''; append 1 'B' 9 => yes; held 1 => 'B'
-// characters are put behind others up to the greatest length
+// characters are put after others up to the greatest length
 make v9 => 0; append 0 'ABC' 9 => yes; text 0 => 'ABC'; append 0 'DEF' 9 => yes; append 0 '' 9 => yes
 append 0 'GHIJ' 9 => no; text 0 => 'ABCDEF'; append 0 'GHI' 9 => yes; text 0 => 'ABCDEFGHI'; append 0 'J' 99 => no
 append 0 '' 99 => yes; held 0 => 'ABCDEFGHI'
-// no more characters are put behind others than there is room for
+// no more characters are put after others than there is room for
 make v9 'ABC' => 0; append 0 'DE' 4 => no; held 0 => 'ABC'; append 0 'D' 4 => yes; append 0 '' 4 => yes
 append 0 '' 3 => no; append 0 'E' 4 => no; append 0 'E' 5 => yes; held 0 => 'ABCDE'; append 0 '' 0 => no; make v9 => 1
 append 1 '' 0 => yes; append 1 'A' 0 => no; held 1 => ''
-// a string that is shortened and lengthened shows nothing of what stood behind it
+// a string that is shortened and lengthened shows nothing of what stood after it
 make v9 'ABCDEFGHI' => 0; store 0 'X'; held 0 => 'X'; append 0 'Y' 9 => yes; held 0 => 'XY'; append 0 '' 9 => yes
 held 0 => 'XY'; store 0 ''; text 0 => ''; append 0 'PQ' 9 => yes; text 0 => 'PQ'; store 0 'RSTUVWXYZ'
 held 0 => 'RSTUVWXYZ'; make v9 'K' => 1; copy 1 0; held 0 => 'K'; append 0 'L' 9 => yes; held 0 => 'KL'
@@ -210,7 +210,7 @@ held 1+764:n31 => 6; held 1+768:n31 => 7; held 1+796:n31 => 8; held 1+260:n31 =>
 make pairs => 0; put 0+10:n15 7 => yes; held 0+0+3@1*4+2:n15 => 7; held 0+8+1@0*2:n15 => 7; held 0+2+2@0*4:n15 => 7
 held 0+4+0@-6*1:n15 => 7; held 0+0+10@0*1:n15 => 7; held 0+0+100@90*1:n15 => 7; held 0+0+5@0*2:n15 => 7
 held 0+9+0@0*99+1:n15 => 7; put 0+0+2@0*4+2:n15 8 => yes; held 0+10:n15 => 8
-// offsets behind the end lead nowhere, and no place lies more than 1,000,000 bytes behind the beginning
+// offsets past the end lead nowhere, and no place lies more than 1,000,000 bytes after the beginning
 make n15 7 => 0; held 0+1000000:n15 => wrong; held 0+1000001:n15 => far; held 0+4294967295:n15 => far
 held 0+999999+1@0*1:n15 => wrong; number 0+999999+2@0*1:n15 => far; put 0+999999+1@0*1+1:n15 1 => far
 number 0+999998+1@0*1+1:n15 => none; put 0+999998+1@0*1+1:n15 1 => no; store 0+4294967295+1@0*1:n15 1 => far

@@ -3,7 +3,7 @@ ghost use Rattle.std.specs.Prelude.{◌≡◌, length, IfSome};
 ghost use Rattle.pli_map.specs.Sizes.{size_of};
 ghost use Rattle.pli_map.specs.views.DescriptionView.{description_view};
 
-use crate::calls::{Answer, Call, Spot, Use, Whole};
+use crate::calls::{Answer, Call, Reference, Use, Whole};
 use crate::items::{Item, Text};
 use crate::shapes::Shape;
 use pli_bytes::{lay, lay_first};
@@ -15,7 +15,7 @@ use pli_value::Locator;
 use std::alloc::Global;
 use std::process::Abort;
 
-/// How many bytes behind the beginning a place lies at most.
+/// How many bytes after the beginning a place lies at most.
 const OFFSET_LIMIT: u64 = 1_000_000;
 
 /// Storage and stacks, and what calls on them name.
@@ -94,25 +94,25 @@ impl<'m> Tested<'m> {
         self.twins.get(shape).expect(rt, "a description")
     }
 
-    /// Where a call leads, if none of the places on the way lies too far behind the beginning.
-    fn led_to(&self, rt: &impl Abort, spot: Spot) -> Option<Place<'m>> {
-        let whole = match spot.whole {
+    /// Where a call leads, if none of the places on the way lies too far from the beginning.
+    fn led_to(&self, rt: &impl Abort, reference: Reference) -> Option<Place<'m>> {
+        let whole = match reference.whole {
             Whole::Generation(generation) => self.made.get(generation as usize),
             Whole::Met(number) => self.met.get(number),
         };
-        let twin = self.twin(rt, spot.shape);
-        assert!(rt; spot.low <= spot.subscript);
+        let twin = self.twin(rt, reference.shape);
+        assert!(rt; reference.low <= reference.subscript);
         let whole = *whole.expect(rt, "a place");
         whole
-            .field(spot.first, twin)?
-            .element(spot.low, spot.multiplier, spot.subscript)?
-            .field(spot.second, twin)
+            .field(reference.first, twin)?
+            .element(reference.low, reference.multiplier, reference.subscript)?
+            .field(reference.second, twin)
     }
 
-    /// The same, where a place is near enough exactly if it lies no farther behind the beginning than that.
-    fn place(&self, rt: &impl Abort, spot: Spot) -> Option<Place<'m>> {
-        let place = self.led_to(rt, spot);
-        assert!(rt; place.is_some() == (spot.offset() <= OFFSET_LIMIT));
+    /// The same, where a place is near enough exactly if it lies no farther from the beginning than that.
+    fn place(&self, rt: &impl Abort, reference: Reference) -> Option<Place<'m>> {
+        let place = self.led_to(rt, reference);
+        assert!(rt; place.is_some() == (reference.offset() <= OFFSET_LIMIT));
         place
     }
 
@@ -265,8 +265,8 @@ impl<'m> Tested<'m> {
     /// Makes a call that leads to places.
     fn placed(&mut self, rt: &impl Abort, alloc: Global, call: Call) -> Option<Answer> {
         Some(match call {
-            Call::At(spot, call) => {
-                let place = self.place(rt, spot)?;
+            Call::At(reference, call) => {
+                let place = self.place(rt, reference)?;
                 if place.position > 0 && is_direct(call) {
                     return None;
                 }

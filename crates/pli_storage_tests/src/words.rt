@@ -1,6 +1,6 @@
 //! Worked sequences of calls on storage.
 
-use crate::calls::{Answer, Call, Spot, Use, Whole};
+use crate::calls::{Answer, Call, Reference, Use, Whole};
 use crate::items::Item;
 use crate::pairs::Pair;
 use crate::shapes::{all_shapes, shape_number, twins_of};
@@ -15,14 +15,14 @@ fn integer(rt: &impl Abort, word: &str) -> i32 {
 }
 
 /// Adds what leads on to an element: `3@1*8+2` is 8 bytes for each subscript that 3 is above low bound 1, and 2 more.
-fn add_element(rt: &impl Abort, spot: &mut Spot, words: &str) {
+fn add_element(rt: &impl Abort, reference: &mut Reference, words: &str) {
     let (element, second) = words.split_once('+').unwrap_or((words, "0"));
     let (subscript, element) = element.split_once('@').expect(rt, "a low bound");
     let (low, multiplier) = element.split_once('*').expect(rt, "a multiplier");
-    spot.subscript = integer(rt, subscript);
-    spot.low = integer(rt, low);
-    spot.multiplier = natural(rt, multiplier);
-    spot.second = natural(rt, second);
+    reference.subscript = integer(rt, subscript);
+    reference.low = integer(rt, low);
+    reference.multiplier = natural(rt, multiplier);
+    reference.second = natural(rt, second);
 }
 
 /// Generation 2 by `2`, what the reference of number 2 has met by `#2`.
@@ -35,17 +35,17 @@ fn whole_of(rt: &impl Abort, word: &str) -> Whole {
 
 /// The place that a word is: `2` the whole of generation 2, `2+8:n15` a part 8 bytes further, and `2+8+3@1*8+2:n15`
 /// one that is so much further again.
-fn spot_of(rt: &impl Abort, pair: &Pair<'_>, word: &str) -> Spot {
+fn reference_of(rt: &impl Abort, pair: &Pair<'_>, word: &str) -> Reference {
     let Some((path, name)) = word.split_once(':') else {
         let whole = whole_of(rt, word);
-        return Spot::new(whole, 0, pair.model.meeting(rt, whole).shape);
+        return Reference::new(whole, 0, pair.model.meeting(rt, whole).shape);
     };
     let shape = shape_number(rt, pair.model.values.shapes, name);
     let (whole, path) = path.split_once('+').unwrap_or((path, "0"));
     let (offset, element) = path.split_once('+').unwrap_or((path, "0@0*0"));
-    let mut spot = Spot::new(whole_of(rt, whole), natural(rt, offset), shape);
-    add_element(rt, &mut spot, element);
-    spot
+    let mut reference = Reference::new(whole_of(rt, whole), natural(rt, offset), shape);
+    add_element(rt, &mut reference, element);
+    reference
 }
 
 /// The values that words are.
@@ -124,11 +124,11 @@ fn placed(
     target: &str,
     words: &str,
 ) -> Answer {
-    let spot = spot_of(rt, pair, target);
+    let reference = reference_of(rt, pair, target);
     let call = match verb {
-        "copy" => Call::Copy(spot, spot_of(rt, pair, words)),
-        "assign" => Call::Assign(spot, spot_of(rt, pair, words)),
-        _ => Call::At(spot, use_of(rt, verb, words)),
+        "copy" => Call::Copy(reference, reference_of(rt, pair, words)),
+        "assign" => Call::Assign(reference, reference_of(rt, pair, words)),
+        _ => Call::At(reference, use_of(rt, verb, words)),
     };
     pair.answer(rt, alloc, call)
 }
@@ -144,7 +144,7 @@ fn allocated(
     let (name, words) = words.split_once(' ').unwrap_or((words, ""));
     let items = items_of(rt, alloc, words);
     let shape = shape_number(rt, pair.model.values.shapes, name);
-    let area = spot_of(rt, pair, area);
+    let area = reference_of(rt, pair, area);
     pair.answer(rt, alloc, Call::AllocateIn(area, shape, &items))
 }
 

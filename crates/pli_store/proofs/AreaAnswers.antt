@@ -73,9 +73,9 @@ module _ (p : Place) (w : World) where
   block_refused OutOfMemory l = l
 
   module _ (g : Generation) (found : generation_in w.storage p.generation ≡ Some g) (outside : p.position ≡ 0) where
-    pub behind_beginning : p.offset ≢ 0 → area_found p w ≡ Wrong
+    pub after_beginning : p.offset ≢ 0 → area_found p w ≡ Wrong
     unfolding area_found
-    behind_beginning behind = rw (found, eq-eqb p.position 0 outside, ne_eqb p.offset 0 behind) refl
+    after_beginning beyond = rw (found, eq-eqb p.position 0 outside, ne_eqb p.offset 0 beyond) refl
 
     module _ (first : p.offset ≡ 0) where
       pub no_area : is_area p.description ≡ false → area_found p w ≡ Wrong

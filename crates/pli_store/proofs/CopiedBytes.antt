@@ -4,7 +4,7 @@ use Rattle.std.proofs.Math.Seq.{take-add}
 use Rattle.std.proofs.lemmas.List.{take_at, drop-drop, length-take-le, take-append-drop, get_or-set_other, get_or-set_same}
 use Rattle.std.proofs.lemmas.Option.{get_or_from_slice_get, same_Some, slice_get_within}
 use Rattle.pli_bytes.specs.Contents.{bytes_from, values_of, with_bytes_at}
-use Rattle.pli_bytes.proofs.PutBytes.{behind_put}
+use Rattle.pli_bytes.proofs.PutBytes.{after_put}
 use Rattle.pli_map.specs.Sizes.{size_of}
 use Rattle.pli_map.specs.views.DescriptionView.{description_view}
 use Rattle.pli_world.specs.Storage as plain
@@ -14,7 +14,7 @@ use Rattle.pli_store.specs.declared.part.GenerationPart.{GenerationPart}
 use Rattle.pli_store.specs.views.GenerationView.{generation_view}
 use Rattle.pli_store.proofs.Searches.{set_same}
 
--- a piece put behind another
+-- a piece put after another
 pub put_both : (first : ℕ) (one two bytes : List ℕ) → first + length one ≤ length bytes → with_bytes_at (first + length one) two (with_bytes_at first one bytes) ≡ with_bytes_at first (one ++ two) bytes
 put_both first one two bytes inside =
     let at = first + length one in
@@ -23,15 +23,15 @@ put_both first one two bytes inside =
     let front_size : length front ≡ first = length-take-le first bytes (omega (arith, inside)) in
     let before : take at whole ≡ front ++ one =
     ap (take at) (sym (append_assoc front one (drop at bytes))) ∙ take_at (front ++ one) (drop at bytes) at (omega (arith, length-append front one, front_size)) in
-    let behind : drop (at + length two) whole ≡ drop (first + length (one ++ two)) bytes =
-    sym (drop-drop (length two) at whole) ∙ ap (drop (length two)) (behind_put first one bytes (omega (arith, inside))) ∙ drop-drop (length two) at bytes
+    let after : drop (at + length two) whole ≡ drop (first + length (one ++ two)) bytes =
+    sym (drop-drop (length two) at whole) ∙ ap (drop (length two)) (after_put first one bytes (omega (arith, inside))) ∙ drop-drop (length two) at bytes
     ∙ ap (λ n. drop n bytes) (omega (arith, length-append one two)) in
     ap (λ l. l ++ (two ++ drop (at + length two) whole)) before
-    ∙ ap (λ l. (front ++ one) ++ (two ++ l)) behind
+    ∙ ap (λ l. (front ++ one) ++ (two ++ l)) after
     ∙ append_assoc front one (two ++ drop (first + length (one ++ two)) bytes)
     ∙ ap (λ l. front ++ l) (sym (append_assoc one two (drop (first + length (one ++ two)) bytes)))
 
--- a piece and the one behind it
+-- a piece and the one after it
 pub taken_both : (first one two : ℕ) (bytes : List ℕ) → bytes_from first one bytes ++ bytes_from (first + one) two bytes ≡ bytes_from first (one + two) bytes
 taken_both first one two bytes =
     ap (λ l. bytes_from first one bytes ++ take two l) (sym (drop-drop one first bytes)) ∙ sym (take-add one two (drop first bytes))

@@ -23,7 +23,7 @@ use Rattle.pli_store.specs.declared.generation.Generation.{Generation}
 use Rattle.pli_store.specs.views.GenerationView.{generation_view}
 use Rattle.pli_store.proofs.HeldScalars.{scalar_of_held}
 
--- a generation put behind the others
+-- a generation put after the others
 pub pushed_says : {T E : Type 0} (r : Result T E) (items now : List Generation) (g : Generation) → is_err r ≡ false → now ≡ (if is_ok r then items ++ g ∷ [] else items)
     → map generation_view now ≡ map generation_view items ++ generation_view g ∷ []
 pushed_says (Ok x) items now g kept pushed = ap (map generation_view) pushed ∙ map_push generation_view items g

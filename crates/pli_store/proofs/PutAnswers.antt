@@ -1,4 +1,4 @@
--- What is answered where a number is put at a place, and where characters are put behind others.
+-- What is answered where a number is put at a place, and where characters are put after others.
 use Rattle.std.proofs.Common.{◌≡◌, ℕ, Bool, true, false, List, [], ◌∷◌, ◌++◌, length, refl, subst, ap, ◌∙◌, sym}
 use Rattle.std.proofs.lemmas.Bool.{le-leb}
 use Rattle.pli_map.specs.Description.{Description, Varying}

@@ -114,7 +114,7 @@ module _ (items : List Generation) (part : GenerationPart) (d : Description) (s 
   put_or_same true v scalar put = scalar_is_put v scalar put
   put_or_same false v scalar same = same_is_left same
 
--- characters put behind those of the string that was read there
+-- characters put after those of the string that was read there
 module _ (items : List Generation) (part : GenerationPart) (greatest : ℕ) (s : PartStands (map generation_view items) part (Varying greatest))
     (g : Generation) (read : g ≡ get_or items part.at g) (was new : List ℕ) (value : was ≡ g.bytes.items) (len : length new ≡ length was)
     (sized : length (with_items g.bytes new).items ≡ size_of (description_view g.description.now)) (inhabited : is_some g.area ≡ is_area (description_view g.description.now))

@@ -57,7 +57,7 @@ number_within from (x ∷ gs) to (suc at) g r h =
     let above = inner.low in
     record { low = omega (arith, low, above); high = inner.high }
 
--- the number of one that stands behind another is greater
+-- the number of one that stands after another is greater
 later : (x : Generation) (gs : List Generation) (to at : ℕ) (g : Generation) → rise (suc x.number) gs to ≡ true → slice_get gs at ≡ Some g → x.number ≢ g.number
 later x gs to at g r h e =
     let low = (number_within (suc x.number) gs to at g r h).low in

@@ -74,7 +74,7 @@ module _ (items : List Generation) (to : ℕ) (r : rise 0 (map generation_view i
       let equal : nat_cmp g.number number ≡ Equal = ap (λ (y : plain.Generation). nat_cmp y.number number) found.2 ∙ ap (λ n. nat_cmp n number) same ∙ sym (nat_cmp_is number number Equal refl) in
       elim (cases_lt k at) [
         | inl before ↦ let less = subst (λ (y : Generation). nat_cmp y.number number ≡ Less) here (parts.0 k g (omega arith) before) in cc
-        | inr behind ↦ let greater = subst (λ (y : Generation). nat_cmp y.number number ≡ Greater) here (parts.1 k g behind inside) in cc
+        | inr after ↦ let greater = subst (λ (y : Generation). nat_cmp y.number number ≡ Greater) here (parts.1 k g after inside) in cc
       ]
 
   pub searched : (number : ℕ) (result : Result ℕ ℕ) → IsSearchInRange result (length items) → IsBinarySearchResult (λ (g : Generation). nat_cmp g.number number) items result → MatchOption (result_ok result) (generation_in (map generation_view items) number ≡ None) (StandsAt (map generation_view items) number)

@@ -142,7 +142,7 @@ impl<'m> Storage<'m> {
 
     /// The blocks of one area put in the place of those of another, at the same positions, so that offsets keep their
     /// meaning. The source is looked at first: errors as where it is used, then as where the target is, `Area` where
-    /// the source's blocks end behind the target's last byte, and `OutOfMemory`. After an error nothing has changed.
+    /// the source's blocks end past the target's last byte, and `OutOfMemory`. After an error nothing has changed.
     /// Takes memory for all that the target has, before it gives up what that had.
     pub fn assign_area(&mut self, source: Place<'_>, target: Place<'_>) -> Result<(), StoreFault>
         ensures answer { (w : World) → Answered (λ _. tt) result (with_storage self.old w) (with_storage self.new w)

@@ -106,7 +106,7 @@ pub fn end_blocks(generation: &mut Generation<'_>)
     }
 }
 
-/// The bytes of a part of the block at a position, so many bytes behind the block's beginning.
+/// The bytes of a part of the block at a position, so many bytes after the block's beginning.
 pub fn read_block(
     alloc: Global,
     generation: &Generation<'_>,
@@ -146,7 +146,7 @@ pub fn write_block(
     }
 }
 
-/// An area of this description with the blocks of another, at the same positions; `None` where these end behind its
+/// An area of this description with the blocks of another, at the same positions; `None` where these end past its
 /// last byte.
 pub fn area_with<'m>(
     alloc: Global,

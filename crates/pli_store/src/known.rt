@@ -16,7 +16,7 @@ use pli_value::Locator;
 #[derive(Clone, Copy)]
 pub struct KnownPart<'m> {
     pub whole: &'m Description,
-    /// How many bytes it stands behind the beginning of the whole.
+    /// How many bytes it stands after the beginning of the whole.
     pub offset: u32,
     pub description: &'m Description,
     ghost near: { offset ≤ 1000000 },
@@ -25,8 +25,8 @@ pub struct KnownPart<'m> {
 }
 
 impl<'m> KnownPart<'m> {
-    /// The part of this description so many bytes behind the beginning of a whole; `None` where none stands there, and
-    /// more than 1,000,000 bytes behind it.
+    /// The part of this description so many bytes after the beginning of a whole; `None` where none stands there, and
+    /// more than 1,000,000 bytes after it.
     pub fn new(
         whole: &'m Description,
         offset: u32,

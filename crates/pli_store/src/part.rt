@@ -102,7 +102,7 @@ fn is_multiple(offset: usize, precision: u8) -> bool
     }
 }
 
-/// Whether a number of so many binary digits stands so many bytes behind the beginning of a whole of so many bytes:
+/// Whether a number of so many binary digits stands so many bytes after the beginning of a whole of so many bytes:
 /// alone, or as an element of an array. Whether it stands in any other whole is not asked.
 #[inline(always)]
 pub fn is_number_at(whole: &Description, size: usize, offset: usize, precision: u8) -> bool
@@ -130,7 +130,7 @@ fn is_itself(whole: &Description, part: &Description) -> bool
     are_same_scalars(whole, part)
 }
 
-/// Whether an element begins so many bytes behind the beginning of an array of so many that each take so many bytes.
+/// Whether an element begins so many bytes after the beginning of an array of so many that each take so many bytes.
 #[inline(always)]
 fn is_element(extent: u32, offset: u32, stride: u32) -> bool
     requires { 0 < stride }
@@ -161,7 +161,7 @@ fn is_bit_in(bounds: Bounds, offset: u32) -> bool
     is_element(bounds.extent(), offset, 1)
 }
 
-/// Whether a scalar stands so many bytes behind the beginning of a structure of these members; `false` leaves it open.
+/// Whether a scalar stands so many bytes after the beginning of a structure of these members; `false` leaves it open.
 #[inline]
 fn is_member(members: &[Description], offset: u32, part: &Description) -> bool
     ensures { result ≡ true → is_some (first_scalar (tree.Structure (members_view members.now)) offset
@@ -170,8 +170,8 @@ fn is_member(members: &[Description], offset: u32, part: &Description) -> bool
     stands_among(members, offset, part)
 }
 
-/// Whether a part of this description stands so many bytes behind the beginning of a whole. A scalar that stands alone,
-/// one that is a member of a structure behind other scalars, one that is such a member in an array of structures, and a
+/// Whether a part of this description stands so many bytes after the beginning of a whole. A scalar that stands alone,
+/// one that is a member of a structure after other scalars, one that is such a member in an array of structures, and a
 /// number and one bit in an array of one dimension, take the short way.
 #[inline(always)]
 pub fn is_part(whole: &Description, offset: u32, part: &Description) -> bool

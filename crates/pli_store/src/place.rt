@@ -6,11 +6,11 @@ ghost use Rattle.pli_world.specs.World.{led_on};
 
 use pli_map::{Description, Dimension};
 
-/// How many bytes behind the beginning a reference leads at most (own).
+/// How many bytes after the beginning a reference leads at most (own).
 pub const OFFSET_LIMIT: u32 = 1_000_000;
 
 /// Where a reference leads: into a generation, there into the block of an area at a position (0 outside areas), so many
-/// bytes behind its beginning, to a part of this description. The generation or the block had this whole description
+/// bytes after its beginning, to a part of this description. The generation or the block had this whole description
 /// when the reference was evaluated.
 #[derive(Clone, Copy)]
 pub struct Place<'m> {
@@ -48,7 +48,7 @@ impl<'m> Place<'m> {
     }
 
     /// The part of this description that stands so many bytes further. `None` where that is more than 1,000,000 bytes
-    /// behind the beginning.
+    /// after the beginning.
     #[inline(always)]
     #[tactic(auto, using(pli_world::specs::laws::OperationLaws::led_near, pli_world::specs::laws::OperationLaws::led_too_far))]
     fn advanced(self, offset: u64, description: &'m Description) -> Option<Place<'m>>
@@ -69,7 +69,7 @@ impl<'m> Place<'m> {
     }
 
     /// The part of this description that stands so many bytes further. `None` where that is more than 1,000,000 bytes
-    /// behind the beginning.
+    /// after the beginning.
     #[inline]
     pub fn field(self, offset: u32, description: &'m Description) -> Option<Place<'m>>
         ensures { LedOn (led_on offset (description_view description.now) (place_view self.entry)) result }
@@ -78,7 +78,7 @@ impl<'m> Place<'m> {
     }
 
     /// The same part so many multiples further as a subscript is above the low bound. `None` where that is more than
-    /// 1,000,000 bytes behind the beginning.
+    /// 1,000,000 bytes after the beginning.
     #[inline]
     pub fn element(self, low: i32, multiplier: u32, subscript: i32) -> Option<Place<'m>>
         requires { low ≤ℤ subscript }
@@ -91,7 +91,7 @@ impl<'m> Place<'m> {
     }
 
     /// What a dimension of the array that stands here leads on to, so many of its multipliers further as a subscript is
-    /// above its low bound. `None` where that is more than 1,000,000 bytes behind the beginning.
+    /// above its low bound. `None` where that is more than 1,000,000 bytes after the beginning.
     #[tactic(auto, using(pli_world::specs::laws::OperationLaws::led_too_far))]
     pub fn along(self, dimension: Dimension<'m>, subscript: i64) -> Option<Place<'m>>
         requires { dimension.bounds.low ≤ℤ subscript }

@@ -105,7 +105,7 @@ pub fn put_pointer(
     put_pointer_at(&mut generation.bytes, part.offset, locator)
 }
 
-/// Puts characters behind those of a string of CHARACTER VARYING of so many at most, where both are no more than that
+/// Puts characters after those of a string of CHARACTER VARYING of so many at most, where both are no more than that
 /// and than the room.
 #[inline]
 pub fn lengthen(

@@ -362,7 +362,7 @@ impl<'m> Storage<'m> {
         }
     }
 
-    /// Characters put behind those that the place of a scalar of CHARACTER VARYING holds, where both are no more than
+    /// Characters put after those that the place of a scalar of CHARACTER VARYING holds, where both are no more than
     /// it may hold and than the room; where they are not put there, nothing has changed, and `held` and `stored` tell
     /// why.
     #[inline]

@@ -145,5 +145,5 @@ module _ {A : Type 0} (at : A → ℕ) (xs : List A) where
       let both : AllBoth R order (in_order at xs) =
       both_in_order nat_cmp R (λ n. get_or (map at xs) n 0) at (λ n y h. token_given at xs n y h) [] (numbers_from 0 (length (map at xs))) [] xs tt numbered in
       let found = both_at R order (in_order at xs) s.0 k both s.2 in
-      let spot : get_or (text_places (map at xs)) k 0 ≡ s.0 = omega (arith, placed, s.1) in
-      ap (slice_get (in_order at xs)) spot ∙ found.1 ∙ ap Some (same_Some found.0 x (sym found.2 ∙ e))
+      let place_is : get_or (text_places (map at xs)) k 0 ≡ s.0 = omega (arith, placed, s.1) in
+      ap (slice_get (in_order at xs)) place_is ∙ found.1 ∙ ap Some (same_Some found.0 x (sym found.2 ∙ e))

@@ -123,7 +123,7 @@ released (Whole (NewestOf number)) = Some (FreesControlled number)
 released (Whole (Located locator d)) = Some (FreesBased locator d)
 released reference = None
 
--- an item of FREE: the faults of its reference, then T11 where that can't be freed, at its first name behind
+-- an item of FREE: the faults of its reference, then T11 where that can't be freed, at its first name after
 -- its last arrow
 abbrev pub freed : Naming → Reference → Result FreedItem Fault
 freed n reference = do

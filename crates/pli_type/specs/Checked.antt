@@ -51,7 +51,7 @@ is_main u = list_any is_main_option u.heading.options
 abbrev pub may_begin : ExternalProcedure → Signature → Bool
 may_begin u s = is_main u && takes_nothing s
 
--- the typed unit: its external procedure, and behind it those inside
+-- the typed unit: its external procedure, and after it those inside
 abbrev pub unit_of : NamedUnit → WithProcedures TypedStatements → TypedUnit
 unit_of u list = record {
   name = u.tree.heading.name.name;

@@ -389,7 +389,7 @@ offset_conversion (Some area) types.Pointer = Some (AsOffsetIn (whole_at area))
 offset_conversion area other = None
 
 -- what converts a value of a type to a variable of this description, whose declaration names this area if it
--- is an OFFSET: what makes it suit that, and behind it the operation that fits to the variable's range or
+-- is an OFFSET: what makes it suit that, and after it the operation that fits to the variable's range or
 -- length; a locator is not fitted
 abbrev pub conversion : (greatest : ℕ) → (area : Option Beginning) → Description → ExpressionType
     → Option Conversion

@@ -17,7 +17,7 @@ use Rattle.pli_type_tree.specs.Templates.{InitialScalar, Template}
 use Rattle.pli_value.specs.Value.{Value, Number, Characters, Bits, Located}
 use Rattle.pli_value.specs.declared.locator.Locator.TheVariants as locators
 
--- from so many numbers on, each so many behind the one before
+-- from so many numbers on, each so many after the one before
 abbrev pub counted_from : (first distance count : ℕ) → List ℕ
 counted_from first distance zero = []
 counted_from first distance (suc count) = first ∷ counted_from (first + distance) distance count
@@ -33,7 +33,7 @@ abbrev mutual
   scalars_on (Structure ds) (i ∷ path) at = scalars_in_member ds i path at 0
   scalars_on scalar path at = record { offset = at; description = scalar } ∷ []
 
-  -- those of the member of this number, by the way that is left, where those before it end so far behind the
+  -- those of the member of this number, by the way that is left, where those before it end so far after the
   -- structure's beginning
   pub scalars_in_member : Members → (number : ℕ) → (path : List ℕ) → (at ended : ℕ) → List PlacedPart
   scalars_in_member NoMembers i path at ended = []

@@ -274,7 +274,7 @@ is_parameter numbers slot number = is_number (slice_get numbers slot)
     is_number None = false
     is_number (Some n) = nat_eq n number
 
--- Parameters stand in slots, each in its own, and the AUTOMATIC variables of the block behind them, in the
+-- Parameters stand in slots, each in its own, and the AUTOMATIC variables of the block after them, in the
 -- order of the text; STATIC and CONTROLLED variables are globals, which stand in the order of the text of the
 -- whole unit. BASED variables begin nowhere
 abbrev pub root_of : (greatest : ℕ) → ResolvedUnit → (blocks : List ℕ) → SymbolKey → StorageClass

@@ -9,7 +9,7 @@ use Rattle.pli_base.specs.declared.token.Fault.{Fault}
 use Rattle.pli_map.specs.Description as described
 use Rattle.pli_map.specs.Description.{Description, Array, Structure}
 use Rattle.pli_map.specs.ParameterTypes.{ParameterType, Stated, stated, element_type, is_aggregate_type}
-use Rattle.pli_map.specs.PlacedParts.{member_behind}
+use Rattle.pli_map.specs.PlacedParts.{member_after}
 use Rattle.pli_map.specs.Sizes.{count_of, stride_of}
 use Rattle.pli_map.specs.declared.description.Bounds.{Bounds}
 use Rattle.pli_type.specs.Beginnings.{whole_at}
@@ -43,7 +43,7 @@ strides_of (b ∷ bs) element =
     record { low = b.low; high = b.high; multiplier = count_of bs * stride_of element }
     ∷ strides_of bs element
 
--- a part of a variable: how far behind the variable's beginning it stands where all subscripts are the
+-- a part of a variable: how far from the variable's beginning it stands where all subscripts are the
 -- lowest, what it is, and the dimensions above it
 pub record StridedPart : Type 0 where
   pub offset : ℕ
@@ -69,7 +69,7 @@ member_of p i = member ((element_of p).description)
           offset = p.offset + m.offset;
           description = m.description;
           strides = (element_of p).strides;
-        }) (member_behind 0 members i)
+        }) (member_after 0 members i)
     member other = None
 
 -- the part that the members on a way lead to
@@ -137,7 +137,7 @@ abbrev pub pointer_of : LocatorVariable → TypedExpression
 pointer_of (OfPointer reference) = Held reference
 pointer_of (OfOffset reference area) = AsPointer (whole_at area) (Held reference)
 
--- what stands in front of a name: no arrow, or an arrow behind a locator, which gives this pointer, or behind
+-- what stands in front of a name: no arrow, or an arrow after a locator, which gives this pointer, or after
 -- what leads nowhere
 pub data LocatorBefore : Type 0 where
   NotLocated : LocatorBefore

@@ -33,7 +33,7 @@ use Rattle.pli_type.specs.FunctionCalls.{Meant, OneValue, WholeAggregate, Argume
 use Rattle.pli_type.specs.Names.{NamedAs, AProcedure, ALabel, Naming, NamedUnit}
 use Rattle.pli_type.specs.ProcedureCalls.{arguments_passed}
 use Rattle.pli_type.specs.References.{AsArgument, AsLocator, AsTarget, AsValue, Referent}
-use Rattle.pli_type.specs.Temporaries.{Next, behind, temporaries_among, limits_kept}
+use Rattle.pli_type.specs.Temporaries.{Next, next_after, temporaries_among, limits_kept}
 use Rattle.pli_type.specs.Typing.{first_token, own_token, meant, denoted, referred, value_of}
 use Rattle.pli_type.specs.Typing.{all_arguments}
 use Rattle.pli_type_tree.specs.TypedTree as typed
@@ -290,7 +290,7 @@ limit n e = do
   v ← value_of n e
   or_fault WrongOperandType (first_token e) (as_number n.greatest v.expression v.kind)
 
--- TO and BY in the order in which they stand; what REPEAT says is looked at behind the variable
+-- TO and BY in the order in which they stand; what REPEAT says is looked at after the variable
 abbrev pub limits : Naming → Option Range → Result TypedRange Fault
 limits n (Some (tree.To to by)) = do
   x ← limit n to
@@ -329,7 +329,7 @@ abbrev pub suited_control : (at : ℕ) → Referent → Bool → Result Referent
 suited_control at r true = Ok r
 suited_control at r false = at_fault BadControlVariable at
 
--- the variable that controls a group: T1 where it is none, T12 where it may not, as behind a locator, or as
+-- the variable that controls a group: T1 where it is none, T12 where it may not, as after a locator, or as
 -- an area
 abbrev pub controls : (at : ℕ) → (is_located : Bool) → TypedRange → Denoted → Result Referent Fault
 controls at is_located range (DenotesVariable r) =
@@ -451,7 +451,7 @@ on_unit_of u parent number statement unit list =
       function_end = None;
     }
 
--- a procedure or an ON-unit stands behind those in it, and leaves this form in its place
+-- a procedure or an ON-unit stands after those in it, and leaves this form in its place
 abbrev pub as_procedure : Form → (TypedStatements → TypedProcedure)
     → Result (WithProcedures TypedStatements) (List Fault) → Result (WithProcedures Form) (List Fault)
 as_procedure form make (Ok x) = Ok (record { part = form; procedures = x.procedures ++ make x.part ∷ [] })
@@ -477,8 +477,8 @@ abbrev pub inside : Next → Next
 inside x = record { block = suc x.block; temporary = 0 }
 
 -- in a group with a control variable, whose own temporaries come first
-abbrev pub behind_limits : Option Range → Next → Next
-behind_limits range x = record { block = x.block; temporary = x.temporary + suc (limits_kept range) }
+abbrev pub after_limits : Option Range → Next → Next
+after_limits range x = record { block = x.block; temporary = x.temporary + suc (limits_kept range) }
 
 -- a statement, with the procedures in it
 abbrev mutual
@@ -510,11 +510,11 @@ abbrev mutual
       end) =
       together typed.Iterate
       (of_own (iteration (naming_at u s) x.temporary variable equals first range tested))
-      (statements_typed u (in_group statements s) (behind_limits range x) statements)
+      (statements_typed u (in_group statements s) (after_limits range x) statements)
   body_typed u s x number at (tree.If tested consequence alternative) =
       together (λ x both. typed.If x both.0 both.1) (of_own (condition (naming_at u s) tested))
       (both_ways (statement_typed u s x consequence)
-      (alternative_typed u s (behind u.is_based x consequence) alternative))
+      (alternative_typed u s (next_after u.is_based x consequence) alternative))
   body_typed u s x number at tree.Stop = Ok (alone typed.Stop)
   body_typed u s x number at (tree.Allocate list) =
       of_own (all_allocated (naming_at u s) x.temporary list >>= λ xs. Ok (typed.Allocate xs))
@@ -544,4 +544,4 @@ abbrev mutual
   statements_typed u s x Ended = Ok (alone NoStatement)
   statements_typed u s x (Before first more) =
       listed first (statement_typed u s x first)
-      (statements_typed u s (behind u.is_based x first) more)
+      (statements_typed u s (next_after u.is_based x first) more)

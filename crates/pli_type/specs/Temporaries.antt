@@ -36,7 +36,7 @@ abbrev mutual
   temporaries_of is_based (Do control statements end) =
       kept_by control + temporaries_among is_based statements
   temporaries_of is_based (If condition consequence alternative) =
-      temporaries_in is_based consequence + temporaries_behind is_based alternative
+      temporaries_in is_based consequence + temporaries_in_else is_based alternative
   temporaries_of is_based (Allocate items) = based_among is_based items
   temporaries_of is_based body = 0
 
@@ -47,16 +47,16 @@ abbrev mutual
       temporaries_in is_based first + temporaries_among is_based more
 
   -- how many an ELSE has
-  pub temporaries_behind : (is_based : (at : ℕ) → Bool) → Alternative → ℕ
-  temporaries_behind is_based NoElse = 0
-  temporaries_behind is_based (Else statement) = temporaries_in is_based statement
+  pub temporaries_in_else : (is_based : (at : ℕ) → Bool) → Alternative → ℕ
+  temporaries_in_else is_based NoElse = 0
+  temporaries_in_else is_based (Else statement) = temporaries_in is_based statement
 
 -- the next block of a unit, and the next temporary of the block here
 pub record Next : Type 0 where
   pub block : ℕ
   pub temporary : ℕ
 
--- behind a statement
-abbrev pub behind : (is_based : (at : ℕ) → Bool) → Next → Statement → Next
-behind is_based x s =
+-- after a statement
+abbrev pub next_after : (is_based : (at : ℕ) → Bool) → Next → Statement → Next
+next_after is_based x s =
     record { block = x.block + blocks_in s; temporary = x.temporary + temporaries_in is_based s }

@@ -37,15 +37,15 @@ first_token (Parenthesized at inner) = at
 first_token (Prefix operator at operand) = at
 first_token (Infix operator at left right) = first_token left
 
--- the token of the last name that stands behind an arrow among these parts; this token where none does
-abbrev pub behind_arrows : (at : ℕ) → JoinedParts → ℕ
-behind_arrows at Alone = at
-behind_arrows at (Joined Member name arguments more) = behind_arrows at more
-behind_arrows at (Joined Located name arguments more) = behind_arrows name.at more
+-- the token of the last name that stands after an arrow among these parts; this token where none does
+abbrev pub after_arrows : (at : ℕ) → JoinedParts → ℕ
+after_arrows at Alone = at
+after_arrows at (Joined Member name arguments more) = after_arrows at more
+after_arrows at (Joined Located name arguments more) = after_arrows name.at more
 
--- the token at which faults of a reference itself stand: its first name behind its last arrow
+-- the token at which faults of a reference itself stand: its first name after its last arrow
 abbrev pub own_token : Reference → ℕ
-own_token (Named name arguments more) = behind_arrows name.at more
+own_token (Named name arguments more) = after_arrows name.at more
 
 -- how many expressions a list has
 abbrev pub how_many : Expressions → ℕ
@@ -63,7 +63,7 @@ subscript_value greatest at v =
     or_fault WrongOperandType at (as_number greatest v.expression v.kind)
 
 -- what stands between arrows, so far: a name of a variable, with what stands in front of it, and the
--- subscripts behind its names; what a function gives; EMPTY; or a name of something else
+-- subscripts after its names; what a function gives; EMPTY; or a name of something else
 pub data Segment : Type 0 where
   OfVariable : (locator : LocatorBefore) (at : ℕ) (variable : NamedVariable)
       (subscripts : List TypedExpression) → Segment
@@ -71,13 +71,13 @@ pub data Segment : Type 0 where
   OfEmpty : Segment
   OfNoVariable : (at : ℕ) → Segment
 
--- parentheses behind a name that stands alone where a value is wanted are those of a call
+-- parentheses after a name that stands alone where a value is wanted are those of a call
 abbrev pub is_call : Role → (located : Bool) → JoinedParts → Bool
 is_call AsValue false Alone = true
 is_call AsArgument false Alone = true
 is_call role located more = false
 
--- further subscripts; those behind what is no variable say nothing
+-- further subscripts; those after what is no variable say nothing
 abbrev pub with_more : Segment → List TypedExpression → Segment
 with_more (OfVariable locator at v xs) ys = OfVariable locator at v (xs ++ ys)
 with_more segment ys = segment
@@ -162,7 +162,7 @@ abbrev mutual
     t ← begun n (n.meaning name.at) (is_call role true more) (as_locator l) name.at arguments
     joined n role t more
 
-  -- a segment by what its first name means, with the parentheses behind that: subscripts of a variable, else
+  -- a segment by what its first name means, with the parentheses after that: subscripts of a variable, else
   -- arguments
   pub begun : Naming → NamedAs → (call : Bool) → LocatorBefore → (at : ℕ) → Arguments
       → Result Segment Fault
@@ -183,7 +183,7 @@ abbrev mutual
     Ok (OfNoVariable at)
   begun n other call locator at Absent = Ok (OfNoVariable at)
 
-  -- the subscripts behind a name, if parentheses stand there
+  -- the subscripts after a name, if parentheses stand there
   pub subscripts_in : Naming → Arguments → Result (List TypedExpression) Fault
   subscripts_in n Absent = Ok []
   subscripts_in n (Given list) = all_subscripts n list

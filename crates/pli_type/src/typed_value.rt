@@ -57,7 +57,7 @@ pub(crate) fn with_two(
     })
 }
 
-/// Lets go of two operands that are not taken: there is no value of them.
+/// Drops two operands that are not taken: there is no value of them.
 pub(crate) fn refused(left: TypedValue, right: TypedValue) -> Option<TypedValue>
     ensures { result ≡ None }
 {

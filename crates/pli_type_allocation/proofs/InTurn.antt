@@ -9,27 +9,27 @@ use Rattle.pli_base.specs.declared.token.Fault.{Fault}
 use Rattle.pli_type.specs.AllocationTyping.{in_turn}
 
 -- those so far in front of those that are left, unless one of these has a fault
-abbrev pub behind : {B : Type 0} → List B → Result (List B) Fault → Result (List B) Fault
-behind xs (Ok ys) = Ok (xs ++ ys)
-behind xs (Err f) = Err f
+abbrev pub after : {B : Type 0} → List B → Result (List B) Fault → Result (List B) Fault
+after xs (Ok ys) = Ok (xs ++ ys)
+after xs (Err f) = Err f
 
-pub none_behind : {B : Type 0} (r : Result (List B) Fault) → behind [] r ≡ r
-none_behind (Ok ys) = refl
-none_behind (Err f) = refl
+pub none_after : {B : Type 0} (r : Result (List B) Fault) → after [] r ≡ r
+none_after (Ok ys) = refl
+none_after (Err f) = refl
 
-pub one_behind : {B : Type 0} (xs : List B) (x : B) (r : Result (List B) Fault)
-    → behind xs (r >>= λ ys. Ok (x ∷ ys)) ≡ behind (xs ++ x ∷ []) r
-one_behind xs x (Ok ys) = ap Ok (sym (append_assoc xs (x ∷ []) ys))
-one_behind xs x (Err f) = refl
+pub one_after : {B : Type 0} (xs : List B) (x : B) (r : Result (List B) Fault)
+    → after xs (r >>= λ ys. Ok (x ∷ ys)) ≡ after (xs ++ x ∷ []) r
+one_after xs x (Ok ys) = ap Ok (sym (append_assoc xs (x ∷ []) ys))
+one_after xs x (Err f) = refl
 
 one_then : {A B : Type 0} (each : A → Result B Fault) (xs : List B) (y : B) (a : A) (more : List A) → each a ≡ Ok y
-    → behind xs (in_turn each (a ∷ more)) ≡ behind (xs ++ y ∷ []) (in_turn each more)
+    → after xs (in_turn each (a ∷ more)) ≡ after (xs ++ y ∷ []) (in_turn each more)
 one_then each xs y a more h =
-    ap (λ r. behind xs (r >>= λ z. in_turn each more >>= λ zs. Ok (z ∷ zs))) h ∙ one_behind xs y (in_turn each more)
+    ap (λ r. after xs (r >>= λ z. in_turn each more >>= λ zs. Ok (z ∷ zs))) h ∙ one_after xs y (in_turn each more)
 
 one_faulty : {A B : Type 0} (each : A → Result B Fault) (xs : List B) (f : Fault) (a : A) (more : List A) → each a ≡ Err f
-    → behind xs (in_turn each (a ∷ more)) ≡ Err f
-one_faulty each xs f a more h = ap (λ r. behind xs (r >>= λ z. in_turn each more >>= λ zs. Ok (z ∷ zs))) h
+    → after xs (in_turn each (a ∷ more)) ≡ Err f
+one_faulty each xs f a more h = ap (λ r. after xs (r >>= λ z. in_turn each more >>= λ zs. Ok (z ∷ zs))) h
 
 -- what is left of a list begins with the element of this turn
 pub front : {X C : Type 0} (P : List X → C) (xs : List X) (i : ℕ) (x : X) → x ≡ get_or xs i x → i < length xs
@@ -39,22 +39,22 @@ front P xs i x is within = at_drop_more P xs i x within ∙ ap (λ y. P (y ∷ d
 module _ {X A B : Type 0} (view : X → A) (each : A → Result B Fault) (es : List X) (i : ℕ) where
   pub each_typed : (e : X) (xs ys : List B) (x : B) (whole : Result (List B) Fault) → e ≡ get_or es i e → i < length es
       → each (view e) ≡ Ok x → ys ≡ xs ++ x ∷ []
-      → behind xs (in_turn each (map view (drop i es))) ≡ whole
-      → behind ys (in_turn each (map view (drop (i + 1) es))) ≡ whole
+      → after xs (in_turn each (map view (drop i es))) ≡ whole
+      → after ys (in_turn each (map view (drop (i + 1) es))) ≡ whole
   each_typed e xs ys x whole is within h put was =
-      ap (λ zs. behind zs (in_turn each (map view (drop (i + 1) es)))) put
+      ap (λ zs. after zs (in_turn each (map view (drop (i + 1) es)))) put
       ∙ sym (one_then each xs x (view e) (map view (drop (i + 1) es)) h)
-      ∙ sym (front (λ bs. behind xs (in_turn each (map view bs))) es i e is within)
+      ∙ sym (front (λ bs. after xs (in_turn each (map view bs))) es i e is within)
       ∙ was
 
   pub each_stops : (e : X) (xs : List B) (error : Failure Fault) (whole : Result (List B) Fault) → e ≡ get_or es i e → i < length es
-      → Fails error (each (view e)) → behind xs (in_turn each (map view (drop i es))) ≡ whole → Fails error whole
+      → Fails error (each (view e)) → after xs (in_turn each (map view (drop i es))) ≡ whole → Fails error whole
   each_stops e xs errors.OutOfMemory whole is within h was = tt
   each_stops e xs (errors.Fault f) whole is within h was =
-      sym was ∙ front (λ bs. behind xs (in_turn each (map view bs))) es i e is within
+      sym was ∙ front (λ bs. after xs (in_turn each (map view bs))) es i e is within
       ∙ one_faulty each xs f (view e) (map view (drop (i + 1) es)) h
 
   pub all_typed : (xs : List B) (whole : Result (List B) Fault) → length es ≤ i
-      → behind xs (in_turn each (map view (drop i es))) ≡ whole → whole ≡ Ok xs
+      → after xs (in_turn each (map view (drop i es))) ≡ whole → whole ≡ Ok xs
   all_typed xs whole past was =
-      sym was ∙ at_drop_all (λ bs. behind xs (in_turn each (map view bs))) es i past ∙ ap Ok (append-nil xs)
+      sym was ∙ at_drop_all (λ bs. after xs (in_turn each (map view bs))) es i past ∙ ap Ok (append-nil xs)

@@ -53,7 +53,7 @@ fn released(reference: TypedReference) -> Option<FreedItem>
     }
 }
 
-/// An item of FREE: the faults of its reference, then T11 where that can't be freed (X3.74), at its first name behind
+/// An item of FREE: the faults of its reference, then T11 where that can't be freed (X3.74), at its first name after
 /// its last arrow (own).
 fn freed(alloc: Global, naming: &Naming<'_>, reference: &Reference) -> Result<FreedItem, TypeError>
     ensures { Gives freed_view result (spec.freed (naming_in naming.now) (reference_view reference.now)) }

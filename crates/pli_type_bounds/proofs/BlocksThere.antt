@@ -18,11 +18,11 @@ use Rattle.pli_type.specs.Checked.{external_of, unit_of}
 use Rattle.pli_type.specs.Names.{NamedUnit, NamedAs}
 use Rattle.pli_type.specs.declared.beginning.Beginning.{Beginning}
 use Rattle.pli_type.specs.StatementTyping.{Surroundings, naming_at, block_at, leaves_nothing, condition, iteration, WithProcedures, of_own, together}
-use Rattle.pli_type.specs.StatementTyping.{alone, made, head_of, procedure_of, on_unit_of, as_procedure, put_before, inside, behind_limits, in_begin, in_group, in_on_unit, in_procedure, only}
+use Rattle.pli_type.specs.StatementTyping.{alone, made, head_of, procedure_of, on_unit_of, as_procedure, put_before, inside, after_limits, in_begin, in_group, in_on_unit, in_procedure, only}
 use Rattle.pli_type.specs.StatementTyping.{statement_typed, body_typed, alternative_typed, statements_typed}
-use Rattle.pli_type.specs.Temporaries.{Next, behind}
+use Rattle.pli_type.specs.Temporaries.{Next, next_after}
 use Rattle.pli_type_laws.proofs.BlocksKnown.{Sits, sits_parts, begun_count, begin_no_procedure, unit_no_procedure}
-use Rattle.pli_type_name_laws.specs.SourceBlocks.{SourceBlock, unit_blocks, begun_in, begun_by, begun_among, begun_behind}
+use Rattle.pli_type_name_laws.specs.SourceBlocks.{SourceBlock, unit_blocks, begun_in, begun_by, begun_among, begun_after}
 use Rattle.pli_type_tree.specs.Templates.{Template}
 use Rattle.pli_type_tree.specs.TypedTree as typed
 use Rattle.pli_type_tree.specs.TypedTree.{Form, TypedStatement, TypedStatements, NoStatement, OtherWise, NoElse, Else, BlockHead, Global, TypedProcedure, TypedUnit}
@@ -269,20 +269,20 @@ module _ (program : ExternalProcedure) (is_based : ℕ → Bool) (based : List �
     body_here s x number at (tree.Do (Some (tree.Iterate variable equals first range tested)) ss end) sits =
         with_here sizes_of blocks_among blocks_of_form typed.Iterate x.block (x.block + source.blocks_among ss)
         (iteration (naming_at U s) x.temporary variable equals first range tested)
-        (statements_typed U (in_group ss s) (behind_limits range x) ss) (λ parent c list. refl) (list_here (in_group ss s) (behind_limits range x) ss sits)
+        (statements_typed U (in_group ss s) (after_limits range x) ss) (λ parent c list. refl) (list_here (in_group ss s) (after_limits range x) ss sits)
     body_here s x number at (tree.If tested consequence alternative) sits =
         let parts = sits_parts All x.block (source.blocks_in consequence) (begun_in s.blocks x.block consequence) _ (begun_count s.blocks x.block consequence) sits in
-        at_end blocks_of_form x.block (x.block + source.blocks_in consequence + source.blocks_behind alternative) _
+        at_end blocks_of_form x.block (x.block + source.blocks_in consequence + source.blocks_in_else alternative) _
         (body_typed U s x number at (tree.If tested consequence alternative)) (omega arith)
         (with_here sizes_of (λ parent (b : TypedStatement × OtherWise). blocks_in parent b.0 ++ blocks_of_else parent b.1) blocks_of_form
-        (λ c (b : TypedStatement × OtherWise). typed.If c b.0 b.1) x.block (x.block + source.blocks_in consequence + source.blocks_behind alternative)
+        (λ c (b : TypedStatement × OtherWise). typed.If c b.0 b.1) x.block (x.block + source.blocks_in consequence + source.blocks_in_else alternative)
         (condition (naming_at U s) tested)
-        (together (λ y z. (y, z)) (statement_typed U s x consequence) (alternative_typed U s (behind is_based x consequence) alternative))
+        (together (λ y z. (y, z)) (statement_typed U s x consequence) (alternative_typed U s (next_after is_based x consequence) alternative))
         (λ parent c b. refl)
         (both_here sizes_of blocks_in blocks_of_else (λ parent (b : TypedStatement × OtherWise). blocks_in parent b.0 ++ blocks_of_else parent b.1)
-        (λ y z. (y, z)) x.block (x.block + source.blocks_in consequence) (x.block + source.blocks_in consequence + source.blocks_behind alternative)
-        (statement_typed U s x consequence) (alternative_typed U s (behind is_based x consequence) alternative) (λ parent y z. refl)
-        (statement_here s x consequence parts.0) (alternative_here s (behind is_based x consequence) alternative parts.1)))
+        (λ y z. (y, z)) x.block (x.block + source.blocks_in consequence) (x.block + source.blocks_in consequence + source.blocks_in_else alternative)
+        (statement_typed U s x consequence) (alternative_typed U s (next_after is_based x consequence) alternative) (λ parent y z. refl)
+        (statement_here s x consequence parts.0) (alternative_here s (next_after is_based x consequence) alternative parts.1)))
     body_here s x number at tree.Null sits = none_here sizes_of blocks_of_form x.block (x.block + 0) (body_typed U s x number at tree.Null) (omega arith)
     body_here s x number at (tree.Assign target equals value) sits =
         none_here sizes_of blocks_of_form x.block (x.block + 0) (body_typed U s x number at (tree.Assign target equals value)) (omega arith)
@@ -319,8 +319,8 @@ module _ (program : ExternalProcedure) (is_based : ℕ → Bool) (based : List �
     body_here s x number at (tree.Signal c) sits =
         none_here sizes_of blocks_of_form x.block (x.block + 0) (body_typed U s x number at (tree.Signal c)) (omega arith)
 
-    alternative_here : (s : Surroundings) (x : Next) (e : Alternative) → Sits All x.block (begun_behind s.blocks x.block e)
-        → OnTyped (AreHere sizes_of blocks_of_else x.block (x.block + source.blocks_behind e)) (alternative_typed U s x e)
+    alternative_here : (s : Surroundings) (x : Next) (e : Alternative) → Sits All x.block (begun_after s.blocks x.block e)
+        → OnTyped (AreHere sizes_of blocks_of_else x.block (x.block + source.blocks_in_else e)) (alternative_typed U s x e)
     alternative_here s x tree.NoElse sits = none_here sizes_of blocks_of_else x.block (x.block + 0) (alternative_typed U s x tree.NoElse) (omega arith)
     alternative_here s x (tree.Else st) sits =
         made_here sizes_of blocks_in blocks_of_else Else x.block (x.block + source.blocks_in st) (statement_typed U s x st) (λ parent y. refl)
@@ -335,9 +335,9 @@ module _ (program : ExternalProcedure) (is_based : ℕ → Bool) (based : List �
         at_end blocks_among x.block (x.block + source.blocks_of body + source.blocks_among more) _
         (statements_typed U s x (Before (Numbered number label at body) more)) (omega arith)
         (put_here sizes_of (leaves_nothing body) number x.block (x.block + source.blocks_of body) (x.block + source.blocks_of body + source.blocks_among more)
-        (body_typed U s x number at body) (statements_typed U s (behind is_based x (Numbered number label at body)) more)
+        (body_typed U s x number at body) (statements_typed U s (next_after is_based x (Numbered number label at body)) more)
         (λ e. nothing_left U s x number at body e) (body_here s x number at body parts.0)
-        (list_here s (behind is_based x (Numbered number label at body)) more parts.1))
+        (list_here s (next_after is_based x (Numbered number label at body)) more parts.1))
 
   -- ---- the unit
 

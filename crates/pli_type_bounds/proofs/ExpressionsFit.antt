@@ -37,7 +37,7 @@ use Rattle.pli_type_laws.proofs.Conversions.{OnGiven, given_if}
 use Rattle.pli_type_laws.proofs.Denotations.{OnRead}
 use Rattle.pli_type_laws.proofs.Expressions.{read_option}
 use Rattle.pli_type_laws.proofs.References.{read_then, read_if}
-use Rattle.pli_type_name_laws.proofs.InitialHeld.{all_behind}
+use Rattle.pli_type_name_laws.proofs.InitialHeld.{all_after}
 use Rattle.pli_type_bounds.proofs.Meanings.{IsPart, IsAreaNamed, IsLocatorVariable, IsImplied, locator_fits, IsStorage, IsLocator, IsVariable, IsProcedureNamed, IsMeaning, IsKind, IsValue, IsReferent, IsMeant, IsDenoted, AreArgumentsGiven, IsSegment}
 use Rattle.pli_type_bounds.proofs.OperatorsFit.{given_made, constant_fits, operands_fit, prefix_fits, infix_fits, suited_to_fits, converted_fits, kinds_held, area_fits, denoted_fits, functions_fit}
 use Rattle.pli_type_bounds.proofs.TypesFit.{stated_fits, open_part_fits}
@@ -260,7 +260,7 @@ module _ (t : TypedUnit) where
   one_meant at (WholeAggregate r) h = tt
 
   more_segment : (g : Segment) (ys : List TypedExpression) → IsSegment t g → AllByRecursion (IsExpression t) ys → IsSegment t (with_more g ys)
-  more_segment (OfVariable locator at v xs) ys h k = (h.0, all_behind (IsExpression t) xs ys h.1 k, h.2)
+  more_segment (OfVariable locator at v xs) ys h k = (h.0, all_after (IsExpression t) xs ys h.1 k, h.2)
   more_segment (OfFunction v) ys h k = h
   more_segment OfEmpty ys h k = tt
   more_segment (OfNoVariable at) ys h k = tt

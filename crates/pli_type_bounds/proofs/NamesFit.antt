@@ -37,7 +37,7 @@ use Rattle.pli_type_bounds.proofs.Meanings.{IsPart, IsAreaNamed, IsImplied, loca
 use Rattle.pli_type_bounds.proofs.PartsFit.{way_fits, parts_fit}
 use Rattle.pli_type_bounds.proofs.SymbolsFit.{symbol_fits, initial_fits}
 use Rattle.pli_resolve_bounds.specs.SymbolBounds.{IsLimited}
-use Rattle.pli_type_name_laws.proofs.InitialHeld.{all_behind}
+use Rattle.pli_type_name_laws.proofs.InitialHeld.{all_after}
 use Rattle.pli_type_bounds.proofs.TemplatesFit.{AreSymbols, templates_fit, globals_fit}
 use Rattle.pli_type_bounds.proofs.TypesFit.{stated_fits, taken_fits, all_taken}
 use Rattle.pli_initial_laws.specs.InitialCounts.{HaveFewInitial}
@@ -202,7 +202,7 @@ module _ (u : ExternalProcedure) (none : resolution_faults u ≡ []) where
 
   slots_described : (block : ℕ) → AllByRecursion IsParameterType (parameters_of R block ++ descriptions (Automatic block))
   slots_described block =
-      all_behind IsParameterType (parameters_of R block) (descriptions (Automatic block)) (parameters_described block)
+      all_after IsParameterType (parameters_of R block) (descriptions (Automatic block)) (parameters_described block)
       (described_templates (Automatic block) (automatic_fit block))
 
   global_described : (o : Option Global) (d : Description) → ((g : Global) → o ≡ Some g → IsGlobal g) → description_of o ≡ Some d → IsDescription d

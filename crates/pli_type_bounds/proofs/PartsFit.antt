@@ -6,14 +6,14 @@ use Rattle.std.proofs.Common.{subst, arith}
 use Rattle.std.proofs.lemmas.Option.{same_Some, none-some}
 use Rattle.std.proofs.Math.Nat.{mul-le-mul_right}
 use Rattle.pli_map.specs.Description.{Description, FixedBinary, Character, Varying, Bit, Pointer, Offset, Area, Array, Structure, Members, NoMembers, MemberThen}
-use Rattle.pli_map.specs.Parts.{PlacedPart, member_behind}
+use Rattle.pli_map.specs.Parts.{PlacedPart, member_after}
 use Rattle.std.specs.Int.{next_multiple_of}
 use Rattle.pli_map.specs.Sizes.{extent_of, count_of, alignment_of, size_of, stride_of}
 use Rattle.pli_map.specs.declared.description.Bounds.{Bounds}
 use Rattle.pli_map.proofs.Places.{member_inside}
 use Rattle.pli_type.specs.References.{StridedPart, strides_of, element_of, member_of, part_on, whole_part, with_subscripts}
 use Rattle.pli_type_tree.specs.TypedTree.{Stride}
-use Rattle.pli_type_name_laws.proofs.InitialHeld.{all_behind}
+use Rattle.pli_type_name_laws.proofs.InitialHeld.{all_after}
 use Rattle.pli_type_bounds.proofs.Meanings.{IsPart}
 use Rattle.pli_deck_laws.specs.Limits.{IsDescribed, AreDescribed, IsDescription, AreBounds, IsStride}
 
@@ -73,7 +73,7 @@ strides_fit (b ∷ bs) e h le =
 
 -- ---- members
 
-member_described : (n at : ℕ) (ds : Members) (i : ℕ) (m : PlacedPart) → AreDescribed n ds → member_behind at ds i ≡ Some m → IsDescribed n m.description
+member_described : (n at : ℕ) (ds : Members) (i : ℕ) (m : PlacedPart) → AreDescribed n ds → member_after at ds i ≡ Some m → IsDescribed n m.description
 member_described n at NoMembers i m h e = absurd (none-some m e)
 member_described n at (MemberThen d ds) zero m h e = subst (λ (p : PlacedPart). IsDescribed n p.description) (same_Some _ m e) h.0
 member_described n at (MemberThen d ds) (suc i) m h e = member_described n (next_multiple_of at (alignment_of d) + size_of d) ds i m h.1 e
@@ -105,7 +105,7 @@ module _ (size : ℕ) (small : size ≤ 1000000) where
       record {
         within = omega (arith, h.within, less);
         described = element_described bs e h.described;
-        strides = all_behind IsStride ss (strides_of bs e) h.strides (strides_fit bs e bounds (omega (arith, h.within, small)));
+        strides = all_after IsStride ss (strides_of bs e) h.strides (strides_fit bs e bounds (omega (arith, h.within, small)));
       }
   element_lies o (FixedBinary p) ss h = h
   element_lies o (Character k) ss h = h
@@ -117,7 +117,7 @@ module _ (size : ℕ) (small : size ≤ 1000000) where
   element_lies o (Structure ds) ss h = h
 
   of_member : (o : ℕ) (ss : List Stride) (ds : Members) (i : ℕ) (q : StridedPart) (m : Option PlacedPart)
-      → Lies size (strided o (Structure ds) ss) → member_behind 0 ds i ≡ m
+      → Lies size (strided o (Structure ds) ss) → member_after 0 ds i ≡ m
       → option_map (λ m. strided (o + m.offset) m.description ss) m ≡ Some q → Lies size q
   of_member o ss ds i q None h is e = absurd (none-some q e)
   of_member o ss ds i q (Some m) h is e =
@@ -131,9 +131,9 @@ module _ (size : ℕ) (small : size ≤ 1000000) where
 
   member_lies : (o : ℕ) (d : Description) (ss : List Stride) (i : ℕ) (q : StridedPart) → Lies size (strided o d ss)
       → member_of (strided o d ss) i ≡ Some q → Lies size q
-  member_lies o (Structure ds) ss i q h e = of_member o ss ds i q (member_behind 0 ds i) h refl e
+  member_lies o (Structure ds) ss i q h e = of_member o ss ds i q (member_after 0 ds i) h refl e
   member_lies o (Array bs (Structure ds)) ss i q h e =
-      of_member o (ss ++ strides_of bs (Structure ds)) ds i q (member_behind 0 ds i)
+      of_member o (ss ++ strides_of bs (Structure ds)) ds i q (member_after 0 ds i)
       (element_lies o (Array bs (Structure ds)) ss h) refl e
   member_lies o d ss i q h e = absurd (none-some q e)
 

@@ -16,9 +16,9 @@ use Rattle.pli_type.specs.Names.{NamedUnit, NamedAs}
 use Rattle.pli_type.specs.declared.beginning.Beginning.{Beginning}
 use Rattle.pli_type.specs.StatementTyping.{Enclosing, Surroundings, naming_at, block_at, leaves_nothing, assignment, function_end}
 use Rattle.pli_type.specs.StatementTyping.{condition, iteration, call_typed, goto_typed, return_typed, WithProcedures, of_own, together}
-use Rattle.pli_type.specs.StatementTyping.{alone, made, head_of, procedure_of, on_unit_of, as_procedure, put_before, inside, behind_limits, in_begin, in_group, in_on_unit, in_procedure, lasting_alone, only, with_labels, labels_of}
+use Rattle.pli_type.specs.StatementTyping.{alone, made, head_of, procedure_of, on_unit_of, as_procedure, put_before, inside, after_limits, in_begin, in_group, in_on_unit, in_procedure, lasting_alone, only, with_labels, labels_of}
 use Rattle.pli_type.specs.StatementTyping.{statement_typed, body_typed, alternative_typed, statements_typed}
-use Rattle.pli_type.specs.Temporaries.{Next, behind, based_among, temporaries_in, temporaries_of, temporaries_among, temporaries_behind}
+use Rattle.pli_type.specs.Temporaries.{Next, next_after, based_among, temporaries_in, temporaries_of, temporaries_among, temporaries_in_else}
 use Rattle.pli_type.specs.TypingSteps.{items, allocate_typed, free_typed}
 use Rattle.pli_type_laws.specs.TypedUnits.{unit_with}
 use Rattle.pli_type_laws.proofs.Shapes.{IsAllocation, allocate_keeps, HasOwn, iteration_keeps}
@@ -32,7 +32,7 @@ use Rattle.pli_type_bounds.proofs.AllocationsFit.{allocate_fits, free_fits}
 use Rattle.pli_type_bounds.proofs.FormsFit.{condition_fits, items_fit, assignment_fits, call_fits, return_fits, goto_fits, iteration_fits}
 use Rattle.pli_type_laws.proofs.Denotations.{OnRead}
 use Rattle.pli_type_laws.proofs.TypedParts.{OnTyped}
-use Rattle.pli_type_name_laws.proofs.InitialHeld.{all_behind}
+use Rattle.pli_type_name_laws.proofs.InitialHeld.{all_after}
 use Rattle.pli_type_bounds.proofs.Meanings.{IsAreaNamed, IsMeaning}
 use Rattle.pli_deck_laws.specs.Limits.{link_limit, parameter_limit, word_limit, IfThere, IsDescription, IsTemplate}
 use Rattle.pli_deck_laws.specs.WellFormed.{HasBlock, IsHead, IsExpression, IsIteration, IsStatement, IsForm, IsElse, AreStatements, IsProcedure, kept_in, kept_in_form, kept_in_else, kept_among}
@@ -143,7 +143,7 @@ module _ (t : TypedUnit) where
   both_fit : {A B C : Type 0} (P : A → Type 0) (Q : B → Type 0) (R : C → Type 0) (f : A → B → C)
       (r : Result (WithProcedures A) (List Fault)) (q : Result (WithProcedures B) (List Fault))
       → ((x : A) (y : B) → P x → Q y → R (f x y)) → OnTyped (Fit t P) r → OnTyped (Fit t Q) q → OnTyped (Fit t R) (together f r q)
-  both_fit P Q R f (Ok x) (Ok y) g h k = (g x.part y.part h.0 k.0, all_behind (IsProcedure t) x.procedures y.procedures h.1 k.1)
+  both_fit P Q R f (Ok x) (Ok y) g h k = (g x.part y.part h.0 k.0, all_after (IsProcedure t) x.procedures y.procedures h.1 k.1)
   both_fit P Q R f (Ok x) (Err gs) g h k = tt
   both_fit P Q R f (Err fs) (Ok y) g h k = tt
   both_fit P Q R f (Err fs) (Err gs) g h k = tt
@@ -249,7 +249,7 @@ module _ (t : TypedUnit) (program : ExternalProcedure) (is_based : ℕ → Bool)
       → IsForm t left → ((list : TypedStatements) → ListFits t n list → IsProcedure t (make list)) → OnTyped (Fit t (ListFits t n)) r
       → OnTyped (Fit t (FormFits t 0)) (as_procedure left make r)
   procedures_fit n left make (Ok y) form g h =
-      ((form, omega arith), all_behind (IsProcedure t) y.procedures (make y.part ∷ []) h.1 (g y.part h.0, tt))
+      ((form, omega arith), all_after (IsProcedure t) y.procedures (make y.part ∷ []) h.1 (g y.part h.0, tt))
   procedures_fit n left make (Err fs) form g h = tt
 
   -- ---- statements
@@ -303,29 +303,29 @@ module _ (t : TypedUnit) (program : ExternalProcedure) (is_based : ℕ → Bool)
         (λ i e g. both_fit t (λ i. IsIteration t i × HasOwn x.temporary range i) (ListFits t (temporaries_among is_based ss))
         (FormFits t (temporaries_of is_based (tree.Do (Some (tree.Iterate variable equals first range tested)) ss end))) typed.Iterate
         (of_own (iteration (naming_at U s) x.temporary variable equals first range tested))
-        (statements_typed U (in_group ss s) (behind_limits range x) ss) (λ c list j k. ((j.0, k.0), omega (arith, j.1.1, k.1)))
+        (statements_typed U (in_group ss s) (after_limits range x) ss) (λ c list j k. ((j.0, k.0), omega (arith, j.1.1, k.1)))
         (own_fits t (λ i. IsIteration t i × HasOwn x.temporary range i) (iteration (naming_at U s) x.temporary variable equals first range tested)
         (both_read (IsIteration t) (HasOwn x.temporary range) (iteration (naming_at U s) x.temporary variable equals first range tested)
         (iteration_fits t (based (numbers s)) (areas (numbers s)) (meaning (numbers s)) (known m s sits) x.temporary variable equals first range tested)
         (iteration_keeps (naming_at U s) x.temporary variable equals first range tested)))
-        (list_fits false i (in_group ss s) (behind_limits range x) a ss (in_a_group i s ss (subst (λ k. Sits size k s) e sits)) g h.0
+        (list_fits false i (in_group ss s) (after_limits range x) a ss (in_a_group i s ss (subst (λ k. Sits size k s) e sits)) g h.0
         (omega (arith, low)) room))
     body_fits d m s x number at a (tree.If tested consequence alternative) sits n h lt low room =
         deeper_in m (λ m. NestsWithin false m consequence × ElseNests m alternative) _ n
         (λ i e g. both_fit t (IsExpression t)
-        (λ (b : TypedStatement × OtherWise). StatementFits t (temporaries_in is_based consequence) b.0 × ElseFits t (temporaries_behind is_based alternative) b.1)
+        (λ (b : TypedStatement × OtherWise). StatementFits t (temporaries_in is_based consequence) b.0 × ElseFits t (temporaries_in_else is_based alternative) b.1)
         (FormFits t (temporaries_of is_based (tree.If tested consequence alternative)))
         (λ c b. typed.If c b.0 b.1) (of_own (condition (naming_at U s) tested))
-        (together (λ y z. (y, z)) (statement_typed U s x consequence) (alternative_typed U s (behind is_based x consequence) alternative))
+        (together (λ y z. (y, z)) (statement_typed U s x consequence) (alternative_typed U s (next_after is_based x consequence) alternative))
         (λ c b j k. ((j, k.0.0, k.1.0), omega (arith, k.0.1, k.1.1)))
         (own_fits t (IsExpression t) (condition (naming_at U s) tested) (condition_fits t (based (numbers s)) (areas (numbers s)) (meaning (numbers s)) (known m s sits) tested))
-        (both_fit t (StatementFits t (temporaries_in is_based consequence)) (ElseFits t (temporaries_behind is_based alternative))
-        (λ (b : TypedStatement × OtherWise). StatementFits t (temporaries_in is_based consequence) b.0 × ElseFits t (temporaries_behind is_based alternative) b.1)
+        (both_fit t (StatementFits t (temporaries_in is_based consequence)) (ElseFits t (temporaries_in_else is_based alternative))
+        (λ (b : TypedStatement × OtherWise). StatementFits t (temporaries_in is_based consequence) b.0 × ElseFits t (temporaries_in_else is_based alternative) b.1)
         (λ y z. (y, z))
-        (statement_typed U s x consequence) (alternative_typed U s (behind is_based x consequence) alternative) (λ y z j k. (j, k))
+        (statement_typed U s x consequence) (alternative_typed U s (next_after is_based x consequence) alternative) (λ y z j k. (j, k))
         (statement_fits false i s x a consequence (fewer i s (subst (λ k. Sits size k s) e sits)) g.0 h.0 (omega (arith, low))
         (omega (arith, room)))
-        (alternative_fits i s (behind is_based x consequence) (a + count consequence) alternative (fewer i s (subst (λ k. Sits size k s) e sits)) g.1 h.1
+        (alternative_fits i s (next_after is_based x consequence) (a + count consequence) alternative (fewer i s (subst (λ k. Sits size k s) e sits)) g.1 h.1
         (omega (arith, low)) (omega (arith, room)))))
     body_fits d m s x number at a tree.Stop sits n h lt low room = ((tt, omega arith), tt)
     body_fits d m s x number at a (tree.Allocate list) sits n h lt low room =
@@ -366,8 +366,8 @@ module _ (t : TypedUnit) (program : ExternalProcedure) (is_based : ℕ → Bool)
     body_fits d m s x number at a (tree.Signal c) sits n h lt low room = ((tt, omega arith), tt)
 
     alternative_fits : (m : ℕ) (s : Surroundings) (x : Next) (a : ℕ) (e : Alternative) → Sits size m s → ElseNests m e
-        → IsNumberedElse a e → a + alternative_count e ≤ word_limit → x.block + blocks.blocks_behind e ≤ size
-        → OnTyped (Fit t (ElseFits t (temporaries_behind is_based e))) (alternative_typed U s x e)
+        → IsNumberedElse a e → a + alternative_count e ≤ word_limit → x.block + blocks.blocks_in_else e ≤ size
+        → OnTyped (Fit t (ElseFits t (temporaries_in_else is_based e))) (alternative_typed U s x e)
     alternative_fits m s x a tree.NoElse sits n h low room = ((tt, omega arith), tt)
     alternative_fits m s x a (tree.Else st) sits n h low room =
         made_fits t (StatementFits t (temporaries_in is_based st)) (ElseFits t (temporaries_in is_based st)) Else (statement_typed U s x st) (λ y k. k)
@@ -380,8 +380,8 @@ module _ (t : TypedUnit) (program : ExternalProcedure) (is_based : ℕ → Bool)
     list_fits d m s x a (Before (Numbered number label at body) more) sits n h low room =
         both_fit t (StatementFits t (temporaries_of is_based body)) (ListFits t (temporaries_among is_based more)) (ListFits t (temporaries_of is_based body + temporaries_among is_based more))
         (put_before (leaves_nothing body))
-        (statement_typed U s x (Numbered number label at body)) (statements_typed U s (behind is_based x (Numbered number label at body)) more)
+        (statement_typed U s x (Numbered number label at body)) (statements_typed U s (next_after is_based x (Numbered number label at body)) more)
         (λ y z j k. put_fits t (leaves_nothing body) y z (temporaries_of is_based body) (temporaries_among is_based more) (nothing_kept is_based body) j k)
         (statement_fits d m s x a (Numbered number label at body) sits n.0 h.0 (omega (arith, low)) (omega (arith, room)))
-        (list_fits d m s (behind is_based x (Numbered number label at body)) (a + count (Numbered number label at body)) more sits n.1 h.1
+        (list_fits d m s (next_after is_based x (Numbered number label at body)) (a + count (Numbered number label at body)) more sits n.1 h.1
         (omega (arith, low)) (omega (arith, room)))

@@ -13,7 +13,7 @@ use Rattle.pli_base.specs.Name.{Name}
 use Rattle.pli_declare_attributes.specs.declared.completed.ScopeAttribute.{ScopeAttribute}
 use Rattle.pli_declare_attributes.specs.declared.completed.ScopeAttribute.TheVariants as scopes
 use Rattle.pli_map.specs.Description.{Description, FixedBinary, Character, Varying, Bit, Pointer, Offset, Area, Array, Structure, Members, NoMembers, MemberThen}
-use Rattle.pli_bytes.specs.Contents.{scalar_on, spread, scalars_at, scalars_behind}
+use Rattle.pli_bytes.specs.Contents.{scalar_on, spread, scalars_at, scalars_after}
 use Rattle.pli_bytes.proofs.Rising.{Rise, rises}
 use Rattle.pli_bytes.proofs.Scalars.{scalar_moved}
 use Rattle.pli_bytes.proofs.ScalarsOn.{on_itself}
@@ -38,7 +38,7 @@ use Rattle.pli_type_tree.specs.TypedTree.{Global}
 use Rattle.pli_value.specs.Numbers.{has_digits}
 use Rattle.pli_value.specs.Strings.{fitted}
 use Rattle.pli_value.specs.Value.{Value, Number, Characters, Bits, Located}
-use Rattle.pli_type_name_laws.proofs.InitialHeld.{all_behind}
+use Rattle.pli_type_name_laws.proofs.InitialHeld.{all_after}
 use Rattle.pli_resolve_bounds.specs.SymbolBounds.{IsLimited}
 use Rattle.pli_initial_laws.specs.InitialCounts.{HasFewInitial, HaveFewInitial}
 use Rattle.pli_type_bounds.proofs.TypesFit.{all_taken}
@@ -184,7 +184,7 @@ in_elements whole ss f stride each (suc k) front back at split =
     let one = map (moved at) ss in
     let rest = spread (at + stride) stride k ss in
     let here : whole ≡ front ++ (one ++ (rest ++ back)) = split ∙ ap (λ xs. front ++ xs) (append_assoc one rest back) in
-    all_behind (Suits whole) (f at) (flat_map f (counted_from (at + stride) stride k)) (each front (rest ++ back) at here)
+    all_after (Suits whole) (f at) (flat_map f (counted_from (at + stride) stride k)) (each front (rest ++ back) at here)
     (in_elements whole ss f stride each k (front ++ one) back (at + stride) (here ∙ sym (append_assoc front one (rest ++ back))))
 
 -- those of an array that stands at a byte, and of the members of a structure
@@ -199,16 +199,16 @@ spread_from m at stride (suc n) ss =
 spread_moved : (at stride count : ℕ) (ss : List PlacedPart) → map (moved at) (spread 0 stride count ss) ≡ spread at stride count ss
 spread_moved at stride count ss = let same : at + 0 ≡ at = omega arith in spread_from at 0 stride count ss ∙ ap (λ k. spread k stride count ss) same
 
-abbrev behind_first : Description → Members → (ended : ℕ) → List PlacedPart
-behind_first d ds ended = scalars_behind (next_multiple_of ended (alignment_of d) + size_of d) ds
+abbrev after_first : Description → Members → (ended : ℕ) → List PlacedPart
+after_first d ds ended = scalars_after (next_multiple_of ended (alignment_of d) + size_of d) ds
 
 members_split : (d : Description) (ds : Members) (front back : List PlacedPart) (at ended : ℕ)
-    → front ++ (map (moved at) (scalars_behind ended (MemberThen d ds)) ++ back)
-    ≡ front ++ (map (moved (at + next_multiple_of ended (alignment_of d))) (scalars_at d) ++ (map (moved at) (behind_first d ds ended) ++ back))
+    → front ++ (map (moved at) (scalars_after ended (MemberThen d ds)) ++ back)
+    ≡ front ++ (map (moved (at + next_multiple_of ended (alignment_of d))) (scalars_at d) ++ (map (moved at) (after_first d ds ended) ++ back))
 members_split d ds front back at ended =
     let start = next_multiple_of ended (alignment_of d) in
-    let others = map (moved at) (behind_first d ds ended) in
-    ap (λ ss. front ++ (ss ++ back)) (map-append (moved at) (map (moved start) (scalars_at d)) (behind_first d ds ended) ∙ ap (λ ss. ss ++ others) (moved_twice at start (scalars_at d)))
+    let others = map (moved at) (after_first d ds ended) in
+    ap (λ ss. front ++ (ss ++ back)) (map-append (moved at) (map (moved start) (scalars_at d)) (after_first d ds ended) ∙ ap (λ ss. ss ++ others) (moved_twice at start (scalars_at d)))
     ∙ ap (λ ss. front ++ ss) (append_assoc (map (moved (at + start)) (scalars_at d)) others back)
 
 mutual
@@ -231,17 +231,17 @@ mutual
   item_scalars whole d path front back at plain split = absurd (not_true plain)
 
   member_scalars : (whole : List PlacedPart) (ds : Members) (i : ℕ) (path : List ℕ) (front back : List PlacedPart) (at ended : ℕ)
-      → all_plain 63 ds ≡ true → whole ≡ front ++ (map (moved at) (scalars_behind ended ds) ++ back)
+      → all_plain 63 ds ≡ true → whole ≡ front ++ (map (moved at) (scalars_after ended ds) ++ back)
       → AllByRecursion (Suits whole) (scalars_in_member ds i path at ended)
   member_scalars whole NoMembers i path front back at ended plain split = tt
   member_scalars whole (MemberThen d ds) zero path front back at ended plain split =
-      item_scalars whole d path front (map (moved at) (behind_first d ds ended) ++ back) (at + next_multiple_of ended (alignment_of d))
+      item_scalars whole d path front (map (moved at) (after_first d ds ended) ++ back) (at + next_multiple_of ended (alignment_of d))
       (and_parts (is_plain 63 d) (all_plain 63 ds) plain).0 (split ∙ members_split d ds front back at ended)
   member_scalars whole (MemberThen d ds) (suc i) path front back at ended plain split =
       let own = map (moved (at + next_multiple_of ended (alignment_of d))) (scalars_at d) in
       member_scalars whole ds i path (front ++ own) back at (next_multiple_of ended (alignment_of d) + size_of d)
       (and_parts (is_plain 63 d) (all_plain 63 ds) plain).1
-      (split ∙ members_split d ds front back at ended ∙ sym (append_assoc front own (map (moved at) (behind_first d ds ended) ++ back)))
+      (split ∙ members_split d ds front back at ended ∙ sym (append_assoc front own (map (moved at) (after_first d ds ended) ++ back)))
 
 -- ---- initial values
 
@@ -262,7 +262,7 @@ items_fit : (d : Description) (items : List InitialItem) → is_plain 63 d ≡ t
 items_fit d [] plain = tt
 items_fit d (i ∷ is) plain =
     let whole : map (moved 0) (scalars_at d) ++ [] ≡ scalars_at d = append-nil (map (moved 0) (scalars_at d)) ∙ not_moved (scalars_at d) in
-    all_behind (IsInitial d) (initial_scalars d i) (flat_map (initial_scalars d) is)
+    all_after (IsInitial d) (initial_scalars d i) (flat_map (initial_scalars d) is)
     (each_fits d (scalars_on d i.path 0) (values_written i.values)
     (item_scalars (scalars_at d) d i.path [] [] 0 plain (sym whole)))
     (items_fit d is plain)
@@ -312,7 +312,7 @@ module _ (is_such : StorageClass → Description → Bool) (stored : (class : St
       → AllByRecursion IsTemplate (templates_from is_such all number ss)
   templates_fit number [] h few = tt
   templates_fit number (s ∷ ss) h few =
-      all_behind IsTemplate (template_at is_such all number s.kind) (templates_from is_such all (suc number) ss)
+      all_after IsTemplate (template_at is_such all number s.kind) (templates_from is_such all (suc number) ss)
       (symbol_fits number s.kind h.0 few.0) (templates_fit (suc number) ss h.1 few.1)
 
 -- ---- globals
@@ -348,7 +348,7 @@ module _ (all : List Symbol) where
   globals_fit_from number [] h few = tt
   globals_fit_from number (s ∷ ss) h few =
       let own : List Global = global_with 63 all number s.identifier.name s.kind in
-      all_behind IsPlacedGlobal (map (placed s.identifier.at) own) (globals_from 63 all (suc number) ss)
+      all_after IsPlacedGlobal (map (placed s.identifier.at) own) (globals_from 63 all (suc number) ss)
       (placed_fit s.identifier.at own (global_fits number s.identifier.name s.kind h.0 few.0))
       (globals_fit_from (suc number) ss h.1 few.1)
 
@@ -362,7 +362,7 @@ AreBlocks blocks = AllByRecursion (λ (ss : List Symbol). AreSymbols ss × HaveF
 blocks_fit : (blocks : List (List Symbol)) → AreBlocks blocks → AllPlaced (block_globals 63 blocks)
 blocks_fit [] h = tt
 blocks_fit (ss ∷ more) h =
-    all_behind (λ (p : PlacedGlobal). IsGlobal p.global) (globals_of 63 ss) (block_globals 63 more)
+    all_after (λ (p : PlacedGlobal). IsGlobal p.global) (globals_of 63 ss) (block_globals 63 more)
     (globals_fit_from ss 0 ss h.0.0 h.0.1) (blocks_fit more h.1)
 
 unplaced : (ps : List PlacedGlobal) → AllPlaced ps → AllByRecursion IsGlobal (map (λ (p : PlacedGlobal). p.global) ps)

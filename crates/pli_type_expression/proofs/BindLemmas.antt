@@ -1,4 +1,4 @@
--- One step behind another, where each gives a value or a fault.
+-- One step after another, where each gives a value or a fault.
 use Rattle.std.proofs.Common.{◌≡◌, Result, Ok, Err, IsErrAnd, List, [], ◌∷◌, ◌++◌, refl, ap, sym, subst, append_assoc}
 use Rattle.pli_base.specs.Results.{◌>>=◌}
 use Rattle.pli_base.specs.declared.token.Fault.{Fault}
@@ -27,16 +27,16 @@ pub bind_assoc : {X Y Z : Type 0} (r : Result X Fault) (f : X → Result Y Fault
 bind_assoc (Ok x) f g = refl
 bind_assoc (Err e) f g = refl
 
--- behind a value
+-- after a value
 pub bind_ok : {X Y : Type 0} (r : Result X Fault) (x : X) (k : X → Result Y Fault) → r ≡ Ok x
     → (r >>= k) ≡ k x
 bind_ok r x k p = ap (λ s. s >>= k) p
 
--- one item more in front of the rest, which stands behind others
-pub one_behind : {X : Type 0} (rest : Result (List X) Fault) (xs : List X) (x : X)
+-- one item more in front of the rest, which stands after others
+pub one_after : {X : Type 0} (rest : Result (List X) Fault) (xs : List X) (x : X)
     → ((rest >>= λ ys. Ok (x ∷ ys)) >>= λ ys. Ok (xs ++ ys)) ≡ (rest >>= λ ys. Ok ((xs ++ x ∷ []) ++ ys))
-one_behind (Ok ys) xs x = ap (λ zs. Ok zs) (sym (append_assoc xs (x ∷ []) ys))
-one_behind (Err e) xs x = refl
+one_after (Ok ys) xs x = ap (λ zs. Ok zs) (sym (append_assoc xs (x ∷ []) ys))
+one_after (Err e) xs x = refl
 
 -- nothing stands in front
 pub none_before : {X : Type 0} (rest : Result (List X) Fault) → (rest >>= λ ys. Ok ([] ++ ys)) ≡ rest

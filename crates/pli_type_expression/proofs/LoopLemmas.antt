@@ -25,7 +25,7 @@ use Rattle.pli_type_expression.proofs.BindLemmas.{fails_on, fails_as, bind_ok, n
 use Rattle.pli_type_expression.proofs.WalkLemmas.{subscripts_with, arguments_with, more_subscripts, more_arguments}
 use Rattle.pli_type_expression.proofs.WalkLemmas.{subscript_unmeant, subscript_refused, argument_unmeant}
 
--- the item at a place, and those behind it
+-- the item at a place, and those after it
 at_place : {X : Type 0} (xs : List X) (i : ℕ) (x : X) → i < length xs → x ≡ get_or xs i x
     → drop i xs ≡ x ∷ drop (i + 1) xs
 at_place xs i x within is = drop_more xs i x within ∙ ap (λ y. y ∷ drop (i + 1) xs) (sym is)

@@ -30,7 +30,7 @@ use Rattle.pli_base.specs.declared.token.Fault.{Fault}
 use Rattle.pli_type_expression.proofs.BindLemmas.{fails_on, fails_as, bind_assoc, bind_ok}
 use Rattle.pli_type_expression.proofs.WrittenCalls.{gives_as}
 
--- behind a name of a variable stand subscripts
+-- after a name of a variable stand subscripts
 pub begun_at_variable : (n : Naming) (w : NamedAs) (v : NamedVariable) → IsMeantAs (answers.Variable v) w
     → (call : Bool) (locator : LocatorBefore) (at : ℕ) (list : Expressions)
     → begun n w call locator at (Given list) ≡ (all_subscripts n list >>= λ xs. Ok (of_name w locator at xs))
@@ -244,13 +244,13 @@ begun_as_name n (ALabel s) true locator at c e h = refl
 begun_as_name n Untyped true locator at c e h = refl
 
 -- further subscripts
-pub more_behind_name : (w : NamedAs) (locator : LocatorBefore) (at : ℕ) (xs ys : List TypedExpression)
+pub more_after_name : (w : NamedAs) (locator : LocatorBefore) (at : ℕ) (xs ys : List TypedExpression)
     → of_name w locator at (xs ++ ys) ≡ with_more (of_name w locator at xs) ys
-more_behind_name (AVariable u) locator at xs ys = refl
-more_behind_name (AFunction g) locator at xs ys = refl
-more_behind_name (AProcedure q) locator at xs ys = refl
-more_behind_name (ALabel s) locator at xs ys = refl
-more_behind_name Untyped locator at xs ys = refl
+more_after_name (AVariable u) locator at xs ys = refl
+more_after_name (AFunction g) locator at xs ys = refl
+more_after_name (AProcedure q) locator at xs ys = refl
+more_after_name (ALabel s) locator at xs ys = refl
+more_after_name Untyped locator at xs ys = refl
 
 -- where a segment ends
 pub ended_at_variable : (w : NamedAs) (v : NamedVariable) → IsMeantAs (answers.Variable v) w → (role : Role)

@@ -10,7 +10,7 @@ use Rattle.pli_type_tree.specs.declared.expression.TypedExpression as value
 use Rattle.pli_type_tree.specs.declared.expression.TypedSubscript.{TypedSubscript}
 use Rattle.pli_type_tree.specs.views.TypedView.{expression_view, stride_view, subscripts_view}
 
--- subscripts behind those in a vector
+-- subscripts after those in a vector
 abbrev pub subscripts_before : List TypedSubscript → Subscripts → Subscripts
 subscripts_before [] more = more
 subscripts_before (x ∷ xs) more =
@@ -39,12 +39,12 @@ nothing_placed ss xs (inr p) = ap (subscripts_at ss) p ∙ none ss
 
 -- one more
 pub placed_more : (done after : List TypedSubscript) (x : TypedSubscript) (ss left : List program.Stride)
-    (xs behind : List value.TypedExpression) → ss ≡ x.stride ∷ left → xs ≡ x.value ∷ behind
+    (xs later : List value.TypedExpression) → ss ≡ x.stride ∷ left → xs ≡ x.value ∷ later
     → after ≡ done ++ x ∷ []
-    → subscripts_before after (subscripts_at (map stride_view left) (map expression_view behind))
+    → subscripts_before after (subscripts_at (map stride_view left) (map expression_view later))
     ≡ subscripts_before done (subscripts_at (map stride_view ss) (map expression_view xs))
-placed_more done after x ss left xs behind p q pushed =
-    let rest = subscripts_at (map stride_view left) (map expression_view behind) in
+placed_more done after x ss left xs later p q pushed =
+    let rest = subscripts_at (map stride_view left) (map expression_view later) in
     ap (λ zs. subscripts_before zs rest) pushed ∙ sym (before_pushed done x rest)
     ∙ sym (ap (λ zs. subscripts_before done (subscripts_at (map stride_view zs) (map expression_view xs))) p
     ∙ ap (λ zs. subscripts_before done (subscripts_at (map stride_view (x.stride ∷ left)) (map expression_view zs))) q)

@@ -25,7 +25,7 @@ use Rattle.pli_type_operands.specs.Operated.{infix_of, right_of, infixed}
 use Rattle.pli_type_expression.specs.Segments.{last_segment}
 use Rattle.pli_base.specs.answers.FailureAnswers.{Fails}
 use Rattle.pli_base.specs.declared.failure.Failure.{Failure}
-use Rattle.pli_type_expression.proofs.BindLemmas.{fails_on, fails_as, bind_ok, one_behind}
+use Rattle.pli_type_expression.proofs.BindLemmas.{fails_on, fails_as, bind_ok, one_after}
 
 -- subscripts
 
@@ -33,7 +33,7 @@ use Rattle.pli_type_expression.proofs.BindLemmas.{fails_on, fails_as, bind_ok, o
 abbrev pub subscripts_with : Naming → List TypedExpression → Expressions → Result (List TypedExpression) Fault
 subscripts_with n xs list = all_subscripts n list >>= λ ys. Ok (xs ++ ys)
 
--- what a value gives as a subscript, with the others behind it
+-- what a value gives as a subscript, with the others after it
 abbrev subscript_then : Naming → Expression → Expressions → TypedValue → Result (List TypedExpression) Fault
 subscript_then n e more v =
     subscript_value n.greatest (first_token e) v >>= λ x. (all_subscripts n more >>= λ xs. Ok (x ∷ xs))
@@ -47,7 +47,7 @@ more_subscripts n xs e more v x p q =
     let g : List TypedExpression → Result (List TypedExpression) Fault = λ ys. Ok (xs ++ ys) in
     ap (λ r. (r >>= subscript_then n e more) >>= g) p
     ∙ ap (λ r. (r >>= k) >>= g) q
-    ∙ one_behind (all_subscripts n more) xs x
+    ∙ one_after (all_subscripts n more) xs x
 
 pub subscript_unmeant : (n : Naming) (xs : List TypedExpression) (e : Expression) (more : Expressions)
     (error : Failure Fault) → Fails error (value_of n e) → Fails error (subscripts_with n xs (Listed e more))
@@ -93,7 +93,7 @@ more_arguments n roles i gs e more d p =
     let g : List Argument → Result (List Argument) Fault = λ hs. Ok (gs ++ hs) in
     ap (λ r. r >>= g) (arguments_step n roles i e more)
     ∙ ap (λ r. (r >>= k) >>= g) p
-    ∙ one_behind (all_arguments n (drop (i + 1) roles) more) gs (argument e d)
+    ∙ one_after (all_arguments n (drop (i + 1) roles) more) gs (argument e d)
 
 pub argument_unmeant : (n : Naming) (roles : List Role) (i : ℕ) (gs : List Argument) (e : Expression)
     (more : Expressions) (error : Failure Fault) → Fails error (denoted n (get_or roles i AsArgument) e)
@@ -117,18 +117,18 @@ pub joined_ends : (n : Naming) (role : Role) (s : Segment) (more : JoinedParts)
     → joined n role s more ≡ (last_segment n s more >>= ended role)
 joined_ends n role s Alone = refl
 joined_ends n role s (Joined Member name arguments more) =
-    behind (λ t. joined_ends n role t more) (subscripts_in n arguments)
+    after (λ t. joined_ends n role t more) (subscripts_in n arguments)
   where
-    behind : ((t : Segment) → joined n role t more ≡ (last_segment n t more >>= ended role))
+    after : ((t : Segment) → joined n role t more ≡ (last_segment n t more >>= ended role))
         → (r : Result (List TypedExpression) Fault)
         → (r >>= λ xs. joined n role (with_more s xs) more)
         ≡ (((r >>= λ xs. Ok (with_more s xs)) >>= λ t. last_segment n t more) >>= ended role)
-    behind ih (Ok xs) = ih (with_more s xs)
-    behind ih (Err f) = refl
+    after ih (Ok xs) = ih (with_more s xs)
+    after ih (Err f) = refl
 joined_ends n role s (Joined Located name arguments more) =
     ap (λ call. ended AsLocator s >>= λ l. (begun n (n.meaning name.at) call (as_locator l) name.at arguments
     >>= λ t. joined n role t more)) (is_call_located role more)
-    ∙ behind (λ t. joined_ends n role t more) (ended AsLocator s) (λ l. begun n (n.meaning name.at) false (as_locator l) name.at arguments)
+    ∙ after (λ t. joined_ends n role t more) (ended AsLocator s) (λ l. begun n (n.meaning name.at) false (as_locator l) name.at arguments)
   where
     once : ((t : Segment) → joined n role t more ≡ (last_segment n t more >>= ended role))
         → (b : Result Segment Fault)
@@ -136,12 +136,12 @@ joined_ends n role s (Joined Located name arguments more) =
     once ih (Ok t) = ih t
     once ih (Err f) = refl
 
-    behind : ((t : Segment) → joined n role t more ≡ (last_segment n t more >>= ended role))
+    after : ((t : Segment) → joined n role t more ≡ (last_segment n t more >>= ended role))
         → (l : Result Denoted Fault) (b : Denoted → Result Segment Fault)
         → (l >>= λ d. (b d >>= λ t. joined n role t more))
         ≡ (((l >>= λ d. b d) >>= λ t. last_segment n t more) >>= ended role)
-    behind ih (Err f) b = refl
-    behind ih (Ok d) b = once ih (b d)
+    after ih (Err f) b = refl
+    after ih (Ok d) b = once ih (b d)
 
 -- a reference by its parts
 referred_ends : (n : Naming) (role : Role) (name : Identifier) (arguments : Arguments) (more : JoinedParts)

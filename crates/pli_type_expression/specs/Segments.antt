@@ -30,7 +30,7 @@ abbrev pub means_one : (is_such : BuiltInFunction → Bool) → NamedAs → Bool
 means_one is_such (AFunction function) = is_such function
 means_one is_such meant = false
 
--- the segment behind a part that is joined to one
+-- the segment after a part that is joined to one
 abbrev pub next_segment : Naming → Segment → Joining → Identifier → Arguments → Result Segment Fault
 next_segment n s Member name arguments = subscripts_in n arguments >>= λ xs. Ok (with_more s xs)
 next_segment n s Located name arguments =

@@ -266,7 +266,7 @@ fn with_part(
     }
 }
 
-/// A segment by what its first name means, with the parentheses behind that: subscripts of a variable, else arguments.
+/// A segment by what its first name means, with the parentheses after that: subscripts of a variable, else arguments.
 #[cycle(typed)]
 fn begun(
     alloc: Global,
@@ -332,7 +332,7 @@ fn begun_with(
     }
 }
 
-/// A call of a built-in function: T6 at its name where the number of arguments is wrong, behind all their faults.
+/// A call of a built-in function: T6 at its name where the number of arguments is wrong, after all their faults.
 #[cycle(typed)]
 fn called(
     alloc: Global,
@@ -352,7 +352,7 @@ fn called(
     function_called(alloc, greatest(naming), function, at, arguments)
 }
 
-/// The subscripts in the parentheses behind a member, from left to right.
+/// The subscripts in the parentheses after a member, from left to right.
 #[cycle(typed)]
 fn subscripts_in(
     alloc: Global,

@@ -33,9 +33,9 @@ pub struct LocatorVariable {
 pub(crate) enum LocatorBefore {
     /// No arrow.
     NotLocated,
-    /// An arrow behind a locator, which gives this pointer.
+    /// An arrow after a locator, which gives this pointer.
     LocatedBy(Box<TypedExpression>),
-    /// An arrow behind what leads nowhere.
+    /// An arrow after what leads nowhere.
     LocatedWrongly,
 }
 

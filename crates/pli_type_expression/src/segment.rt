@@ -27,7 +27,7 @@ use std::alloc::{AllocError, Global};
 #[derive(Drop)]
 pub(crate) enum Segment {
     /// The name at a token, of a variable or of what is none, with what stands in front of it, and the subscripts
-    /// behind it and behind the members that are joined to it.
+    /// after it and after the members that are joined to it.
     Named {
         locator: LocatorBefore,
         at: u32,
@@ -39,7 +39,7 @@ pub(crate) enum Segment {
     Empty,
 }
 
-/// Whether parentheses behind a reference's first name are those of a call: where it stands alone, and a value is
+/// Whether parentheses after a reference's first name are those of a call: where it stands alone, and a value is
 /// wanted.
 #[tactic(auto, using(crate::proofs::MeaningLemmas::call_of_value, crate::proofs::MeaningLemmas::call_of_argument))]
 pub(crate) fn is_call(role: Role, joined: &[JoinedPart]) -> bool
@@ -128,7 +128,7 @@ impl Segment {
         }
     }
 
-    /// The segment with further subscripts; those behind what is no variable say nothing.
+    /// The segment with further subscripts; those after what is no variable say nothing.
     pub(crate) fn with_more(self, more: Vec<TypedExpression>) -> Result<Segment, AllocError>
         ensures { IfOk result (λ s. (n : names.Naming)
             → segment_view n s ≡ typing.with_more (segment_view n self) (map expression_view more.items)) }

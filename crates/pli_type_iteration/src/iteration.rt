@@ -134,7 +134,7 @@ fn suits_range(taken: TypeRef<'_>, range: &TypedRange) -> bool
     }
 }
 
-/// Whether a part of a reference stands behind an arrow.
+/// Whether a part of a reference stands after an arrow.
 fn is_arrow(part: &JoinedPart) -> bool
     ensures { result ≡ is_arrow part.now.joining }
 {
@@ -193,7 +193,7 @@ fn controls<'a>(
     Ok(Box::new(alloc, referent)?)
 }
 
-/// WHILE behind them, if it stands there.
+/// WHILE after them, if it stands there.
 fn possible_condition(
     alloc: Global,
     naming: &Naming<'_>,
@@ -405,7 +405,7 @@ fn iterated(
 }
 
 /// What `DO v = a ..` says, whose temporaries begin with this one, or its first fault: those of a, of TO and BY, of v,
-/// then T12 at v's first name behind its last arrow, T5 at `=`, those of WHILE, and those of REPEAT (own).
+/// then T12 at v's first name after its last arrow, T5 at `=`, those of WHILE, and those of REPEAT (own).
 pub(crate) fn iteration(
     alloc: Global,
     naming: &Naming<'_>,

@@ -11,7 +11,7 @@ use Rattle.pli_resolve.specs.declared.block_numbers.ResolvedBlockKind.TheVariant
 use Rattle.pli_type.specs.StatementTyping.{Enclosing, enclosing, labels_of, lasting_alone, only, with_labels}
 use Rattle.pli_resolve.specs.TreeBlocks as blocks
 use Rattle.pli_type_name_laws.specs.Nesting.{NestsWithin, BodyNests, ListNests, ElseNests}
-use Rattle.pli_type_name_laws.specs.SourceBlocks.{SourceBlock, begun_in, begun_by, begun_among, begun_behind}
+use Rattle.pli_type_name_laws.specs.SourceBlocks.{SourceBlock, begun_in, begun_by, begun_among, begun_after}
 
 -- ---- labels
 
@@ -30,8 +30,8 @@ within_both xs ys vs ws f g label e =
     ∙ or_both (list_any (nat_eq label) xs) (list_any (nat_eq label) ys) (list_any (nat_eq label) vs)
     (list_any (nat_eq label) ws) (f label) (g label) (sym (list_any-append (nat_eq label) xs ys) ∙ e)
 
-pub within_behind : (xs ys zs : List ℕ) → Within xs zs → Within xs (ys ++ zs)
-within_behind xs ys zs f label e =
+pub within_after : (xs ys zs : List ℕ) → Within xs zs → Within xs (ys ++ zs)
+within_after xs ys zs f label e =
     list_any-append (nat_eq label) ys zs ∙ or_both false (list_any (nat_eq label) xs) (list_any (nat_eq label) ys)
     (list_any (nat_eq label) zs) (λ e. absurd (cc)) (f label) e
 
@@ -55,7 +55,7 @@ mutual
   body_count around x number (tree.If condition consequence alternative) =
       omega (
         arith,
-        length-append (begun_in around x consequence) (begun_behind around (x + blocks.blocks_in consequence) alternative),
+        length-append (begun_in around x consequence) (begun_after around (x + blocks.blocks_in consequence) alternative),
         begun_count around x consequence,
         else_count around (x + blocks.blocks_in consequence) alternative,
       )
@@ -75,7 +75,7 @@ mutual
       )
 
   else_count : (around : List Enclosing) (x : ℕ) (a : Alternative)
-      → length (begun_behind around x a) ≡ blocks.blocks_behind a
+      → length (begun_after around x a) ≡ blocks.blocks_in_else a
   else_count around x NoElse = refl
   else_count around x (Else s) = begun_count around x s
 
@@ -128,7 +128,7 @@ module _ (all : List SourceBlock) where
   pub home_labels : (labels : List ℕ) (around : List Enclosing) → AreHome around → AreHome (with_labels labels around)
   home_labels labels [] h = tt
   home_labels labels (e ∷ rest) h =
-      ((h.0.0, h.0.1, h.0.2, within_behind h.0.0.labels labels e.labels h.0.3, h.0.4), h.1)
+      ((h.0.0, h.0.1, h.0.2, within_after h.0.0.labels labels e.labels h.0.3, h.0.4), h.1)
 
   pub home_lasting : (around : List Enclosing) → AreHome around → AreHome (lasting_alone around)
   home_lasting [] h = tt
@@ -170,12 +170,12 @@ module _ (all : List SourceBlock) where
         (λ m g. direct_among false m (with_labels (labels_of statements) around) x statements g (λ e. absurd (cc)) h)
     direct_by d levels around x number (tree.If condition consequence alternative) n k h =
         let parts : Sits x (begun_in around x consequence)
-        × Sits (x + blocks.blocks_in consequence) (begun_behind around (x + blocks.blocks_in consequence) alternative) =
+        × Sits (x + blocks.blocks_in consequence) (begun_after around (x + blocks.blocks_in consequence) alternative) =
         sits_parts x (blocks.blocks_in consequence) _ _ (begun_count around x consequence) h in
         inside levels (λ m. NestsWithin false m consequence × ElseNests m alternative) _ n
         (λ m g. direct_both (begun_in around x consequence) _
         (direct_in false m around x consequence g.0 (λ e. absurd (cc)) parts.0)
-        (direct_behind m around (x + blocks.blocks_in consequence) alternative g.1 parts.1))
+        (direct_after m around (x + blocks.blocks_in consequence) alternative g.1 parts.1))
     direct_by d levels around x number (tree.On condition unit) n k h = (
       λ e. absurd (unit_no_procedure e),
       inside levels (λ m. NestsWithin false m unit) _ n
@@ -193,10 +193,10 @@ module _ (all : List SourceBlock) where
         direct_both (begun_in around x first) _ (direct_in d levels around x first n.0 k parts.0)
         (direct_among d levels around (x + blocks.blocks_in first) more n.1 k parts.1)
 
-    direct_behind : (levels : ℕ) (around : List Enclosing) (x : ℕ) (a : Alternative) → ElseNests levels a
-        → Sits x (begun_behind around x a) → AreDirect (begun_behind around x a)
-    direct_behind levels around x NoElse n h = tt
-    direct_behind levels around x (Else s) n h = direct_in false levels around x s n (λ e. absurd (cc)) h
+    direct_after : (levels : ℕ) (around : List Enclosing) (x : ℕ) (a : Alternative) → ElseNests levels a
+        → Sits x (begun_after around x a) → AreDirect (begun_after around x a)
+    direct_after levels around x NoElse n h = tt
+    direct_after levels around x (Else s) n h = direct_in false levels around x s n (λ e. absurd (cc)) h
 
   pub direct_at : (bs : List SourceBlock) (number : ℕ) (b : SourceBlock) → AreDirect bs → slice_get bs number ≡ Some b
       → b.kind ≡ kinds.Procedure → StandsDirectly b.around

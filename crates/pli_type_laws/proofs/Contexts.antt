@@ -15,7 +15,7 @@ use Rattle.pli_type_laws.proofs.Calls.{IsCallable}
 use Rattle.pli_type_laws.proofs.Expressions.{IsMeaning}
 use Rattle.pli_type_name_laws.specs.NameFacts.{HaveSlots, IsAreaNamed, VariableFacts, IsCalled, ProcedureFacts, NameFacts, StandsAround}
 use Rattle.pli_type_name_laws.specs.SourceBlocks.{SourceBlock, unit_blocks, innermost, slots_in, known_blocks, known_procedures}
-use Rattle.pli_type_tree.specs.WellTyped.{BlockAround, KnownProcedure, TypingContext, AreAround, AreAroundUnit, IsCallee, IsReached, IsUnitHere, blocks_from, knows_label}
+use Rattle.pli_type_tree.specs.WellTyped.{BlockAround, KnownProcedure, TypingContext, AreAround, AreAroundOnUnit, IsCallee, IsReached, IsOnUnitHere, blocks_from, knows_label}
 use Rattle.pli_type_tree.specs.WellTyped as trees
 use Rattle.pli_type_tree.specs.Globals.{signature_of}
 use Rattle.pli_type_tree.specs.TypedTree.{Callee, OfBlock, OfEntry}
@@ -120,20 +120,20 @@ module _ (u : NamedUnit) where
   unit_parent (e ∷ es) (b ∷ bs) h = ap Some (sym h.0)
 
   unit_around : (es : List Enclosing) (bs : List BlockAround) → IsInside es → AreAround bs (known_blocks u es)
-      → AreAroundUnit bs (known_blocks u (lasting_alone es))
+      → AreAroundOnUnit bs (known_blocks u (lasting_alone es))
   unit_around [] bs inside h = absurd inside
   unit_around (e ∷ es) [] inside h = absurd h
   unit_around (e ∷ es) (b ∷ bs) inside h = (h.0, h.1, h.3, h.3, h.4)
 
   -- an ON-unit of a place
-  pub unit_known : (s : TypingContext) (here : Surroundings) → Knows s here → IsInside here.blocks → (number : ℕ) (b : SourceBlock)
-      → slice_get All number ≡ Some b → b.kind ≡ kinds.OnUnit → b.around ≡ lasting_alone here.blocks → IsUnitHere s number
-  unit_known s here knows inside number b there kind stands = (
+  pub on_unit_known : (s : TypingContext) (here : Surroundings) → Knows s here → IsInside here.blocks → (number : ℕ) (b : SourceBlock)
+      → slice_get All number ≡ Some b → b.kind ≡ kinds.OnUnit → b.around ≡ lasting_alone here.blocks → IsOnUnitHere s number
+  on_unit_known s here knows inside number b there kind stands = (
     own_unit b,
     ap (λ (g : ℕ → Option KnownProcedure). g number) knows.procedures ∙ unit_there number b there kind,
     refl,
     ap innermost stands ∙ unit_parent here.blocks s.blocks knows.blocks,
-    subst (λ es. AreAroundUnit s.blocks (known_blocks u es)) (sym stands) (unit_around here.blocks s.blocks inside knows.blocks),
+    subst (λ es. AreAroundOnUnit s.blocks (known_blocks u es)) (sym stands) (unit_around here.blocks s.blocks inside knows.blocks),
     refl,
     refl,
   )

@@ -234,10 +234,10 @@ module _ (bs : List BlockTree) (each : (n : ℕ) → of_blocks n bs ≡ below n 
   placed b there is =
       let lt : b.head.number < length bs = below_less b.head.number (length bs) (omega (arith, there, each b.head.number)) in
       at_number BlockTree (piece bs) 0 (length bs) b.head.number b one_there lt
-      (zero_behind b.head.number ∙ is (each b.head.number ∙ below_one b.head.number (length bs) lt))
+      (zero_after b.head.number ∙ is (each b.head.number ∙ below_one b.head.number (length bs) lt))
     where
-      zero_behind : (n : ℕ) → piece bs (0 + n) ≡ piece bs n
-      zero_behind n =
+      zero_after : (n : ℕ) → piece bs (0 + n) ≡ piece bs n
+      zero_after n =
           let e : 0 + n ≡ n = omega arith in
           ap (piece bs) e
 

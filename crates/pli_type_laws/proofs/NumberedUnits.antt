@@ -17,10 +17,10 @@ use Rattle.pli_type.specs.Checked.{in_unit, first_inside, external_of, unit_of, 
 use Rattle.pli_type.specs.Names.{NamedUnit}
 use Rattle.pli_type.specs.StatementTyping.{Surroundings, naming_at, block_at, leaves_nothing, assignment, condition, iteration}
 use Rattle.pli_type.specs.StatementTyping.{call_typed, goto_typed, return_typed, WithProcedures, alone, of_own, together, made, head_of}
-use Rattle.pli_type.specs.StatementTyping.{procedure_of, on_unit_of, as_procedure, put_before, inside, behind_limits, in_group, in_begin, in_on_unit, in_procedure, only}
+use Rattle.pli_type.specs.StatementTyping.{procedure_of, on_unit_of, as_procedure, put_before, inside, after_limits, in_group, in_begin, in_on_unit, in_procedure, only}
 use Rattle.pli_type.specs.StatementTyping.{statement_typed, body_typed, alternative_typed, statements_typed}
 use Rattle.pli_resolve.specs.TreeBlocks as blocks
-use Rattle.pli_type.specs.Temporaries.{Next, behind, limits_kept, based_among, temporaries_in, temporaries_of, temporaries_among, temporaries_behind}
+use Rattle.pli_type.specs.Temporaries.{Next, next_after, limits_kept, based_among, temporaries_in, temporaries_of, temporaries_among, temporaries_in_else}
 use Rattle.pli_type.specs.TypingSteps.{items, allocate_typed, free_typed}
 use Rattle.pli_type_laws.proofs.Counting.{same, below, below_next, below_bound, in_blocks, of_blocks, in_both, of_both}
 use Rattle.pli_type_laws.proofs.Counting.{blocks_placed, ordered_distinct}
@@ -32,7 +32,7 @@ use Rattle.pli_type_laws.proofs.Shapes.{IsSimple, simple_assignment, simple_goto
 use Rattle.pli_type_laws.proofs.TypedParts.{OnTyped, on_given, unit_given}
 use Rattle.pli_type_laws.proofs.UnitsNamed.{Given, ListNamed, Named, Placed, all_parts, gives_all, list_named}
 use Rattle.pli_type_laws.specs.TypedUnits.{TypedUnitsAreNumbered}
-use Rattle.pli_type_name_laws.proofs.InitialHeld.{all_behind}
+use Rattle.pli_type_name_laws.proofs.InitialHeld.{all_after}
 use Rattle.pli_type_name_laws.specs.NameFacts.{KnowsBased}
 use Rattle.pli_type_name_laws.specs.Nesting.{NestsWithin, BodyNests, ListNests, ElseNests}
 use Rattle.pli_type_name_laws.specs.Numbering.{IsNumbered, IsNumberedBody, AreNumbered, IsNumberedElse}
@@ -294,23 +294,23 @@ module _ (u : NamedUnit) (knows : KnowsBased u) where
         deeper_in m (λ m. ListNests false m ss) _ n
         (λ i e g. iterate_good m i x.temporary _ a (a + list_count ss) _ x.block _ range
         (iteration (naming_at u s) x.temporary variable equals first range tested)
-        (statements_typed u (in_group ss s) (behind_limits range x) ss) e (omega arith) (omega arith)
+        (statements_typed u (in_group ss s) (after_limits range x) ss) e (omega arith) (omega arith)
         (iteration_keeps (naming_at u s) x.temporary variable equals first range tested)
         (list_at i (x.temporary + suc (limits_kept range)) (x.temporary + suc (limits_kept range) + temporaries_among u.is_based ss) _ a _ _
-        x.block _ _ (statements_typed u (in_group ss s) (behind_limits range x) ss) (omega arith) refl refl
-        (list_good false i (in_group ss s) (behind_limits range x) a ss (omega (arith, few, e)) g h.0)))
+        x.block _ _ (statements_typed u (in_group ss s) (after_limits range x) ss) (omega arith) refl refl
+        (list_good false i (in_group ss s) (after_limits range x) a ss (omega (arith, few, e)) g h.0)))
     body_good d m s x number at a (tree.If tested consequence alternative) few n h =
         deeper_in m (λ m. NestsWithin false m consequence × ElseNests m alternative) _ n
         (λ i e g. form_at m x.temporary
-        (x.temporary + temporaries_in u.is_based consequence + temporaries_behind u.is_based alternative) _ a
+        (x.temporary + temporaries_in u.is_based consequence + temporaries_in_else u.is_based alternative) _ a
         (a + count consequence + alternative_count alternative) _ x.block
-        (x.block + blocks.blocks_in consequence + blocks.blocks_behind alternative) _
+        (x.block + blocks.blocks_in consequence + blocks.blocks_in_else alternative) _
         (body_typed u s x number at (tree.If tested consequence alternative)) (omega arith) (omega arith) (omega arith)
         (if_good m i x.temporary (x.temporary + temporaries_in u.is_based consequence) _ a (a + count consequence) _ x.block
         (x.block + blocks.blocks_in consequence) _ (condition (naming_at u s) tested) (statement_typed u s x consequence)
-        (alternative_typed u s (behind u.is_based x consequence) alternative) e (omega arith) (omega arith)
+        (alternative_typed u s (next_after u.is_based x consequence) alternative) e (omega arith) (omega arith)
         (statement_good false i s x a consequence (omega (arith, few, e)) g.0 h.0)
-        (alternative_good i s (behind u.is_based x consequence) (a + count consequence) alternative (omega (arith, few, e)) g.1 h.1)))
+        (alternative_good i s (next_after u.is_based x consequence) (a + count consequence) alternative (omega (arith, few, e)) g.1 h.1)))
     body_good d m s x number at a tree.Null few n h =
         own_good m x.temporary _ a (a + 0) x.block (x.block + 0) (Ok typed.Null) (omega arith) (omega arith) tt
     body_good d m s x number at a (tree.Declare declared) few n h =
@@ -361,8 +361,8 @@ module _ (u : NamedUnit) (knows : KnowsBased u) where
 
     alternative_good : (m : ℕ) (s : Surroundings) (x : Next) (a : ℕ) (e : Alternative) → m < 64 → ElseNests m e
         → IsNumberedElse a e
-        → OnTyped (GoodElse m x.temporary (x.temporary + temporaries_behind u.is_based e) a (a + alternative_count e) x.block
-        (x.block + blocks.blocks_behind e)) (alternative_typed u s x e)
+        → OnTyped (GoodElse m x.temporary (x.temporary + temporaries_in_else u.is_based e) a (a + alternative_count e) x.block
+        (x.block + blocks.blocks_in_else e)) (alternative_typed u s x e)
     alternative_good m s x a tree.NoElse few n h =
         subst (λ l. GoodElse m x.temporary (x.temporary + 0) a (a + 0) x.block l (alone NoElse)) (omega arith)
         (good_alone numbers_in_else blocks_of_else (HereElse m x.temporary (x.temporary + 0)) a (a + 0) x.block NoElse (omega arith)
@@ -387,10 +387,10 @@ module _ (u : NamedUnit) (knows : KnowsBased u) where
         (put_good m x.temporary (x.temporary + temporaries_in u.is_based (Numbered number label at body)) _ a
         (a + count (Numbered number label at body)) _ x.block (x.block + blocks.blocks_in (Numbered number label at body)) _ number
         (leaves_nothing body) (body_typed u s x number at body)
-        (statements_typed u s (behind u.is_based x (Numbered number label at body)) more) (omega arith) (omega arith)
+        (statements_typed u s (next_after u.is_based x (Numbered number label at body)) more) (omega arith) (omega arith)
         (λ e. nothing_left u s x number at body e)
         (statement_good d m s x a (Numbered number label at body) few n.0 h.0)
-        (list_good d m s (behind u.is_based x (Numbered number label at body)) (a + count (Numbered number label at body)) more few n.1 h.1))
+        (list_good d m s (next_after u.is_based x (Numbered number label at body)) (a + count (Numbered number label at body)) more few n.1 h.1))
 
   -- ---- the unit
 
@@ -434,7 +434,7 @@ module _ (u : NamedUnit) (knows : KnowsBased u) where
     all_named =
         let placed = all_parts (Placed (by_number All)) (blocks_of_procedure Own) (blocks_within y.procedures) (blocks_placed All each) in
         let named = names (by_number All) (gives_all (by_number All) y.procedures placed.1) in
-        all_behind (Named (by_number All)) (blocks_of_procedure Own) (blocks_within y.procedures) (named.0.here, named.0.blocks 0) named.1
+        all_after (Named (by_number All)) (blocks_of_procedure Own) (blocks_within y.procedures) (named.0.here, named.0.blocks 0) named.1
 
     well_numbered : IsWellNumbered (unit_of u y)
     well_numbered = record {

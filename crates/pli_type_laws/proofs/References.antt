@@ -25,7 +25,7 @@ use Rattle.pli_type_tree.specs.WellTyped.{TypingContext, BeginsWhole, IsTyped, I
 use Rattle.pli_type_name_laws.proofs.PlainDescriptions.{plain_stands}
 use Rattle.pli_type_name_laws.specs.NameFacts.{IsAreaNamed, IsLocatorThere, IsImplied, IsStoredIn}
 
--- what is read behind what was read
+-- what is read after what was read
 pub read_then : {A B : Type 0} (P : A → Type 0) (Q : B → Type 0) (r : Result A Fault) (f : A → Result B Fault)
     → OnRead P r → ((x : A) → P x → OnRead Q (f x)) → OnRead Q (r >>= f)
 read_then P Q (Ok x) f h g = g x h

@@ -14,17 +14,17 @@ use Rattle.pli_type.specs.declared.beginning.Beginning.{Beginning}
 use Rattle.pli_type.specs.StatementTyping as source
 use Rattle.pli_type.specs.StatementTyping.{Enclosing, Surroundings, naming_at, block_at, leaves_nothing, assignment, function_end}
 use Rattle.pli_type.specs.StatementTyping.{condition, iteration, call_typed, goto_typed, return_typed, WithProcedures, of_own, together}
-use Rattle.pli_type.specs.StatementTyping.{made, head_of, procedure_of, on_unit_of, as_procedure, put_before, inside, behind_limits}
+use Rattle.pli_type.specs.StatementTyping.{made, head_of, procedure_of, on_unit_of, as_procedure, put_before, inside, after_limits}
 use Rattle.pli_type.specs.StatementTyping.{alone, lasting_alone, listed, only, says_nothing}
 use Rattle.pli_type.specs.StatementTyping.{statement_typed, body_typed, alternative_typed, statements_typed}
 use Rattle.pli_resolve.specs.TreeBlocks as blocks
-use Rattle.pli_type.specs.Temporaries.{Next, behind}
+use Rattle.pli_type.specs.Temporaries.{Next, next_after}
 use Rattle.pli_type.specs.TypingSteps.{items, allocate_typed, free_typed}
 use Rattle.pli_type_laws.proofs.Allocations.{allocate_is_typed, free_is_typed}
-use Rattle.pli_type_laws.proofs.BlocksKnown.{Within, within_self, within_both, within_behind, begun_count, Sits, sits_parts}
+use Rattle.pli_type_laws.proofs.BlocksKnown.{Within, within_self, within_both, within_after, begun_count, Sits, sits_parts}
 use Rattle.pli_type_laws.proofs.BlocksKnown.{AreHome, home_labels, home_lasting, StandsDirectly, begin_no_procedure, unit_no_procedure}
 use Rattle.pli_type_laws.proofs.Contexts.{IsInside, Knows, around_self, group_known, label_known, known_as, areas_known, own_procedure, procedure_there}
-use Rattle.pli_type_laws.proofs.Contexts.{own_unit, unit_there, unit_known}
+use Rattle.pli_type_laws.proofs.Contexts.{own_unit, unit_there, on_unit_known}
 use Rattle.pli_type_laws.proofs.Expressions.{IsMeaning}
 use Rattle.pli_type_laws.proofs.Forms.{condition_typed, items_typed, assignment_typed, call_is_typed, return_is_typed, goto_is_typed}
 use Rattle.pli_type_laws.proofs.Forms.{iteration_typed}
@@ -34,7 +34,7 @@ use Rattle.pli_type_laws.specs.TypedUnits.{unit_with}
 use Rattle.pli_type_name_laws.proofs.BlocksOfUnits.{innermost_lasting}
 use Rattle.pli_type_name_laws.specs.NameFacts.{IsAreaNamed, NameFacts}
 use Rattle.pli_type_name_laws.specs.SourceBlocks.{SourceBlock, unit_blocks, innermost, known_blocks, known_procedures, begun_in, begun_by}
-use Rattle.pli_type_name_laws.specs.SourceBlocks.{begun_among, begun_behind}
+use Rattle.pli_type_name_laws.specs.SourceBlocks.{begun_among, begun_after}
 use Rattle.pli_type_tree.specs.Templates.{Template}
 use Rattle.pli_type_tree.specs.TypedTree as typed
 use Rattle.pli_type_tree.specs.TypedTree.{Form, TypedStatement, TypedStatements, NoStatement, NoElse, Else}
@@ -50,7 +50,7 @@ unlabelled : (b : Bool) (number : ℕ) (ls : List ℕ) (r : Result (WithProcedur
     (q : Result (WithProcedures TypedStatements) (List Fault)) → OnTyped (λ y. Within ls (trees.labels_of y.part)) q
     → OnTyped (λ y. Within ls (trees.labels_of y.part)) (together (put_before b) (made (typed.Statement number) r) q)
 unlabelled true number ls (Ok x) (Ok y) h = h
-unlabelled false number ls (Ok x) (Ok y) h = within_behind ls (number ∷ []) (trees.labels_of y.part) h
+unlabelled false number ls (Ok x) (Ok y) h = within_after ls (number ∷ []) (trees.labels_of y.part) h
 unlabelled b number ls (Ok x) (Err fs) h = tt
 unlabelled b number ls (Err fs) (Ok y) h = tt
 unlabelled b number ls (Err fs) (Err gs) h = tt
@@ -71,12 +71,12 @@ pub labels_kept : (u : NamedUnit) (s : Surroundings) (x : Next) (ss : Statements
 labels_kept u s x Ended = within_self []
 labels_kept u s x (Before (Numbered number None at body) more) =
     unlabelled (leaves_nothing body) number (source.labels_of more) (body_typed u s x number at body)
-    (statements_typed u s (behind u.is_based x (Numbered number None at body)) more)
-    (labels_kept u s (behind u.is_based x (Numbered number None at body)) more)
+    (statements_typed u s (next_after u.is_based x (Numbered number None at body)) more)
+    (labels_kept u s (next_after u.is_based x (Numbered number None at body)) more)
 labels_kept u s x (Before (Numbered number (Some label) at body) more) =
     labelled (leaves_nothing body) number (source.labels_of more) (body_typed u s x number at body)
-    (statements_typed u s (behind u.is_based x (Numbered number (Some label) at body)) more)
-    (labels_kept u s (behind u.is_based x (Numbered number (Some label) at body)) more)
+    (statements_typed u s (next_after u.is_based x (Numbered number (Some label) at body)) more)
+    (labels_kept u s (next_after u.is_based x (Numbered number (Some label) at body)) more)
 
 -- ---- where statements stand
 
@@ -350,26 +350,26 @@ module _ (program : ExternalProcedure) (is_based : ℕ → Bool) (based : List �
           t knows =
           typed_with U (IsIteration 63 t) (λ list. AreTypedStatements 63 (trees.in_group list t) list) (IsTypedForm 63 t)
           typed.Iterate x.block _ (iteration (naming_at U s) x.temporary variable equals start range tested)
-          (statements_typed U (source.in_group ss s) (behind_limits range x) ss) (λ c list h k. (h, k))
+          (statements_typed U (source.in_group ss s) (after_limits range x) ss) (λ c list h k. (h, k))
           (iteration_typed (based (numbers s)) (areas (numbers s)) (meaning (numbers s)) t (known s home t knows) x.temporary variable equals start range tested)
-          (group_typed s home t knows (behind_limits range x) ss _
-          (list_is_typed (source.in_group ss s) (behind_limits range x) ss
+          (group_typed s home t knows (after_limits range x) ss _
+          (list_is_typed (source.in_group ss s) (after_limits range x) ss
           (home_labels All (source.labels_of ss) s.blocks home) (inside_group (source.labels_of ss) s.blocks within) sits))
       body_is_typed s x number at (tree.If tested consequence alternative) home within sits t knows =
           let places : Sits All x.block (begun_in s.blocks x.block consequence)
           × Sits All (x.block + blocks.blocks_in consequence)
-          (begun_behind s.blocks (x.block + blocks.blocks_in consequence) alternative) =
+          (begun_after s.blocks (x.block + blocks.blocks_in consequence) alternative) =
           sits_parts All x.block (blocks.blocks_in consequence) _ _ (begun_count s.blocks x.block consequence) sits in
           typed_with U (IsString 63 t OfBits) (λ b. IsTypedStatement 63 t b.0 × IsTypedElse 63 t b.1) (IsTypedForm 63 t)
           (λ c b. typed.If c b.0 b.1) x.block _ (condition (naming_at U s) tested)
-          (together (λ y z. (y, z)) (statement_typed U s x consequence) (alternative_typed U s (behind is_based x consequence) alternative))
+          (together (λ y z. (y, z)) (statement_typed U s x consequence) (alternative_typed U s (next_after is_based x consequence) alternative))
           (λ c b h k. (h, k.0, k.1))
           (condition_typed (based (numbers s)) (areas (numbers s)) (meaning (numbers s)) t (known s home t knows) tested)
           (typed_both U (IsTypedStatement 63 t) (IsTypedElse 63 t) (λ b. IsTypedStatement 63 t b.0 × IsTypedElse 63 t b.1)
           (λ y z. (y, z)) x.block (blocks.blocks_in consequence) _ _ (statement_typed U s x consequence)
-          (alternative_typed U s (behind is_based x consequence) alternative) (begun_count s.blocks x.block consequence)
+          (alternative_typed U s (next_after is_based x consequence) alternative) (begun_count s.blocks x.block consequence)
           (λ y z h k. (h, k)) (statement_is_typed s x consequence home within places.0 t knows)
-          (alternative_is_typed s (behind is_based x consequence) alternative home within places.1 t knows))
+          (alternative_is_typed s (next_after is_based x consequence) alternative home within places.1 t knows))
       body_is_typed s x number at tree.Stop home within sits t knows = (tt, tt, tt)
       body_is_typed s x number at (tree.Allocate list) home within sits t knows =
           typed_own U (IsTypedForm 63 t) x.block (allocate_typed (naming_at U s) x.temporary list)
@@ -401,7 +401,7 @@ module _ (program : ExternalProcedure) (is_based : ℕ → Bool) (based : List �
             statement = number;
             around = lasting_alone s.blocks;
             labels = source.labels_of (only unit);
-          }) _ r (unit_known U t s knows within x.block _ sits.0 refl refl) (λ list. refl)
+          }) _ r (on_unit_known U t s knows within x.block _ sits.0 refl refl) (λ list. refl)
           (λ list h. unit_ours s x.block number unit _ sits.0 refl refl within list h)
           (with_list U r (Within_unit s x.block number unit _ sits.0 refl refl) (λ t. Knows U t inner) (suc x.block) _
           (λ t knows. only_typed t (suc x.block) _ unit (statement_typed U inner (inside x) unit)
@@ -415,9 +415,9 @@ module _ (program : ExternalProcedure) (is_based : ℕ → Bool) (based : List �
       body_is_typed s x number at (tree.Signal c) home within sits t knows = (tt, tt, tt)
 
       alternative_is_typed : (s : Surroundings) (x : Next) (a : Alternative)
-          → AreHome All s.blocks → IsInside s.blocks → Sits All x.block (begun_behind s.blocks x.block a)
+          → AreHome All s.blocks → IsInside s.blocks → Sits All x.block (begun_after s.blocks x.block a)
           → (t : TypingContext) → Knows U t s
-          → OnTyped (Typed U (IsTypedElse 63 t) x.block (begun_behind s.blocks x.block a)) (alternative_typed U s x a)
+          → OnTyped (Typed U (IsTypedElse 63 t) x.block (begun_after s.blocks x.block a)) (alternative_typed U s x a)
       alternative_is_typed s x tree.NoElse home within sits t knows = (tt, tt, tt)
       alternative_is_typed s x (tree.Else st) home within sits t knows =
           typed_made U (IsTypedStatement 63 t) (IsTypedElse 63 t) Else x.block _ (statement_typed U s x st) (λ y h. h)
@@ -437,8 +437,8 @@ module _ (program : ExternalProcedure) (is_based : ℕ → Bool) (based : List �
           typed_both U (IsTypedStatement 63 t) (AreTypedStatements 63 t) (AreTypedStatements 63 t)
           (put_before (leaves_nothing body)) x.block (blocks.blocks_in (Numbered number label at body)) _ _
           (statement_typed U s x (Numbered number label at body))
-          (statements_typed U s (behind is_based x (Numbered number label at body)) more)
+          (statements_typed U s (next_after is_based x (Numbered number label at body)) more)
           (begun_count s.blocks x.block (Numbered number label at body))
           (λ y z h k. put_typed t (leaves_nothing body) y z h k)
           (statement_is_typed s x (Numbered number label at body) home within places.0 t knows)
-          (list_is_typed s (behind is_based x (Numbered number label at body)) more home within places.1 t knows)
+          (list_is_typed s (next_after is_based x (Numbered number label at body)) more home within places.1 t knows)

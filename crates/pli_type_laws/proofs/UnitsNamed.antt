@@ -11,34 +11,34 @@ use Rattle.pli_base.specs.declared.token.Fault.{Fault}
 use Rattle.pli_gen_emit.specs.TreeTranslation.{BlockTree, blocks_of_procedure, procedure_block, blocks_in, blocks_of_form}
 use Rattle.pli_gen_emit.specs.TreeTranslation.{blocks_of_else, blocks_among}
 use Rattle.pli_gen.specs.laws.ListLaws.{all_front, all_back}
-use Rattle.pli_gen.specs.WellNumbered.{IsOnUnitIn, NamesUnits, NamesUnitsForm, NamesUnitsElse, NameUnits}
+use Rattle.pli_gen.specs.WellNumbered.{IsOnUnitIn, NamesOnUnits, NamesUnitsForm, NamesUnitsElse, NameUnits}
 use Rattle.pli_map.specs.Description.{Description}
 use Rattle.pli_program.specs.Program.{OnUnit}
 use Rattle.pli_type.specs.AllocationTyping.{all_allocated}
 use Rattle.pli_type.specs.Names.{NamedUnit}
 use Rattle.pli_type.specs.StatementTyping.{Enclosing, Surroundings, WithProcedures, naming_at, block_at, labels_of, with_labels, in_group, in_begin}
-use Rattle.pli_type.specs.StatementTyping.{in_procedure, in_on_unit, only, inside, behind_limits, head_of, procedure_of, on_unit_of}
+use Rattle.pli_type.specs.StatementTyping.{in_procedure, in_on_unit, only, inside, after_limits, head_of, procedure_of, on_unit_of}
 use Rattle.pli_type.specs.StatementTyping.{as_procedure, alone, of_own, made, together, put_before, says_nothing}
 use Rattle.pli_type.specs.StatementTyping.{assignment, condition, iteration, call_typed, goto_typed, return_typed}
 use Rattle.pli_type.specs.StatementTyping.{statement_typed, body_typed, alternative_typed, statements_typed}
-use Rattle.pli_type.specs.Temporaries.{Next, behind}
+use Rattle.pli_type.specs.Temporaries.{Next, next_after}
 use Rattle.pli_type.specs.TypingSteps.{put_form, if_form, items, free_typed}
 use Rattle.pli_type_laws.proofs.Denotations.{OnRead}
 use Rattle.pli_type_laws.proofs.NumberedParts.{blocks_within}
 use Rattle.pli_type_laws.proofs.Shapes.{IsSimple, simple_assignment, simple_goto, simple_call, simple_return, simple_free}
 use Rattle.pli_type_laws.proofs.TypedParts.{OnTyped}
-use Rattle.pli_type_name_laws.proofs.InitialHeld.{all_behind}
+use Rattle.pli_type_name_laws.proofs.InitialHeld.{all_after}
 use Rattle.pli_type_tree.specs.TypedTree as typed
 use Rattle.pli_type_tree.specs.TypedTree.{AllocatedItem, Form, OtherWise, Else, TypedExpression, TypedProcedure, TypedStatement}
 use Rattle.pli_type_tree.specs.TypedTree.{TypedStatements, NoStatement}
 
--- what holds of two lists, one behind the other, holds of each
+-- what holds of two lists, one after the other, holds of each
 pub all_parts : {A : Type 0} (P : A → Type 0) (xs ys : List A) → AllByRecursion P (xs ++ ys) → AllByRecursion P xs × AllByRecursion P ys
 all_parts P xs ys h = (all_front P xs ys h, all_back P xs ys h)
 
 -- the block of an ON-unit
-unit_kind : (f : TypedProcedure) → f.is_on_unit ≡ true → (procedure_block f).kind ≡ OnUnit
-unit_kind f is = rw is refl
+on_unit_kind : (f : TypedProcedure) → f.is_on_unit ≡ true → (procedure_block f).kind ≡ OnUnit
+on_unit_kind f is = rw is refl
 
 module _ (bs : List BlockTree) where
   -- an ON-unit stands among these blocks, in the block that it says
@@ -54,7 +54,7 @@ module _ (bs : List BlockTree) where
   gives f there = λ parent is at none. record {
     tree = procedure_block f;
     there = there;
-    kind = unit_kind f is;
+    kind = on_unit_kind f is;
     parent = at;
     parameters = none;
   }
@@ -79,7 +79,7 @@ module _ (bs : List BlockTree) where
   FormNamed block = IsNamed (NamesUnitsForm bs block) blocks_of_form
 
   abbrev StatementNamed : (block : ℕ) → TypedStatement → Type 0
-  StatementNamed block = IsNamed (NamesUnits bs block) blocks_in
+  StatementNamed block = IsNamed (NamesOnUnits bs block) blocks_in
 
   abbrev ElseNamed : (block : ℕ) → OtherWise → Type 0
   ElseNamed block = IsNamed (NamesUnitsElse bs block) blocks_of_else
@@ -97,7 +97,7 @@ module _ (bs : List BlockTree) where
       → AllByRecursion Named (blocks_within (fs ++ gs))
   within_both fs gs h k =
       subst (AllByRecursion Named) (sym (flat_map-append blocks_of_procedure fs gs))
-      (all_behind Named (blocks_within fs) (blocks_within gs) h k)
+      (all_after Named (blocks_within fs) (blocks_within gs) h k)
 
   given_made : {A B : Type 0} (P : A → Type 0) (Q : B → Type 0) (f : A → B) (r : Result (WithProcedures A) (List Fault))
       → ((x : A) → P x → Q (f x)) → OnTyped (Given P) r → OnTyped (Given Q) (made f r)
@@ -132,7 +132,7 @@ module _ (bs : List BlockTree) where
       all_parts Gives y.procedures (make y.part ∷ []) g in (
         k y.part parts.1.0,
         within_both y.procedures (make y.part ∷ []) (h parts.0).1
-            (all_behind Named (blocks_of_procedure (make y.part)) [] (j y.part (h parts.0).0) tt),
+            (all_after Named (blocks_of_procedure (make y.part)) [] (j y.part (h parts.0).0) tt),
       )
   given_ended P Q left make (Err fs) k j h = tt
 
@@ -171,7 +171,7 @@ module _ (bs : List BlockTree) where
         record {
           here = ((h parts.0).0.here, (j parts.1).0.here);
           blocks = λ parent.
-              all_behind Named (blocks_in parent s.part) (blocks_of_else parent e.part) ((h parts.0).0.blocks parent)
+              all_after Named (blocks_in parent s.part) (blocks_of_else parent e.part) ((h parts.0).0.blocks parent)
               ((j parts.1).0.blocks parent);
         },
         within_both s.procedures e.procedures (h parts.0).1 (j parts.1).1,
@@ -189,7 +189,7 @@ module _ (bs : List BlockTree) where
   before_named block true s ss h k = k
   before_named block false s ss h k = record {
     here = (h.here, k.here);
-    blocks = λ parent. all_behind Named (blocks_in parent s) (blocks_among parent ss) (h.blocks parent) (k.blocks parent);
+    blocks = λ parent. all_after Named (blocks_in parent s) (blocks_among parent ss) (h.blocks parent) (k.blocks parent);
   }
 
   group_block : (labels : List ℕ) (es : List Enclosing) (begins : ℕ) (value : Option Description)
@@ -241,12 +241,12 @@ module _ (bs : List BlockTree) where
       body_named s x number at (tree.Do (Some (tree.Iterate variable equals first range tested)) ss end) =
           given_with (ListNamed (block_at s)) (FormNamed (block_at s)) typed.Iterate
           (iteration (naming_at u s) x.temporary variable equals first range tested)
-          (statements_typed u (in_group ss s) (behind_limits range x) ss) (λ i list h. record { here = h.here; blocks = h.blocks })
-          (group_named s (behind_limits range x) ss (list_named (in_group ss s) (behind_limits range x) ss))
+          (statements_typed u (in_group ss s) (after_limits range x) ss) (λ i list h. record { here = h.here; blocks = h.blocks })
+          (group_named s (after_limits range x) ss (list_named (in_group ss s) (after_limits range x) ss))
       body_named s x number at (tree.If tested consequence alternative) =
           if_named (block_at s) (condition (naming_at u s) tested) (statement_typed u s x consequence)
-          (alternative_typed u s (behind u.is_based x consequence) alternative) (statement_named s x consequence)
-          (alternative_named s (behind u.is_based x consequence) alternative)
+          (alternative_typed u s (next_after u.is_based x consequence) alternative) (statement_named s x consequence)
+          (alternative_named s (next_after u.is_based x consequence) alternative)
       body_named s x number at tree.Stop = own_named (block_at s) (Ok typed.Stop) tt
       body_named s x number at (tree.Allocate list) =
           allocate_named (block_at s) (all_allocated (naming_at u s) x.temporary list)
@@ -282,6 +282,6 @@ module _ (bs : List BlockTree) where
       list_named s x Ended = λ g. (record { here = tt; blocks = λ parent. tt }, tt)
       list_named s x (Before first more) =
           given_both (StatementNamed (block_at s)) (ListNamed (block_at s)) (ListNamed (block_at s)) (put_before (says_nothing first))
-          (statement_typed u s x first) (statements_typed u s (behind u.is_based x first) more)
+          (statement_typed u s x first) (statements_typed u s (next_after u.is_based x first) more)
           (λ st ss h k. before_named (block_at s) (says_nothing first) st ss h k) (statement_named s x first)
-          (list_named s (behind u.is_based x first) more)
+          (list_named s (next_after u.is_based x first) more)

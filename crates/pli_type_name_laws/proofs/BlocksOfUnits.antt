@@ -12,7 +12,7 @@ use Rattle.pli_resolve.specs.declared.block_numbers.ResolvedBlockKind.TheVariant
 use Rattle.pli_resolve.specs.laws.BlockLaws as laws
 use Rattle.pli_resolve.proofs.BlocksOfTrees.{blocks_of_the_tree}
 use Rattle.pli_type.specs.StatementTyping.{Enclosing, enclosing, labels_of, lasting_alone, only, with_labels}
-use Rattle.pli_type_name_laws.specs.SourceBlocks.{SourceBlock, innermost, begun_in, begun_by, begun_among, begun_behind}
+use Rattle.pli_type_name_laws.specs.SourceBlocks.{SourceBlock, innermost, begun_in, begun_by, begun_among, begun_after}
 use Rattle.pli_type_name_laws.specs.SourceBlocks.{unit_blocks}
 use Rattle.pli_type_name_laws.specs.UnitBlocks.{in_unit, in_tree, BlocksAreOfTree}
 
@@ -56,8 +56,8 @@ mutual
       (innermost_kept (labels_of statements) around outer e)
   walk_by around outer x number (tree.If condition consequence alternative) e =
       both_walks (walked.statement_blocks outer x consequence) (walked.alternative_blocks outer (x + walked.blocks_in consequence) alternative)
-      (begun_in around x consequence) (begun_behind around (x + walked.blocks_in consequence) alternative)
-      (walk_in around outer x consequence e) (walk_behind around outer (x + walked.blocks_in consequence) alternative e)
+      (begun_in around x consequence) (begun_after around (x + walked.blocks_in consequence) alternative)
+      (walk_in around outer x consequence e) (walk_after around outer (x + walked.blocks_in consequence) alternative e)
   walk_by around outer x number (tree.On condition unit) e =
       ap (λ (o : Option ℕ). (kinds.OnUnit, o) ∷ map in_walk (walked.statement_blocks x (suc x) unit)) (sym e ∙ innermost_lasting around)
       ∙ ap (λ bs. (kinds.OnUnit, innermost (lasting_alone around)) ∷ bs)
@@ -72,10 +72,10 @@ mutual
       (begun_in around x first) (begun_among around (x + walked.blocks_in first) more)
       (walk_in around outer x first e) (walk_among around outer (x + walked.blocks_in first) more e)
 
-  walk_behind : (around : List Enclosing) (outer x : ℕ) (a : Alternative) → innermost around ≡ Some outer
-      → map in_walk (walked.alternative_blocks outer x a) ≡ map in_tree (begun_behind around x a)
-  walk_behind around outer x NoElse e = refl
-  walk_behind around outer x (Else s) e = walk_in around outer x s e
+  walk_after : (around : List Enclosing) (outer x : ℕ) (a : Alternative) → innermost around ≡ Some outer
+      → map in_walk (walked.alternative_blocks outer x a) ≡ map in_tree (begun_after around x a)
+  walk_after around outer x NoElse e = refl
+  walk_after around outer x (Else s) e = walk_in around outer x s e
 
 walk_unit : (u : ExternalProcedure) → map in_walk (walked.unit_blocks u) ≡ map in_tree (unit_blocks u)
 walk_unit u =

@@ -44,9 +44,9 @@ held_each [] (v ∷ vs) h = absurd (not_true h)
 held_each (d ∷ ds) [] h = absurd (not_true h)
 held_each (d ∷ ds) (v ∷ vs) h = let p = and_parts (holds d v) (are_held ds vs) h in (p.0, held_each ds vs p.1)
 
-pub all_behind : {A : Type 0} (P : A → Type 0) (xs ys : List A) → AllByRecursion P xs → AllByRecursion P ys → AllByRecursion P (xs ++ ys)
-all_behind P [] ys h g = g
-all_behind P (x ∷ xs) ys h g = (h.0, all_behind P xs ys h.1 g)
+pub all_after : {A : Type 0} (P : A → Type 0) (xs ys : List A) → AllByRecursion P xs → AllByRecursion P ys → AllByRecursion P (xs ++ ys)
+all_after P [] ys h g = g
+all_after P (x ∷ xs) ys h g = (h.0, all_after P xs ys h.1 g)
 
 -- ---- variables with initial values
 
@@ -97,7 +97,7 @@ module _ (Holds : Template → Type 0) (is_such : StorageClass → Description �
   pub all_hold : (number : ℕ) (ss : List Symbol) → AllByRecursion Holds (templates_from is_such all number ss)
   all_hold number [] = tt
   all_hold number (s ∷ ss) =
-      all_behind Holds (template_at is_such all number s.kind) (templates_from is_such all (suc number) ss)
+      all_after Holds (template_at is_such all number s.kind) (templates_from is_such all (suc number) ss)
       (symbol_holds number s.kind) (all_hold (suc number) ss)
 
 -- a variable is made well of it
@@ -190,15 +190,15 @@ module _ (n : ℕ) (stored : (class : StorageClass) (d : Description) → is_glo
       (global_made all number s.identifier.name s.kind (alone more) (globals_made all (suc number) ss))
 
   -- of several blocks
-  behind : (blocks : List (List Symbol)) → GlobalsMade (alone (block_globals n blocks))
-  behind [] = tt
-  behind (ss ∷ more) =
+  after : (blocks : List (List Symbol)) → GlobalsMade (alone (block_globals n blocks))
+  after [] = tt
+  after (ss ∷ more) =
       subst GlobalsMade (sym (map-append (λ (p : PlacedGlobal). p.global) (globals_of n ss) (block_globals n more)))
-      (both_made (alone (globals_of n ss)) (alone (block_globals n more)) (globals_made ss 0 ss) (behind more))
+      (both_made (alone (globals_of n ss)) (alone (block_globals n more)) (globals_made ss 0 ss) (after more))
 
   -- and in the order of the text
-  pub globals_behind : (blocks : List (List Symbol)) → AreMade (map variable_of (templates_in (all_globals n blocks)))
-  globals_behind blocks =
+  pub globals_after : (blocks : List (List Symbol)) → AreMade (map variable_of (templates_in (all_globals n blocks)))
+  globals_after blocks =
       let ps : List PlacedGlobal = block_globals n blocks in
       let qs : List PlacedGlobal = in_order (λ (p : PlacedGlobal). p.at) ps in
       let moved : IsPermutation (alone ps) (alone qs) =
@@ -206,4 +206,4 @@ module _ (n : ℕ) (stored : (class : StorageClass) (d : Description) → is_glo
       made_again (alone qs)
       (recursion_from_All IsGlobalMade (alone qs)
       (All-permutation IsGlobalMade (alone ps) (alone qs) moved
-      (All-from_recursion IsGlobalMade (alone ps) (each_made (alone ps) (behind blocks)))))
+      (All-from_recursion IsGlobalMade (alone ps) (each_made (alone ps) (after blocks)))))

@@ -24,7 +24,7 @@ use Rattle.pli_type_name_laws.specs.NameFacts.{HaveSlots, IsAreaNamed, IsImplied
 use Rattle.pli_type_name_laws.specs.SourceBlocks.{SourceBlock, unit_blocks, innermost}
 use Rattle.pli_type_name_laws.specs.UnitBlocks.{in_unit, in_tree, BlocksAreOfTree}
 use Rattle.pli_type_name_laws.proofs.AreasNamed.{area_there}
-use Rattle.pli_type_name_laws.proofs.InitialHeld.{all_hold, template_made, all_made, globals_behind}
+use Rattle.pli_type_name_laws.proofs.InitialHeld.{all_hold, template_made, all_made, globals_after}
 use Rattle.pli_type_name_laws.proofs.LocatorsNamed.{locator_there}
 use Rattle.pli_type_name_laws.proofs.NamesMean.{StandsIn, may_so, IsStored, IsNamedArea, IsThere, IsNamed, variable_begins, procedure_named_so, is_a_procedure, around, same_place}
 use Rattle.pli_type_name_laws.proofs.PartsOfNames.{part_stands, subscripts_lead, whole_is}
@@ -150,7 +150,7 @@ module _ (r : ResolvedUnit) where
       automatic = λ block.
           all_made 63 (is_automatic 63) (automatic_stored 63) (block_symbols r block) 0
           (block_symbols r block);
-      globals = globals_behind 63 (global_stored 63) (all_symbols r);
+      globals = globals_after 63 (global_stored 63) (all_symbols r);
       based = λ blocks block. based_templates block;
       returned_areas = λ blocks block n s globals slots. area_there r blocks n s globals slots (returned_area_of r block);
     }

@@ -9,9 +9,9 @@ use Rattle.pli_parse_expression.specs.Expressions.{Deeper}
 use Rattle.pli_parse_expression.specs.Operators.{nesting_limit}
 use Rattle.pli_parse_statement.specs.StatementGrammar.{SpellsStatement, SpellsBody, SpellsStatements, SpellsAlternative, StandsIn}
 use Rattle.pli_parse_statement.specs.StatementReading.{unit_of}
-use Rattle.pli_parse_statement.specs.StatementWords.{Context, standing, the_unit, a_procedure}
+use Rattle.pli_parse_statement.specs.StatementWords.{Context, standing, the_on_unit, a_procedure}
 use Rattle.pli_parse_statement.specs.declared.keyword.StatementStanding.{StatementStanding}
-use Rattle.pli_parse_statement.specs.declared.keyword.StatementStanding.TheVariants.{InBlock, InGroup, AsClause, AsUnit}
+use Rattle.pli_parse_statement.specs.declared.keyword.StatementStanding.TheVariants.{InBlock, InGroup, AsClause, AsOnUnit}
 use Rattle.pli_type_name_laws.specs.Nesting.{NestsWithin, BodyNests, ListNests, ElseNests}
 
 -- what holds a level deeper makes something else hold there
@@ -28,7 +28,7 @@ directly : (standing : StatementStanding) (label : Option Identifier) (heading :
 directly InBlock label heading statements end s = refl
 directly InGroup label heading statements end s = absurd s
 directly AsClause label heading statements end s = absurd s
-directly AsUnit label heading statements end s = absurd (s.1)
+directly AsOnUnit label heading statements end s = absurd (s.1)
 
 mutual
   nests : (c : Context) (levels p k : ℕ) (ts : Tokens) (s : Statement) → SpellsStatement c levels p k ts s
@@ -54,7 +54,7 @@ mutual
         else_nests c m _ (k + 1 + count consequence) _ consequence alternative g.2,
       )) h.4.4
   body_nests c levels label p k ts (On condition unit) s h =
-      deeper _ (λ m. NestsWithin false m unit) levels (λ m g. nests the_unit m _ (k + 1) _ unit g) h.4.4
+      deeper _ (λ m. NestsWithin false m unit) levels (λ m g. nests the_on_unit m _ (k + 1) _ unit g) h.4.4
   body_nests c levels label p k ts body s h = tt
 
   list_nests : (c : Context) (levels p k : ℕ) (ts : Tokens) (ss : Statements) → SpellsStatements c levels p k ts ss

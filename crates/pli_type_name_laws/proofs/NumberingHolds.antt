@@ -10,7 +10,7 @@ use Rattle.pli_parse_expression.specs.Expressions.{Deeper}
 use Rattle.pli_parse_expression.specs.Operators.{nesting_limit}
 use Rattle.pli_parse_statement.specs.StatementGrammar.{SpellsStatement, SpellsBody, SpellsStatements, SpellsAlternative}
 use Rattle.pli_parse_statement.specs.StatementReading.{unit_of}
-use Rattle.pli_parse_statement.specs.StatementWords.{Context, standing, the_unit, a_procedure}
+use Rattle.pli_parse_statement.specs.StatementWords.{Context, standing, the_on_unit, a_procedure}
 use Rattle.pli_parse_statement.specs.declared.keyword.StatementStanding.TheVariants.{InBlock, InGroup, AsClause}
 use Rattle.pli_type_name_laws.specs.Numbering.{IsNumbered, IsNumberedBody, AreNumbered, IsNumberedElse}
 
@@ -22,8 +22,8 @@ opened F X (suc m) h g = g m h
 one_more : (k : ℕ) → k + 1 ≡ suc k
 one_more k = omega arith
 
-behind : (k n : ℕ) → k + 1 + n ≡ suc k + n
-behind k n = omega arith
+after : (k n : ℕ) → k + 1 + n ≡ suc k + n
+after k n = omega arith
 
 mutual
   numbered : (c : Context) (levels p k : ℕ) (ts : Tokens) (s : Statement) → SpellsStatement c levels p k ts s → IsNumbered k s
@@ -49,13 +49,13 @@ mutual
   numbered_body c levels label p k ts (If condition consequence alternative) h = (
     subst (λ n. IsNumbered n consequence) (one_more k)
         (opened _ (IsNumbered (k + 1) consequence) levels h.4.4 (λ m g. numbered (standing AsClause c) m _ (k + 1) _ consequence g.1)),
-    subst (λ n. IsNumberedElse n alternative) (behind k (count consequence))
+    subst (λ n. IsNumberedElse n alternative) (after k (count consequence))
         (opened _ (IsNumberedElse (k + 1 + count consequence) alternative) levels h.4.4
         (λ m g. numbered_else c m _ (k + 1 + count consequence) _ consequence alternative g.2)),
   )
   numbered_body c levels label p k ts (On condition unit) h =
       subst (λ n. IsNumbered n unit) (one_more k)
-      (opened _ (IsNumbered (k + 1) unit) levels h.4.4 (λ m g. numbered the_unit m _ (k + 1) _ unit g))
+      (opened _ (IsNumbered (k + 1) unit) levels h.4.4 (λ m g. numbered the_on_unit m _ (k + 1) _ unit g))
   numbered_body c levels label p k ts body h = tt
 
   numbered_list : (c : Context) (levels p k : ℕ) (ts : Tokens) (ss : Statements) → SpellsStatements c levels p k ts ss → AreNumbered k ss

@@ -4,8 +4,8 @@ use Rattle.std.proofs.Common.{sym, ◌∙◌, ap, subst, arith, inl, inr, eq-zer
 use Rattle.std.proofs.lemmas.Option.{same_Some, none-some}
 use Rattle.std.proofs.Math.Nat.{mul-le-mul_right}
 use Rattle.pli_map.specs.Description.{Description, Array, Structure, Members, NoMembers, MemberThen}
-use Rattle.pli_map.specs.Parts.{PlacedPart, member_behind}
-use Rattle.pli_map.specs.Scalars.{scalars_in, first_scalar, scalar_behind}
+use Rattle.pli_map.specs.Parts.{PlacedPart, member_after}
+use Rattle.pli_map.specs.Scalars.{scalars_in, first_scalar, scalar_after}
 use Rattle.pli_map.specs.Sizes.{extent_of, count_of, size_of, stride_of}
 use Rattle.pli_map.specs.declared.description.Bounds.{Bounds}
 use Rattle.pli_map.proofs.Places.{distance_below}
@@ -34,16 +34,16 @@ leads_at w o (s ∷ ss) d (x ∷ xs) e h =
 
 -- ---- members
 
-member_found : (at : ℕ) (ds : Members) (i : ℕ) (m : PlacedPart) → 0 < size_of m.description → member_behind at ds i ≡ Some m
-    → (k : ℕ) × (scalar_behind at ds m.offset m.description ≡ Some k)
+member_found : (at : ℕ) (ds : Members) (i : ℕ) (m : PlacedPart) → 0 < size_of m.description → member_after at ds i ≡ Some m
+    → (k : ℕ) × (scalar_after at ds m.offset m.description ≡ Some k)
 member_found at NoMembers i m sized e = absurd (none-some m e)
 member_found at (MemberThen d ds) zero m sized e =
     let is = same_Some _ m e in
     let size : size_of d ≡ size_of m.description = ap (λ (q : PlacedPart). size_of q.description) is in
     let there : start_of at d + 0 ≡ start_of at d = omega arith in
-    let Claim : PlacedPart → Type 0 = λ q. (k : ℕ) × (scalar_behind at (MemberThen d ds) q.offset q.description ≡ Some k) in
+    let Claim : PlacedPart → Type 0 = λ q. (k : ℕ) × (scalar_after at (MemberThen d ds) q.offset q.description ≡ Some k) in
     subst Claim is
-    (0, sym (ap (λ n. scalar_behind at (MemberThen d ds) n d) there) ∙ first_finds at d ds 0 d 0 (omega (arith, size, sized)) (whole_found d))
+    (0, sym (ap (λ n. scalar_after at (MemberThen d ds) n d) there) ∙ first_finds at d ds 0 d 0 (omega (arith, size, sized)) (whole_found d))
 member_found at (MemberThen d ds) (suc i) m sized e =
     let f = member_found (start_of at d + size_of d) ds i m sized e in
     (scalars_in d + f.0, others_find at d ds m.offset m.description f.0 f.1)
@@ -52,7 +52,7 @@ swapped : (o a m : ℕ) → o + a + m ≡ o + m + a
 swapped o a m = omega arith
 
 pub leads_member : (w : Description) (o : ℕ) (ss : List Stride) (ds : Members) (i : ℕ) (m : PlacedPart) → 0 < size_of m.description
-    → member_behind 0 ds i ≡ Some m → Leads w o ss (Structure ds) → Leads w (o + m.offset) ss m.description
+    → member_after 0 ds i ≡ Some m → Leads w o ss (Structure ds) → Leads w (o + m.offset) ss m.description
 leads_member w o [] ds i m sized e h =
     let f = member_found 0 ds i m sized e in (
       h.0 + f.0,
@@ -81,7 +81,7 @@ within_total b d e c t below all =
     let product = mul-le-mul_right c one in
     omega (arith, product, all)
 
--- where there are elements, each dimension has a subscript, and so have those behind it
+-- where there are elements, each dimension has a subscript, and so have those after it
 some_subscript : (b : Bounds) (bs : List Bounds) → 0 < count_of (b ∷ bs) → int_le b.low b.high ≡ true
 some_subscript b bs some = by (int_le b.low b.high) refl some
   where
@@ -89,8 +89,8 @@ some_subscript b bs some = by (int_le b.low b.high) refl some
     by true e h = e
     by false e h = absurd (omega (arith, h))
 
-some_behind : (b : Bounds) (bs : List Bounds) → 0 < count_of (b ∷ bs) → 0 < count_of bs
-some_behind b bs some = by (eq-zero-or-pos (count_of bs))
+some_after : (b : Bounds) (bs : List Bounds) → 0 < count_of (b ∷ bs) → 0 < count_of bs
+some_after b bs some = by (eq-zero-or-pos (count_of bs))
   where
     by : (count_of bs ≡ 0) ⊎ (0 < count_of bs) → 0 < count_of bs
     by (inl e) = let none : count_of (b ∷ bs) ≡ 0 = ap (λ n. extent_of b * n) e ∙ mul-zero (extent_of b) in absurd (omega (arith, some, none))
@@ -105,7 +105,7 @@ elements w o total e all (b ∷ bs) before some h = (
   λ x low high.
       let d : ℕ = unsigned_abs (x -ℤ b.low) in
       subst (λ n. Leads w n (strides_of bs e) e) (further o before d (count_of bs) (stride_of e))
-      (elements w o total e all bs (before + d * count_of bs) (some_behind b bs some)
+      (elements w o total e all bs (before + d * count_of bs) (some_after b bs some)
       (within_total before d (extent_of b) (count_of bs) total (within_distance b x low high) h)),
 )
 

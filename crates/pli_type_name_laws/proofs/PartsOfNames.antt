@@ -6,7 +6,7 @@ use Rattle.std.proofs.lemmas.Bool.{and_parts, eqb-true}
 use Rattle.std.proofs.lemmas.Option.{same_Some, none-some}
 use Rattle.pli_map.specs.Description.{Description, Array, Structure, Members}
 use Rattle.pli_map.specs.ParameterTypes.{Stated, stated}
-use Rattle.pli_map.specs.Parts.{PlacedPart, member_behind}
+use Rattle.pli_map.specs.Parts.{PlacedPart, member_after}
 use Rattle.pli_map.proofs.ScalarLawsHold.{whole_found}
 use Rattle.pli_type.specs.NamedUnits.{may_stand}
 use Rattle.pli_type.specs.Names.{NamedVariable}
@@ -36,7 +36,7 @@ module _ (n : ℕ) (w : Description) where
   element_stands o d ss h = h
 
   of_member : (o : ℕ) (ss : List Stride) (ds : Members) (i : ℕ) (q : StridedPart) (m : Option PlacedPart)
-      → Stands n w (strided o (Structure ds) ss) → member_behind 0 ds i ≡ m
+      → Stands n w (strided o (Structure ds) ss) → member_after 0 ds i ≡ m
       → option_map (λ m. strided (o + m.offset) m.description ss) m ≡ Some q → Stands n w q
   of_member o ss ds i q None h is e = absurd (none-some q e)
   of_member o ss ds i q (Some m) h is e =
@@ -49,9 +49,9 @@ module _ (n : ℕ) (w : Description) where
 
   member_stands : (o : ℕ) (d : Description) (ss : List Stride) (i : ℕ) (q : StridedPart) → Stands n w (strided o d ss)
       → member_of (strided o d ss) i ≡ Some q → Stands n w q
-  member_stands o (Structure ds) ss i q h e = of_member o ss ds i q (member_behind 0 ds i) h refl e
+  member_stands o (Structure ds) ss i q h e = of_member o ss ds i q (member_after 0 ds i) h refl e
   member_stands o (Array bs (Structure ds)) ss i q h e =
-      of_member o (ss ++ strides_of bs (Structure ds)) ds i q (member_behind 0 ds i)
+      of_member o (ss ++ strides_of bs (Structure ds)) ds i q (member_after 0 ds i)
       (element_stands o (Array bs (Structure ds)) ss h) refl e
   member_stands o d ss i q h e = absurd (none-some q e)
 

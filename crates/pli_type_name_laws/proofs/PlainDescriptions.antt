@@ -6,7 +6,7 @@ use Rattle.std.proofs.lemmas.Bool.{and_parts, and_from, or_right, leb-true, ltb-
 use Rattle.std.proofs.lemmas.Option.{same_Some, none-some}
 use Rattle.pli_map.specs.Description.{Description, FixedBinary, Character, Varying, Bit, Pointer, Offset, Area, Array, Structure, Members, NoMembers, MemberThen}
 use Rattle.pli_map.specs.ParameterTypes.{ParameterType, Stated}
-use Rattle.pli_map.specs.Parts.{PlacedPart, member_behind}
+use Rattle.pli_map.specs.Parts.{PlacedPart, member_after}
 use Rattle.pli_map.specs.ScalarPaths.{is_filled, are_filled}
 use Rattle.pli_map.specs.Scalars.{is_area}
 use Rattle.pli_map.specs.Sizes.{count_of, alignment_of, size_of}
@@ -71,7 +71,7 @@ plain_members n NoMembers h = refl
 plain_members n (MemberThen d ds) h = h
 
 -- each member is plain
-pub plain_member : (n at : ℕ) (ds : Members) (i : ℕ) (m : PlacedPart) → all_plain n ds ≡ true → member_behind at ds i ≡ Some m
+pub plain_member : (n at : ℕ) (ds : Members) (i : ℕ) (m : PlacedPart) → all_plain n ds ≡ true → member_after at ds i ≡ Some m
     → is_plain n m.description ≡ true
 plain_member n at NoMembers i m h e = absurd (none-some m e)
 plain_member n at (MemberThen d ds) zero m h e =

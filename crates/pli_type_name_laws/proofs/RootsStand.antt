@@ -34,7 +34,7 @@ use Rattle.pli_type_tree.specs.TypedTree.{Global, EntryPoint, Root, InSlot, OfPr
 abbrev pub descriptions : List Template → List ParameterType
 descriptions ts = map (λ t. Stated t.description) ts
 
--- ---- the description of a symbol's template stands behind those of the symbols before it
+-- ---- the description of a symbol's template stands after those of the symbols before it
 
 one_passed : {A : Type 0} (x : A) (xs : List A) (j : ℕ) → slice_get (x ∷ xs) (1 + j) ≡ slice_get xs j
 one_passed x xs j =
@@ -100,10 +100,10 @@ in_front [] ys j x e = absurd (none-some x e)
 in_front (y ∷ xs) ys zero x e = e
 in_front (y ∷ xs) ys (suc j) x e = in_front xs ys j x e
 
-behind_front : {A : Type 0} (xs ys : List A) (j k : ℕ) → k ≡ length xs + j → slice_get (xs ++ ys) k ≡ slice_get ys j
-behind_front [] ys j k e = ap (slice_get ys) (omega (arith, e))
-behind_front (x ∷ xs) ys j zero e = absurd (omega (arith, e, length_one x xs))
-behind_front (x ∷ xs) ys j (suc k) e = behind_front xs ys j k (omega (arith, e, length_one x xs))
+after_front : {A : Type 0} (xs ys : List A) (j k : ℕ) → k ≡ length xs + j → slice_get (xs ++ ys) k ≡ slice_get ys j
+after_front [] ys j k e = ap (slice_get ys) (omega (arith, e))
+after_front (x ∷ xs) ys j zero e = absurd (omega (arith, e, length_one x xs))
+after_front (x ∷ xs) ys j (suc k) e = after_front xs ys j k (omega (arith, e, length_one x xs))
 
 mapped : {A B : Type 0} (f : A → B) (xs : List A) (j : ℕ) (x : A) → slice_get xs j ≡ Some x → slice_get (map f xs) j ≡ Some (f x)
 mapped f [] j x e = absurd (none-some x e)
@@ -157,7 +157,7 @@ module _ (n : ℕ) (all : List Symbol) where
       ap (λ gs. slice_get (gs ++ globals_from n all (suc from) ss) 0)
       (ap (λ k. global_at n all k t) here ∙ ap (global_at n all number) (same_Some t s at) ∙ is)
   global_found (t ∷ ss) from (suc k) number s g e at is =
-      behind_front (global_at n all from t) (globals_from n all (suc from) ss) (globals_before n ss k) _
+      after_front (global_at n all from t) (globals_from n all (suc from) ss) (globals_before n ss k) _
       (omega (arith, placed_counted n all from t))
       ∙ global_found ss (suc from) k number s g (omega (arith, e)) at is
 
@@ -172,7 +172,7 @@ module _ (n : ℕ) where
       ∙ global_found n ss ss 0 number number s g (omega arith) e is)
   found_in_blocks (ss ∷ more) (suc k) number s g e is =
       let before : ℕ = globals_in n (take k more) + globals_before n (get_or more k []) number in
-      behind_front (globals_of n ss) (block_globals n more) before _ (omega (arith, globals_counted n ss 0 ss))
+      after_front (globals_of n ss) (block_globals n more) before _ (omega (arith, globals_counted n ss 0 ss))
       ∙ found_in_blocks more k number s g e is
 
 -- ---- globals in the order of the text
@@ -310,7 +310,7 @@ module _ (n : ℕ) (r : ResolvedUnit) (blocks : List ℕ) where
   abbrev pub slots : (block : ℕ) → List ParameterType
   slots block = parameters_of r block ++ descriptions (templates_of (is_automatic n) (block_symbols r block))
 
-  -- a root leads to this type; a slot that is no parameter's stands behind those that are
+  -- a root leads to this type; a slot that is no parameter's stands after those that are
   abbrev pub Standing : (is_parameter : Bool) → Root → ParameterType → Type 0
   Standing is_parameter (InSlot outward slot) type =
       (block : ℕ) × (outward_to blocks block ≡ Some outward) × (slice_get (slots block) slot ≡ Some type)
@@ -370,7 +370,7 @@ module _ (n : ℕ) (r : ResolvedUnit) (blocks : List ℕ) where
         else None) ≡ Some root → Begun false
     automatic_begins of true stored e = (
       slot_stands false (outward_to blocks key.block) key.block _ (Stated d) root refl
-          (behind_front (parameters_of r key.block) (descriptions (templates_of (is_automatic n) (block_symbols r key.block)))
+          (after_front (parameters_of r key.block) (descriptions (templates_of (is_automatic n) (block_symbols r key.block)))
           (such_before (is_automatic n) (block_symbols r key.block) key.number) _
           (omega (arith, as_many))
           ∙ found (is_automatic n) (block_symbols r key.block) (block_symbols r key.block) 0 key.number s d there

@@ -8,7 +8,7 @@ abbrev mutual
   pub IsNumbered : (from : ℕ) → Statement → Type 0
   IsNumbered k (Numbered number label at body) = (number ≡ k) × IsNumberedBody (suc k) body
 
-  -- the same of what a statement is, behind its own number
+  -- the same of what a statement is, after its own number
   pub IsNumberedBody : (from : ℕ) → Body → Type 0
   IsNumberedBody k (Procedure heading statements end) =
       AreNumbered k statements × (end ≡ k + list_count statements)

@@ -37,7 +37,7 @@ abbrev mutual
   begun_by around x number (tree.Do control statements end) =
       begun_among (with_labels (labels_of statements) around) x statements
   begun_by around x number (tree.If condition consequence alternative) =
-      begun_in around x consequence ++ begun_behind around (x + blocks.blocks_in consequence) alternative
+      begun_in around x consequence ++ begun_after around (x + blocks.blocks_in consequence) alternative
   begun_by around x number (tree.On condition unit) =
       record {
         kind = kinds.OnUnit;
@@ -54,9 +54,9 @@ abbrev mutual
       begun_in around x first ++ begun_among around (x + blocks.blocks_in first) more
 
   -- those of an ELSE
-  pub begun_behind : (around : List Enclosing) → (next : ℕ) → Alternative → List SourceBlock
-  begun_behind around x NoElse = []
-  begun_behind around x (Else statement) = begun_in around x statement
+  pub begun_after : (around : List Enclosing) → (next : ℕ) → Alternative → List SourceBlock
+  begun_after around x NoElse = []
+  begun_after around x (Else statement) = begun_in around x statement
 
 -- the blocks of a unit, each under its number
 abbrev pub unit_blocks : ExternalProcedure → List SourceBlock
@@ -73,7 +73,7 @@ abbrev pub innermost : List Enclosing → Option ℕ
 innermost [] = None
 innermost (b ∷ bs) = Some b.number
 
--- the slots of a block: its parameters, and its AUTOMATIC variables behind them
+-- the slots of a block: its parameters, and its AUTOMATIC variables after them
 abbrev pub slots_in : NamedUnit → (block : ℕ) → List ParameterType
 slots_in u block = u.parameters block ++ map (λ t. Stated t.description) (u.automatic block)
 

@@ -76,13 +76,13 @@ all_rows r n rows h is block =
 
 -- ---- globals
 
-globals_behind : (xss : List (List Symbol)) (xs : List Symbol) → globals_in 63 (xss ++ xs ∷ []) ≡ globals_in 63 xss + globals_before 63 xs (length xs)
-globals_behind [] xs = omega arith
-globals_behind (ys ∷ xss) xs = omega (arith, globals_behind xss xs)
+globals_after : (xss : List (List Symbol)) (xs : List Symbol) → globals_in 63 (xss ++ xs ∷ []) ≡ globals_in 63 xss + globals_before 63 xs (length xs)
+globals_after [] xs = omega arith
+globals_after (ys ∷ xss) xs = omega (arith, globals_after xss xs)
 
 pub globals_more : (xss : List (List Symbol)) (n : ℕ) (xs : List Symbol) → slice_get xss n ≡ Some xs
     → globals_in 63 (take (n + 1) xss) ≡ globals_in 63 (take n xss) + globals_before 63 xs (length xs)
-globals_more xss n xs e = ap (globals_in 63) (take_one_more xss n xs e) ∙ globals_behind (take n xss) xs
+globals_more xss n xs e = ap (globals_in 63) (take_one_more xss n xs e) ∙ globals_after (take n xss) xs
 
 tokens_counted : (ss : List Symbol) → length (global_tokens 63 ss) ≡ globals_before 63 ss (length ss)
 tokens_counted [] = refl

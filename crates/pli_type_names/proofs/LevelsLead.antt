@@ -4,7 +4,7 @@ use Rattle.std.specs.Prelude.{option_and_then}
 use Rattle.std.proofs.lemmas.Option.{same_Some, none-some}
 use Rattle.pli_map.specs.Description as tree
 use Rattle.pli_map.specs.Description.{Description, Members, Structure}
-use Rattle.pli_map.specs.Parts.{PlacedPart, Member, member_behind, part_at}
+use Rattle.pli_map.specs.Parts.{PlacedPart, Member, member_after, part_at}
 use Rattle.pli_type.specs.NamedUnits.{may_stand}
 use Rattle.pli_type_names.proofs.PlainLemmas.{PlainMember, plain_step}
 use Rattle.pli_type.specs.References.{StridedPart, element_of, member_of, part_on}
@@ -41,7 +41,7 @@ part_in_more (Some v) path i = part_on_more (record { offset = 0; description = 
 member_in : (offset : ℕ) (d : Description) (strides : List Stride) (ms : Members) (i : ℕ)
     → (element_of (record { offset = offset; description = d; strides = strides })).description ≡ Structure ms
     → member_of (record { offset = offset; description = d; strides = strides }) i
-    ≡ option_map (placed_in (element_of (record { offset = offset; description = d; strides = strides }))) (member_behind 0 ms i)
+    ≡ option_map (placed_in (element_of (record { offset = offset; description = d; strides = strides }))) (member_after 0 ms i)
 member_in offset (tree.FixedBinary n) strides ms i is = let h : tree.FixedBinary n ≡ Structure ms = is in absurd (cc)
 member_in offset (tree.Character n) strides ms i is = let h : tree.Character n ≡ Structure ms = is in absurd (cc)
 member_in offset (tree.Varying n) strides ms i is = let h : tree.Varying n ≡ Structure ms = is in absurd (cc)
@@ -53,20 +53,20 @@ member_in offset (tree.Array bounds e) strides ms i is = let h : e ≡ Structure
 member_in offset (tree.Structure members) strides ms i is =
     let h : Structure members ≡ Structure ms = is in
     let same : members ≡ ms = cc in
-    ap (λ x. option_map (placed_in (record { offset = offset; description = Structure x; strides = strides })) (member_behind 0 x i)) same
+    ap (λ x. option_map (placed_in (record { offset = offset; description = Structure x; strides = strides })) (member_after 0 x i)) same
 
 in_element : (o : Option StridedPart) (e : StridedPart) (ms : Members) (i : ℕ) → option_map element_of o ≡ Some e → e.description ≡ Structure ms
-    → option_and_then (λ q. member_of q i) o ≡ option_map (placed_in e) (member_behind 0 ms i)
+    → option_and_then (λ q. member_of q i) o ≡ option_map (placed_in e) (member_after 0 ms i)
 in_element None e ms i is s = absurd (none-some e is)
 in_element (Some q) e ms i is s =
     let same : element_of q ≡ e = same_Some _ e is in
     member_in q.offset q.description q.strides ms i (ap (λ x. x.description) same ∙ s)
-    ∙ ap (λ x. option_map (placed_in x) (member_behind 0 ms i)) same
+    ∙ ap (λ x. option_map (placed_in x) (member_after 0 ms i)) same
 
 -- the part that stands in the structure to which the way leads is the one on the way with one member more
 pub member_on_way : (variables : List (Option OwnVariable)) (root : ℕ) (way : List ℕ) (i : ℕ) (e : StridedPart) (ms : Members)
     → option_map element_of (part_in variables root way) ≡ Some e → e.description ≡ Structure ms
-    → part_in variables root (way ++ i ∷ []) ≡ option_map (placed_in e) (member_behind 0 ms i)
+    → part_in variables root (way ++ i ∷ []) ≡ option_map (placed_in e) (member_after 0 ms i)
 member_on_way variables root way i e ms is s =
     part_in_more (get_or variables root None) way i ∙ in_element (part_in variables root way) e ms i is s
 
@@ -84,5 +84,5 @@ same_level variables k l same is = record {
 
 -- a member of a plain structure is plain, and lies within it
 pub member_fits : (d : Description) (ms : Members) (i : ℕ) (p : PlacedPart) → may_stand 63 d ≡ true → d ≡ Structure ms
-    → Some p ≡ member_behind 0 ms i → PlainMember d p
+    → Some p ≡ member_after 0 ms i → PlainMember d p
 member_fits d ms i p plain e is = plain_step d i p plain (ap (λ x. part_at x (Member i)) e ∙ sym is)

@@ -56,7 +56,7 @@ pub one_made : {A B : Type 0} (view : B → A) (all : List A) (n : ℕ) (made : 
 one_made view all n made x is e found =
     made_more view all (length made) made x e (ap (slice_get all) (sym is) ∙ found) ∙ ap (λ k. take k all) (sym (length-append made (x ∷ [])))
 
--- what one symbol more gives stands behind what those before it give
+-- what one symbol more gives stands after what those before it give
 pub numbered_more : {A B : Type 0} (view : B → A) (f : ℕ → Symbol → A) (ss : List program.Symbol) (n : ℕ) (d : program.Symbol) (made : List B)
     (x : B) (all : List A) → n < length ss → view x ≡ f n (symbol_view (get_or ss n d))
     → map view made ++ each_from f n (map symbol_view (drop n ss)) ≡ all

@@ -41,7 +41,7 @@ none_placed : (count from : ℕ) → replicate count zero ≡ map (λ n. 0) (num
 none_placed zero from = refl
 none_placed (suc count) from = ap (λ ns. 0 ∷ ns) (none_placed count (suc from))
 
--- no places, behind all numbers
+-- no places, after all numbers
 pub places_first : (numbers : List ℕ) (place : ℕ) → length numbers ≤ place
     → replicate (length numbers) zero ≡ map (λ n. place_from place n (drop place numbers)) (numbers_from 0 (length numbers))
 places_first numbers place h =

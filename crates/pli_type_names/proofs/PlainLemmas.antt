@@ -7,7 +7,7 @@ use Rattle.std.proofs.Math.Nat.{le-mul_of_pos_right}
 use Rattle.pli_map.specs.declared.description.Bounds.{Bounds}
 use Rattle.pli_map.specs.declared.description.Description.{Description}
 use Rattle.pli_map.specs.Description as tree
-use Rattle.pli_map.specs.Parts.{PlacedPart, Member, member_behind, part_at}
+use Rattle.pli_map.specs.Parts.{PlacedPart, Member, member_after, part_at}
 use Rattle.pli_map.specs.Sizes.{count_of, size_of, alignment_of, stride_of}
 use Rattle.pli_map.specs.views.DescriptionView.{members_view}
 use Rattle.pli_map.proofs.Places.{fits_stride, member_inside}
@@ -70,7 +70,7 @@ plain_array (b ∷ bs) e h =
     record { elements = ltb-true 0 (count_of (b ∷ bs)) both.0; element = all.1 }
 
 pub plain_member : (at : ℕ) (ds : tree.Members) (i : ℕ) (p : PlacedPart) → all_plain 63 ds ≡ true
-    → member_behind at ds i ≡ Some p → is_plain 63 p.description ≡ true
+    → member_after at ds i ≡ Some p → is_plain 63 p.description ≡ true
 plain_member at tree.NoMembers i p h e = absurd (none-some p e)
 plain_member at (tree.MemberThen d ds) zero p h e =
     let is : d ≡ p.description = ap (λ q. q.description) (same_Some _ p e) in

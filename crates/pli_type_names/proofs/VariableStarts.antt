@@ -11,7 +11,7 @@ use Rattle.pli_resolve.specs.declared.symbol.StorageClass.TheVariants as classes
 use Rattle.pli_resolve.specs.views.SymbolView.{symbol_view, symbol_kind_view}
 use Rattle.pli_type.specs.NamedUnits.{is_parameter, is_stored, is_valued, is_automatic, is_based, is_global, one_such, such_before, one_global, globals_before}
 use Rattle.pli_type_names.specs.BlockFacts.{BlockFacts}
-use Rattle.pli_type_names.specs.OwnVariables.{begun, global_at, is_kept, own_at, own_behind, slots_of, globals_of, based_of}
+use Rattle.pli_type_names.specs.OwnVariables.{begun, global_at, is_kept, own_at, own_after, slots_of, globals_of, based_of}
 use Rattle.pli_type_names.specs.declared.place.Location.{Location}
 use Rattle.pli_type_names.specs.declared.place.Location.TheVariants.{InBlock, Passed, BeforeProgram, NewestOf, Based}
 
@@ -32,7 +32,7 @@ pub own_is : (f : BlockFacts) (number slots globals based : ℕ) (k : SymbolKind
     → slots ≡ length f.parameters + such_before (is_automatic 63) f.symbols number
     → globals ≡ global_at f number
     → based ≡ such_before (is_based 63) f.symbols number
-    → own_behind f.parameters slots globals based number k ≡ own_at f number k
+    → own_after f.parameters slots globals based number k ≡ own_at f number k
 own_is f number slots globals based (Variable d classes.Automatic scope initial area) e g h =
     in_order (is_stored 63 d) (InBlock slots) d
     ∙ ap (λ n. begun (if is_stored 63 d then Some (InBlock n) else None) d) e

@@ -5,7 +5,7 @@ use Rattle.pli_type.specs.Names.{LocatorVariable, OfPointer, OfOffset}
 use Rattle.pli_type.specs.declared.beginning.Beginning.{Beginning}
 use Rattle.pli_type_tree.specs.TypedTree.{Root, TypedReference, Whole, Part, NoSubscript}
 
--- a variable that begins here, or a member without dimensions that stands so many bytes behind its beginning,
+-- a variable that begins here, or a member without dimensions that stands so many bytes after its beginning,
 -- of this description
 abbrev pub locator_reference : Root → (offset : Option ℕ) → Description → TypedReference
 locator_reference root None d = Whole root

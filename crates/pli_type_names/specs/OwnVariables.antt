@@ -26,7 +26,7 @@ begun (Some place) description = Some (record { begins = place; whole = descript
 abbrev pub global_at : BlockFacts → (number : ℕ) → ℕ
 global_at f number = get_or f.places (f.globals + globals_before 63 f.symbols number) 0
 
--- where a variable of a block begins: parameters have slots of their own, AUTOMATIC variables those behind
+-- where a variable of a block begins: parameters have slots of their own, AUTOMATIC variables those after
 -- them, and STATIC and CONTROLLED variables are globals; BASED variables have numbers of their own
 abbrev pub place_at : BlockFacts → (number : ℕ) → StorageClass → Description → Option Location
 place_at f number classes.Automatic d =
@@ -55,14 +55,14 @@ own_variables f = each_from (λ number s. own_at f number s.kind) 0 f.symbols
 
 -- where one of this class begins, which has this number, where so many slots are taken, the next global has
 -- this number, and there are so many BASED variables
-abbrev pub place_behind : (parameters : List ℕ) → (slots global based number : ℕ) → StorageClass
+abbrev pub place_after : (parameters : List ℕ) → (slots global based number : ℕ) → StorageClass
     → Option Location
-place_behind parameters slots global based number classes.Automatic = Some (InBlock slots)
-place_behind parameters slots global based number (classes.Parameter slot) =
+place_after parameters slots global based number classes.Automatic = Some (InBlock slots)
+place_after parameters slots global based number (classes.Parameter slot) =
     if is_parameter parameters slot number then Some (Passed slot) else None
-place_behind parameters slots global based number classes.Static = Some (BeforeProgram global)
-place_behind parameters slots global based number classes.Controlled = Some (NewestOf global)
-place_behind parameters slots global based number (classes.Based locator) = Some (Based based locator)
+place_after parameters slots global based number classes.Static = Some (BeforeProgram global)
+place_after parameters slots global based number classes.Controlled = Some (NewestOf global)
+place_after parameters slots global based number (classes.Based locator) = Some (Based based locator)
 
 -- a variable of this class is compiled: a BASED one is no area
 abbrev pub is_kept : StorageClass → Description → Bool
@@ -70,14 +70,14 @@ is_kept (classes.Based locator) d = is_valued 63 d
 is_kept class d = is_stored 63 d
 
 -- the variable that a symbol is, there
-abbrev pub own_behind : (parameters : List ℕ) → (slots global based number : ℕ) → SymbolKind
+abbrev pub own_after : (parameters : List ℕ) → (slots global based number : ℕ) → SymbolKind
     → Option OwnVariable
-own_behind parameters slots global based number (Variable description class scope initial area) =
+own_after parameters slots global based number (Variable description class scope initial area) =
     if is_kept class description
-    then begun (place_behind parameters slots global based number class) description else None
-own_behind parameters slots global based number other = None
+    then begun (place_after parameters slots global based number class) description else None
+own_after parameters slots global based number other = None
 
--- how many slots behind the parameters a variable of this class takes
+-- how many slots after the parameters a variable of this class takes
 abbrev pub slots_of : StorageClass → ℕ
 slots_of classes.Automatic = 1
 slots_of class = 0

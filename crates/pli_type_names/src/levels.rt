@@ -1,8 +1,8 @@
-//! The parts of variables in the order of the text: each member is found behind the one before it.
+//! The parts of variables in the order of the text: each member is found after the one before it.
 ghost use Rattle.std.specs.Prelude.{◌≡◌, IfOk, List, None, Option, get_or, map, option_map};
 ghost use Rattle.std.specs.List.{All};
 ghost use Rattle.pli_map.specs.Description.{Structure};
-ghost use Rattle.pli_map.specs.Parts.{member_behind};
+ghost use Rattle.pli_map.specs.Parts.{member_after};
 ghost use Rattle.pli_map.specs.views.DescriptionView.{description_view, members_view};
 ghost use Rattle.pli_type_names.specs.OnWays.{IsLevel, SameStructure, part_in, placed_in};
 ghost use Rattle.pli_type_names.specs.OwnVariables as spec;
@@ -40,7 +40,7 @@ fn member<'a>(
         ≡ Structure (members_view level.old.passed.members.now.items) }
     ensures same { IfOk result (λ _. SameStructure level.new level.old) }
     ensures part { IfOk result (λ part. option_map part_view part ≡ option_map (placed_in (part_view level.old.element))
-        (member_behind 0 (members_view level.old.passed.members.now.items) number)) }
+        (member_after 0 (members_view level.old.passed.members.now.items) number)) }
 {
     if number >= level.passed.members.len() {
         return Ok(None);
@@ -66,9 +66,9 @@ fn part_from_whole<'a>(
     StridedPart::whole(alloc, variable.description).into_part(path)
 }
 
-/// The same, found behind the member before it, where the structure that it is in is one to which the way still leads.
+/// The same, found after the member before it, where the structure that it is in is one to which the way still leads.
 /// Those inside which it is not are taken out.
-fn part_behind<'a>(
+fn part_after<'a>(
     alloc: Global,
     variables: &[Option<OwnVariable<'a>>],
     root: usize,
@@ -136,7 +136,7 @@ pub(crate) fn part_on_way<'a>(
         ≡ part_in (map (option_map own_view) variables.now) root path.now) }
     ensures levels { IfOk result (λ _. All (IsLevel (map (option_map own_view) variables.now)) levels.new.items) }
 {
-    let part = part_behind(alloc, variables, root, path, levels)?;
+    let part = part_after(alloc, variables, root, path, levels)?;
     note(alloc, root, path, &part, levels)?;
     Ok(part)
 }

@@ -6,7 +6,7 @@ ghost use Rattle.pli_type.specs.NamedUnits as units;
 ghost use Rattle.pli_type.specs.NamedUnits.{globals_before, is_automatic, is_based, one_global, one_such};
 ghost use Rattle.pli_type_names.specs.Numbered.{each_from};
 ghost use Rattle.pli_type_names.specs.OwnVariables as spec;
-ghost use Rattle.pli_type_names.specs.OwnVariables.{based_of, globals_of, own_behind, place_behind, slots_of};
+ghost use Rattle.pli_type_names.specs.OwnVariables.{based_of, globals_of, own_after, place_after, slots_of};
 ghost use Rattle.pli_type_names.specs.views.VariableView.{own_view};
 
 use crate::descriptions::{is_stored, is_valued};
@@ -49,7 +49,7 @@ pub(crate) fn is_parameter(parameters: &[usize], slot: usize, number: usize) -> 
 
 /// The slot of a parameter that is the symbol of this number.
 fn parameter_place(parameters: &[usize], slot: usize, number: usize) -> Option<Location>
-    ensures { result ≡ place_behind parameters.now 0 0 0 number (StorageClass.Parameter slot) }
+    ensures { result ≡ place_after parameters.now 0 0 0 number (StorageClass.Parameter slot) }
 {
     if is_parameter(parameters, slot, number) {
         Some(Location::Passed { slot })
@@ -70,7 +70,7 @@ fn place(
     requires slot { free.old.slot < 18446744073709551615 }
     requires global { free.old.globals < 18446744073709551615 }
     requires based { free.old.based < 18446744073709551615 }
-    ensures begins { result ≡ place_behind parameters.now free.old.slot
+    ensures begins { result ≡ place_after parameters.now free.old.slot
         (get_or places.now free.old.globals 0) free.old.based number class }
     ensures slots { free.new.slot ≡ free.old.slot + slots_of class }
     ensures globals { free.new.globals ≡ free.old.globals + globals_of class }
@@ -122,7 +122,7 @@ fn own_variable<'a>(
     requires global { free.old.globals < 18446744073709551615 }
     requires based { free.old.based < 18446744073709551615 }
     ensures variable { option_map own_view result
-        ≡ own_behind parameters.now free.old.slot (get_or places.now free.old.globals 0) free.old.based number
+        ≡ own_after parameters.now free.old.slot (get_or places.now free.old.globals 0) free.old.based number
         (symbol_kind_view kind.entry) }
     ensures slots { free.new.slot ≡ free.old.slot + one_such (is_automatic 63) (symbol_kind_view kind.entry) }
     ensures globals { free.new.globals ≡ free.old.globals + one_global 63 (symbol_kind_view kind.entry) }

@@ -16,7 +16,7 @@ use std::alloc::{AllocError, Global};
 /// A part of a variable, or an area as a whole, within the 1,000,000 bytes of the whole.
 #[derive(Drop)]
 pub struct StridedPart<'a> {
-    /// How many bytes behind the variable's beginning it stands where all subscripts are the lowest.
+    /// How many bytes after the variable's beginning it stands where all subscripts are the lowest.
     pub offset: u32,
     pub description: &'a Description,
     /// The dimensions above it, of all its levels in turn.
@@ -36,7 +36,7 @@ fn stride(dimension: Bounds, multiplier: u32) -> Stride
     }
 }
 
-/// The dimensions of an array of so many bytes, behind those above it.
+/// The dimensions of an array of so many bytes, after those above it.
 fn push_strides(
     strides: &mut Vec<Stride>,
     bounds: &[Bounds],

@@ -1,7 +1,7 @@
-//! Members of a structure, one behind the other.
+//! Members of a structure, one after the other.
 ghost use Rattle.std.specs.Prelude.{◌≡◌, ◌<◌, ◌≤◌, Some, length, take};
-ghost use Rattle.pli_map.specs.Parts.{member_behind};
-ghost use Rattle.pli_map.specs.Sizes.{end_behind};
+ghost use Rattle.pli_map.specs.Parts.{member_after};
+ghost use Rattle.pli_map.specs.Sizes.{end_after};
 ghost use Rattle.pli_map.specs.views.DescriptionView.{members_view};
 ghost use Rattle.pli_map.specs.views.PartView.{part_view as placed_view};
 
@@ -13,9 +13,9 @@ pub(crate) struct PassedMembers<'a> {
     pub members: &'a Vec<Description>,
     /// How many are passed.
     pub count: usize,
-    /// Where the last of those ends, in bytes behind the beginning of the structure.
+    /// Where the last of those ends, in bytes after the beginning of the structure.
     end: u32,
-    ghost ends: { end ≡ end_behind 0 (members_view (take count members.now.items)) },
+    ghost ends: { end ≡ end_after 0 (members_view (take count members.now.items)) },
     ghost in_limit: { end ≤ 1000000 },
 }
 
@@ -48,7 +48,7 @@ impl<'a> PassedMembers<'a> {
     /// if the one of this number is not.
     pub(crate) fn up_to(self, number: usize) -> PassedMembers<'a>
         requires there { number < length self.members.now.items }
-        requires in_limit { end_behind 0 (members_view self.members.now.items) ≤ 1000000 }
+        requires in_limit { end_after 0 (members_view self.members.now.items) ≤ 1000000 }
         ensures members { result.members.now ≡ self.entry.members.now }
         ensures count { result.count ≡ number }
     {
@@ -65,10 +65,10 @@ impl<'a> PassedMembers<'a> {
         }
     }
 
-    /// The member behind those that are passed.
+    /// The member after those that are passed.
     pub(crate) fn next(self) -> PlacedPart<'a>
         requires { self.count < length self.members.now.items }
-        ensures { Some (placed_view result) ≡ member_behind 0
+        ensures { Some (placed_view result) ≡ member_after 0
             (members_view self.entry.members.now.items) self.entry.count }
     {
         let description = &self.members[self.count];

@@ -4,7 +4,7 @@ use pli_resolve::SymbolKey;
 /// Where a variable begins, seen from its own block.
 #[derive(Clone, Copy)]
 pub(crate) enum Location {
-    /// In a slot of the block's activation, counted from 0: an AUTOMATIC variable, behind the parameters.
+    /// In a slot of the block's activation, counted from 0: an AUTOMATIC variable, after the parameters.
     InBlock {
         slot: usize,
     },
@@ -12,7 +12,7 @@ pub(crate) enum Location {
     Passed {
         slot: usize,
     },
-    /// Under this number among the globals of the unit, in the order of the text; it is made before the program begins.
+    /// Under this number among the globals of the unit, in the order of the text; it is static.
     BeforeProgram {
         number: usize,
     },

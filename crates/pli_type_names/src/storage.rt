@@ -19,7 +19,7 @@ use std::alloc::Global;
 pub struct NamedLocator {
     /// Where the variable begins.
     pub begins: Beginning,
-    /// How many bytes behind that the member stands; none of a variable of its own.
+    /// How many bytes after that the member stands; none of a variable of its own.
     pub offset: Option<u32>,
     /// The area that an OFFSET names, seen from where the locator is used; none of a POINTER.
     pub area: Option<Beginning>,

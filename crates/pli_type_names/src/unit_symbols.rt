@@ -14,8 +14,8 @@ fn symbol_at<'r>(unit: &'r ResolvedUnit<'r>, block: usize, number: usize) -> Opt
     unit.symbol(SymbolKey { block, number })
 }
 
-/// The symbols of the block of this number, in the order of the text. The number behind that of the last block is the
-/// outermost one's; behind it there are none.
+/// The symbols of the block of this number, in the order of the text. The number after that of the last block is the
+/// outermost one's; after it there are none.
 pub fn symbols<'r>(
     alloc: Global,
     unit: &'r ResolvedUnit<'r>,

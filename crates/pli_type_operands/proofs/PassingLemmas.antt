@@ -1,4 +1,4 @@
--- Arguments as they are handed over, one behind another.
+-- Arguments as they are handed over, one after another.
 use Rattle.std.proofs.Common.{◌≡◌, ℕ, Option, Some, None, List, [], ◌∷◌, ◌++◌, refl, ap, ◌∙◌, sym, option_map}
 use Rattle.pli_map.specs.ParameterTypes.{ParameterType}
 use Rattle.pli_type.specs.FunctionCalls.{Argument, meant_as}
@@ -8,7 +8,7 @@ use Rattle.pli_type_tree.specs.TypedTree.{TypedArguments, NoArgument}
 use Rattle.pli_type_tree.specs.declared.expression.TypedArgument.{TypedArgument}
 use Rattle.pli_type_tree.specs.views.TypedView.{argument_before, arguments_view}
 
--- arguments behind those in a vector
+-- arguments after those in a vector
 abbrev pub arguments_before : List TypedArgument → TypedArguments → TypedArguments
 arguments_before [] more = more
 arguments_before (a ∷ gs) more = argument_before a (arguments_before gs more)

@@ -1,4 +1,4 @@
--- What operators make, one step behind the other: their operands from left to right, then the operator.
+-- What operators make, one step after the other: their operands from left to right, then the operator.
 use Rattle.std.specs.Prelude.{ℕ, Result, Ok}
 use Rattle.pli_base.specs.Results.{◌>>=◌}
 use Rattle.pli_base.specs.Syntax.{Expression}

@@ -2,5 +2,5 @@
 
 use pli_base::{Failure, Fault};
 
-/// Why an expression has no type: its first fault of types in the order of evaluation, or want of memory.
+/// Why an expression has no type: its first fault of types in the order of evaluation, or that memory was refused.
 pub type TypeError = Failure<Fault>;

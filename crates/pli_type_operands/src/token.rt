@@ -1,7 +1,7 @@
 //! Where expressions begin, and where the faults of references stand.
 ghost use Rattle.std.specs.Prelude.{◌≡◌};
 ghost use Rattle.pli_base.specs.views.SyntaxView.{expression_view, joined_view, reference_view};
-ghost use Rattle.pli_type.specs.Typing.{behind_arrows, first_token, own_token};
+ghost use Rattle.pli_type.specs.Typing.{after_arrows, first_token, own_token};
 
 use pli_base::syntax::{Expression, JoinedPart, Joining, Reference};
 
@@ -19,9 +19,9 @@ pub fn first_token(expression: &Expression) -> u32
     }
 }
 
-/// The token of the last name behind an arrow among the parts, or the token `at` where none stands there.
-fn behind_arrows(at: u32, joined: &[JoinedPart]) -> u32
-    ensures { result ≡ behind_arrows at (joined_view joined.now) }
+/// The token of the last name after an arrow among the parts, or the token `at` where none stands there.
+fn after_arrows(at: u32, joined: &[JoinedPart]) -> u32
+    ensures { result ≡ after_arrows at (joined_view joined.now) }
 {
     let mut last = at;
     for part in joined {
@@ -33,10 +33,10 @@ fn behind_arrows(at: u32, joined: &[JoinedPart]) -> u32
     last
 }
 
-/// The token at which faults of a reference itself stand, counted from 0: its first name behind its last arrow (own).
+/// The token at which faults of a reference itself stand, counted from 0: its first name after its last arrow (own).
 #[tactic(auto, using(pli_base::specs::laws::SyntaxLaws::reference_out))]
 pub fn own_token(reference: &Reference) -> u32
     ensures { result ≡ own_token (reference_view reference.now) }
 {
-    behind_arrows(reference.first.name.at, reference.joined.as_slice())
+    after_arrows(reference.first.name.at, reference.joined.as_slice())
 }

@@ -8,7 +8,7 @@ use Rattle.pli_base.specs.declared.statement.Procedure.{Procedure}
 use Rattle.pli_base.specs.laws.StatementLaws.{procedure_body}
 use Rattle.pli_base.specs.views.StatementView.{body_view}
 use Rattle.pli_type.specs.StatementTyping.{Enclosing, leaves_nothing, label_found, lasting_alone}
-use Rattle.pli_type_parts.specs.Around.{Listing, blocks_with, blocks_from, found_in, gone_into, kept_behind, number_of}
+use Rattle.pli_type_parts.specs.Around.{Listing, blocks_with, blocks_from, found_in, gone_into, kept_after, number_of}
 use Rattle.pli_type_parts.specs.declared.labels.ListLabels.{ListLabels}
 use Rattle.pli_type_parts.specs.views.AroundView.{lists_view}
 
@@ -23,7 +23,7 @@ searched label found lasting is_inside [] = found
 searched label found lasting is_inside (l ∷ ls) =
     let next : Option ℕ =
     found_in label (is_some l.block || is_inside) l.labels (gone_into l.block l.is_on_unit found lasting) in
-    searched label next (kept_behind l.block next lasting) (is_some l.block || is_inside) ls
+    searched label next (kept_after l.block next lasting) (is_some l.block || is_inside) ls
 
 abbrev has_block : List Enclosing → Bool
 has_block [] = false
@@ -53,7 +53,7 @@ one_list label None unit labels (b ∷ bs) =
     ∙ by_either (list_any (nat_eq label) labels) (list_any (nat_eq label) b.labels) (Some 0) _)
 
 lasting_list : (label : ℕ) (block : Option ℕ) (unit : Bool) (labels : List ℕ) (bs : List Enclosing)
-    → kept_behind block (label_found (blocks_with block unit labels bs) label) (label_found (lasting_alone bs) label)
+    → kept_after block (label_found (blocks_with block unit labels bs) label) (label_found (lasting_alone bs) label)
     ≡ label_found (lasting_alone (blocks_with block unit labels bs)) label
 lasting_list label (Some number) unit labels bs = refl
 lasting_list label None unit labels [] = refl
@@ -71,7 +71,7 @@ search_finds label bs [] = refl
 search_finds label bs (l ∷ ls) =
     let cs : List Enclosing = blocks_with l.block l.is_on_unit l.labels bs in
     let inside : Bool = is_some l.block || has_block bs in
-    ap (λ f. searched label f (kept_behind l.block f (label_found (lasting_alone bs) label)) inside ls) (one_list label l.block l.is_on_unit l.labels bs)
+    ap (λ f. searched label f (kept_after l.block f (label_found (lasting_alone bs) label)) inside ls) (one_list label l.block l.is_on_unit l.labels bs)
     ∙ ap (λ f. searched label (label_found cs label) f inside ls) (lasting_list label l.block l.is_on_unit l.labels bs)
     ∙ ap (λ i. searched label (label_found cs label) (label_found (lasting_alone cs) label) i ls) (sym (inside_list l.block l.is_on_unit l.labels bs))
     ∙ search_finds label cs ls
@@ -111,7 +111,7 @@ next_few label block unit inside labels found lasting i h k =
     found_few label inside labels (gone_into block unit found lasting) i (gone_few block unit found lasting i h k)
 
 pub kept_few : (block : Option ℕ) (next lasting : Option ℕ) (i : ℕ) → IfSome next (λ links. links < i + 1)
-    → IfSome lasting (λ links. links < i) → IfSome (kept_behind block next lasting) (λ links. links < i + 1)
+    → IfSome lasting (λ links. links < i) → IfSome (kept_after block next lasting) (λ links. links < i + 1)
 kept_few None next lasting i h k = more_links lasting i k
 kept_few (Some number) next lasting i h k = h
 
@@ -130,12 +130,12 @@ pub search_next : (label : ℕ) (found lasting next : Option ℕ) (inside inside
     → l ≡ get_or ls i l → i < length ls → inside' ≡ (is_some l.block || inside)
     → next ≡ found_in label inside' l.labels.items (gone_into l.block l.is_on_unit found lasting)
     → searched label found lasting inside (lists_view (drop i ls)) ≡ searched label None None false (lists_view ls)
-    → searched label next (kept_behind l.block next lasting) inside' (lists_view (drop (i + 1) ls)) ≡ searched label None None false (lists_view ls)
+    → searched label next (kept_after l.block next lasting) inside' (lists_view (drop (i + 1) ls)) ≡ searched label None None false (lists_view ls)
 search_next label found lasting next inside inside' ls i l is lt within goes was =
     let into : Option ℕ = gone_into l.block l.is_on_unit found lasting in
     let rest : List Listing = lists_view (drop (i + 1) ls) in
-    ap (λ f. searched label f (kept_behind l.block f lasting) inside' rest) goes
-    ∙ ap (λ b. searched label (found_in label b l.labels.items into) (kept_behind l.block (found_in label b l.labels.items into) lasting) b rest) within
+    ap (λ f. searched label f (kept_after l.block f lasting) inside' rest) goes
+    ∙ ap (λ b. searched label (found_in label b l.labels.items into) (kept_after l.block (found_in label b l.labels.items into) lasting) b rest) within
     ∙ sym (front (λ xs. searched label found lasting inside (lists_view xs)) ls i l is lt) ∙ was
 
 -- the number of the innermost block
@@ -156,7 +156,7 @@ numbered_from bs (l ∷ ls) =
     ap (λ n. number_from n ls) (one_number l.block l.is_on_unit l.labels bs)
     ∙ numbered_from (blocks_with l.block l.is_on_unit l.labels bs) ls
 
--- behind the last list
+-- after the last list
 
 pub past_lists : {A : Type 0} (xs : List A) (i : ℕ) → length xs ≤ i → drop i xs ≡ []
 past_lists [] zero h = refl

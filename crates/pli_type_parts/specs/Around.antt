@@ -73,7 +73,7 @@ abbrev pub found_in : (label : ℕ) → (is_inside : Bool) → (labels : List �
 found_in label is_inside labels found =
     if is_inside && list_any (nat_eq label) labels then Some 0 else found
 
--- behind a list of a block, all its labels last
-abbrev pub kept_behind : (block : Option ℕ) → (found lasting : Option ℕ) → Option ℕ
-kept_behind None found lasting = lasting
-kept_behind (Some number) found lasting = found
+-- after a list of a block, all its labels last
+abbrev pub kept_after : (block : Option ℕ) → (found lasting : Option ℕ) → Option ℕ
+kept_after None found lasting = lasting
+kept_after (Some number) found lasting = found

@@ -26,7 +26,7 @@ abbrev pub told : {A : Type 0} → Result (WithProcedures A) (List Fault) → Li
 told (Ok x) = []
 told (Err fs) = fs
 
--- the procedures in it are put behind others; where it has a fault nothing is said of them
+-- the procedures in it are put after others; where it has a fault nothing is said of them
 abbrev pub Adds : {A : Type 0} → Result (WithProcedures A) (List Fault)
     → (old new : List typed.TypedProcedure)
     → Type 0
@@ -65,14 +65,14 @@ listed_if nothing None = []
 listed_if true (Some x) = []
 listed_if false (Some x) = x ∷ []
 
--- behind what a statement is
-abbrev pub behind_body : (is_based : (at : ℕ) → Bool) → Next → source.Body → Next
-behind_body is_based x b =
+-- after what a statement is
+abbrev pub after_body : (is_based : (at : ℕ) → Bool) → Next → source.Body → Next
+after_body is_based x b =
     record { block = x.block + blocks_of b; temporary = x.temporary + temporaries_of is_based b }
 
--- behind a list
-abbrev pub behind_list : (is_based : (at : ℕ) → Bool) → Next → source.Statements → Next
-behind_list is_based x ss =
+-- after a list
+abbrev pub after_list : (is_based : (at : ℕ) → Bool) → Next → source.Statements → Next
+after_list is_based x ss =
     record { block = x.block + blocks_among ss; temporary = x.temporary + temporaries_among is_based ss }
 
 -- a unit as types see it

@@ -5,7 +5,7 @@ ghost use Rattle.pli_type_parts.specs.Parts.{IsKnown, faults_in, part_in};
 use pli_base::{Failure, Fault};
 use std::alloc::AllocError;
 
-/// A part of a statement. Where it has a fault, that is put behind the others, and the part is none.
+/// A part of a statement. Where it has a fault, that is put after the others, and the part is none.
 pub fn noted<T: Drop>(
     answer: Result<T, Failure<Fault>>,
     faults: &mut Vec<Fault>,

@@ -33,7 +33,7 @@ pub fn boxed(
     }
 }
 
-/// What stands behind ELSE, if it has no fault.
+/// What stands after ELSE, if it has no fault.
 pub fn otherwise(
     alloc: Global,
     statement: Option<TypedStatement>,
@@ -91,7 +91,7 @@ pub fn begin_form(head: BlockHead, list: Option<Vec<TypedStatement>>) -> Option<
     }
 }
 
-/// Puts a statement behind others, if it has no fault and leaves something; says whether it has none.
+/// Puts a statement after others, if it has no fault and leaves something; says whether it has none.
 pub fn keep(
     leaves_nothing: bool,
     statement: Option<TypedStatement>,

@@ -3,7 +3,7 @@ ghost use Rattle.std.specs.Prelude.{◌≡◌, ◌<◌, ◌||◌, is_some, suc, 
 ghost use Rattle.std.specs.List.{list_any};
 ghost use Rattle.pli_base.specs.views.StatementView as source;
 ghost use Rattle.pli_type.specs.StatementTyping as spec;
-ghost use Rattle.pli_type_parts.specs.Around.{blocks_of, found_in, gone_into, kept_behind, label_if};
+ghost use Rattle.pli_type_parts.specs.Around.{blocks_of, found_in, gone_into, kept_after, label_if};
 ghost use Rattle.pli_type_parts.specs.views.AroundView.{lists_view};
 
 use pli_base::statement::{Body, Statement};
@@ -100,8 +100,8 @@ fn found_in(list: &ListLabels, label: u32, is_inside: bool, outward: Option<usiz
 }
 
 /// How many it is among the labels that last in the innermost block, those of its own list.
-fn kept_behind(list: &ListLabels, outward: Option<usize>, lasting: Option<usize>) -> Option<usize>
-    ensures { result ≡ kept_behind list.now.block outward lasting }
+fn kept_after(list: &ListLabels, outward: Option<usize>, lasting: Option<usize>) -> Option<usize>
+    ensures { result ≡ kept_after list.now.block outward lasting }
 {
     match list.block {
         None => lasting,
@@ -121,7 +121,7 @@ pub fn outward_to(lists: &[ListLabels], label: u32) -> Option<usize>
         let around = gone_into(list, outward, lasting);
         is_inside = is_in_block(list, is_inside);
         outward = found_in(list, label, is_inside, around);
-        lasting = kept_behind(list, outward, lasting);
+        lasting = kept_after(list, outward, lasting);
     }
     outward
 }

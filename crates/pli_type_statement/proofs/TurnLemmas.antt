@@ -10,7 +10,7 @@ use Rattle.pli_base.specs.views.StatementView as source
 use Rattle.pli_type.specs.Names.{NamedUnit}
 use Rattle.pli_type.specs.StatementTyping as spec
 use Rattle.pli_type.specs.StatementTyping.{Surroundings, WithProcedures, alone, of_own, together, made, put_before, leaves_nothing, body_typed, statement_typed, statements_typed, naming_at, condition, iteration}
-use Rattle.pli_type.specs.Temporaries.{Next, behind, kept_by, temporaries_of}
+use Rattle.pli_type.specs.Temporaries.{Next, next_after, kept_by, temporaries_of}
 use Rattle.pli_type.specs.TypingSteps.{items, put_form}
 use Rattle.pli_type_tree.specs.TypedTree as typed
 use Rattle.pli_type_tree.specs.TypedTree.{Form, TypedExpression, TypedStatement, TypedStatements, StatementThen, NoStatement}
@@ -18,7 +18,7 @@ use Rattle.pli_type_tree.specs.declared.statement.TypedStatement as program
 use Rattle.pli_type_tree.specs.views.TypedView.{statement_view, statements_view}
 use Rattle.pli_type_iteration.specs.Headers as headers
 use Rattle.pli_type_iteration.specs.Headers.{Header, header_typed, group_of}
-use Rattle.pli_type_parts.specs.Parts.{behind_body, behind_list, both, listed_if}
+use Rattle.pli_type_parts.specs.Parts.{after_body, after_list, both, listed_if}
 use Rattle.pli_type_walk.specs.Compound.{is_compound}
 use Rattle.pli_type_simple.specs.Simple.{simple_typed}
 use Rattle.pli_type_walk.specs.Walking.{IsPlaced, Walks, WalksBody, WalksList, unit_at, around, based_names, next_at}
@@ -57,7 +57,7 @@ pub same_next : (x y x' y' : ℕ) → x ≡ x' → y ≡ y' → next_of (x) (y) 
 same_next x y x' y' e f = ap (λ b. record { block = b; temporary = y }) e ∙ ap (λ t. record { block = x'; temporary = t }) f
 
 simple_next : (f : ℕ → Bool) (x : Next) (b : tree.Body) → is_compound b ≡ false
-    → next_of (x.block) (x.temporary + temporaries_of f b) ≡ behind_body f x b
+    → next_of (x.block) (x.temporary + temporaries_of f b) ≡ after_body f x b
 simple_next f x (tree.Procedure heading ss end) h = impossible _ h
 simple_next f x (tree.Begin ss end) h = impossible _ h
 simple_next f x (tree.Do control ss end) h = impossible _ h
@@ -84,22 +84,22 @@ simple_answer view (Err e) old new number at b h w = tt
 -- an IF
 
 pub if_next_none : (w mid new : TypingWalk) (s s' : tree.Statement) → s' ≡ s → (e : Expression) → based_names mid ≡ based_names w
-    → next_at mid ≡ next_at w → next_at new ≡ behind (based_names mid) (next_at mid) s'
-    → next_at new ≡ behind_body (based_names w) (next_at w) (tree.If e s tree.NoElse)
+    → next_at mid ≡ next_at w → next_at new ≡ next_after (based_names mid) (next_at mid) s'
+    → next_at new ≡ after_body (based_names w) (next_at w) (tree.If e s tree.NoElse)
 if_next_none w mid new s s' is e based first second =
-    second ∙ ap (λ f. behind f (next_at mid) s') based ∙ ap (λ s. behind (based_names w) (next_at mid) s) is
-    ∙ ap (λ n. behind (based_names w) n s) first
+    second ∙ ap (λ f. next_after f (next_at mid) s') based ∙ ap (λ s. next_after (based_names w) (next_at mid) s) is
+    ∙ ap (λ n. next_after (based_names w) n s) first
     ∙ same_next _ _ _ _ (omega arith) (omega arith)
 
 pub if_next_some : (w mid there new : TypingWalk) (s s' o o' : tree.Statement) → s' ≡ s → o' ≡ o → (e : Expression)
     → based_names mid ≡ based_names w → based_names there ≡ based_names w → next_at mid ≡ next_at w
-    → next_at there ≡ behind (based_names mid) (next_at mid) s' → next_at new ≡ behind (based_names there) (next_at there) o'
-    → next_at new ≡ behind_body (based_names w) (next_at w) (tree.If e s (tree.Else o))
+    → next_at there ≡ next_after (based_names mid) (next_at mid) s' → next_at new ≡ next_after (based_names there) (next_at there) o'
+    → next_at new ≡ after_body (based_names w) (next_at w) (tree.If e s (tree.Else o))
 if_next_some w mid there new s s' o o' is other e based based' first second third =
     let f = based_names w in
-    third ∙ ap (λ g. behind g (next_at there) o') based' ∙ ap (λ o. behind f (next_at there) o) other
-    ∙ ap (λ n. behind f n o)
-    (second ∙ ap (λ g. behind g (next_at mid) s') based ∙ ap (λ s. behind f (next_at mid) s) is ∙ ap (λ n. behind f n s) first)
+    third ∙ ap (λ g. next_after g (next_at there) o') based' ∙ ap (λ o. next_after f (next_at there) o) other
+    ∙ ap (λ n. next_after f n o)
+    (second ∙ ap (λ g. next_after g (next_at mid) s') based ∙ ap (λ s. next_after f (next_at mid) s) is ∙ ap (λ n. next_after f n s) first)
     ∙ same_next _ _ _ _ (omega arith) (omega arith)
 
 -- groups
@@ -116,8 +116,8 @@ header_group make (Ok x) (Err gs) = refl
 header_group make (Err f) (Ok y) = refl
 header_group make (Err f) (Err gs) = refl
 
-pub behind_header : Next → Option Control → Next
-behind_header x control = record { block = x.block; temporary = x.temporary + kept_by control }
+pub after_header : Next → Option Control → Next
+after_header x control = record { block = x.block; temporary = x.temporary + kept_by control }
 
 do_group : (u : NamedUnit) (s : Surroundings) (x : Next) (number at : ℕ) (control : Option Control) (ss : tree.Statements) (end : ℕ)
     → together group_of (of_own (header_typed (naming_at u s) x.temporary control))
@@ -139,7 +139,7 @@ pub do_walked : (old mid new : TypingWalk) (number at : ℕ) (control : Option C
     → WalksBody old new number at (tree.Do control ss end) (both group_of header list)
 do_walked old mid new number at control ss end header list first second =
     as_typed old new _ _ _ _ _ _
-    (moved (λ u a x. behind_list u.is_based x ss) old mid _ first.back first.next ∙ same_next _ _ _ _ refl (omega arith))
+    (moved (λ u a x. after_list u.is_based x ss) old mid _ first.back first.next ∙ same_next _ _ _ _ refl (omega arith))
     (do_group (unit_at old) (around old) (next_at old) number at control ss end) refl
     (then_walked group_of old mid new _ _ _ _ _ header list first second
     (moved (λ u s x. statements_typed u (spec.in_group ss s) x ss) old mid _ first.back first.next))
@@ -196,14 +196,14 @@ pub goes_on_first : (old : TypingWalk) (all : tree.Statements) → GoesOn old ol
 goes_on_first old all new part w = as_typed old new _ _ _ _ _ _ refl refl (sym (none_in_front part)) w
 
 step_walked : (now mid new : TypingWalk) (s : Statement) (more : tree.Statements) (t : Option TypedStatement) (part : Option TypedStatements)
-    → Walks TypedStatement now mid (behind (based_names now) (next_at now) (source.statement_view s))
+    → Walks TypedStatement now mid (next_after (based_names now) (next_at now) (source.statement_view s))
     (statement_typed (unit_at now) (around now) (next_at now) (source.statement_view s)) t
     → WalksList mid new (around mid) more part
     → WalksList now new (around now) (tree.Before (source.statement_view s) more)
     (both (put_before (leaves_nothing (source.body_view s.body))) t part)
 step_walked now mid new s more t part first second =
     as_typed now new _ _ _ _ _ _
-    (moved (λ u a x. behind_list u.is_based x more) now mid _ first.back first.next ∙ same_next _ _ _ _ (omega arith) (omega arith)) refl refl
+    (moved (λ u a x. after_list u.is_based x more) now mid _ first.back first.next ∙ same_next _ _ _ _ (omega arith) (omega arith)) refl refl
     (then_walked (put_before (leaves_nothing (source.body_view s.body))) now mid new _ _ _ _ _ t part first second
     (moved (λ u a x. statements_typed u a x more) now mid _ first.back first.next))
 
@@ -211,7 +211,7 @@ pub goes_on_next : (old now mid : TypingWalk) (complete kept still nothing : Boo
     (ss : List Statement) (i : ℕ) (s : Statement) (t : Option TypedStatement)
     → s ≡ get_or ss i s → i < length ss → nothing ≡ leaves_nothing (source.body_view s.body)
     → kept ≡ is_some t → still ≡ (complete && kept) → us ≡ ts ++ listed_if nothing t
-    → Walks TypedStatement now mid (behind (based_names now) (next_at now) (source.statement_view s))
+    → Walks TypedStatement now mid (next_after (based_names now) (next_at now) (source.statement_view s))
     (statement_typed (unit_at now) (around now) (next_at now) (source.statement_view s)) t
     → GoesOn old now complete ts all (source.statements_view (drop i ss))
     → GoesOn old mid still us all (source.statements_view (drop (i + 1) ss))

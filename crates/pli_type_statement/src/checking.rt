@@ -15,7 +15,7 @@ use pli_type_walk::{Next, TypingWalk, in_unit, outer_signature, typed_unit};
 use std::alloc::Global;
 
 /// Why a unit has no typed tree: all its faults of types, in the order of the text, one for each statement, and of an
-/// IF and a group one for what stands in front of the statements in them; or want of memory.
+/// IF and a group one for what stands in front of the statements in them; or that memory was refused.
 pub type CheckError = Failure<Vec<Fault>>;
 
 /// The typed tree of a resolved unit, or its faults of types.

@@ -4,7 +4,7 @@ ghost use Rattle.pli_base.specs.views.StatementView as source;
 ghost use Rattle.pli_base.specs.views.SyntaxView as syntax;
 ghost use Rattle.pli_map.specs.views.DescriptionView.{description_view};
 ghost use Rattle.pli_type.specs.StatementTyping as spec;
-ghost use Rattle.pli_type.specs.Temporaries.{behind, kept_by, temporaries_of};
+ghost use Rattle.pli_type.specs.Temporaries.{next_after, kept_by, temporaries_of};
 ghost use Rattle.pli_type_iteration.specs.Headers.{Header as PlainHeader, header_typed};
 ghost use Rattle.pli_type_walk.specs.NumbersTaken.{taken_among, taken_in, taken_of};
 ghost use Rattle.pli_type_walk.specs.Compound.{is_compound};
@@ -26,7 +26,7 @@ use pli_type_parts::{
     begin_form, boxed, if_form, keep, labels_of, leaves_nothing, noted, numbered, otherwise,
 };
 use pli_type_tree::{BlockHead, Form, TypedExpression, TypedStatement};
-use pli_type_walk::{TypingWalk, enter_block, finish, finish_unit, kept_in, leave_block};
+use pli_type_walk::{TypingWalk, enter_block, finish, finish_on_unit, kept_in, leave_block};
 use std::alloc::{AllocError, Global};
 use std::slice;
 
@@ -37,7 +37,7 @@ struct TypedBlock {
     list: Option<Vec<TypedStatement>>,
 }
 
-/// A statement without statements in it, whose fault is put behind the others.
+/// A statement without statements in it, whose fault is put after the others.
 fn type_simple(
     alloc: Global,
     walk: &mut TypingWalk<'_>,
@@ -73,7 +73,7 @@ fn type_simple(
     noted(form, &mut walk.faults)
 }
 
-/// A condition, whose fault is put behind the others.
+/// A condition, whose fault is put after the others.
 fn type_condition(
     alloc: Global,
     walk: &mut TypingWalk<'_>,
@@ -89,7 +89,7 @@ fn type_condition(
     noted(tested, &mut walk.faults)
 }
 
-/// What controls a group, whose fault is put behind the others; its temporaries are counted.
+/// What controls a group, whose fault is put after the others; its temporaries are counted.
 fn type_header(
     alloc: Global,
     walk: &mut TypingWalk<'_>,
@@ -113,7 +113,7 @@ fn type_header(
     noted(header, &mut walk.faults)
 }
 
-/// A statement, if it has no fault. Its faults, and those of the statements in it, are put behind the others, in the
+/// A statement, if it has no fault. Its faults, and those of the statements in it, are put after the others, in the
 /// order of the text.
 #[cycle(typed)]
 fn type_statement(
@@ -124,7 +124,7 @@ fn type_statement(
     requires placed { IsPlaced walk.old }
     requires room { HasRoom (next_at walk.old) (taken_in (source.statement_view statement.now)) }
     ensures { IfOk result (λ typed. Walks plain.TypedStatement walk.old walk.new
-        (behind (based_names walk.old) (next_at walk.old) (source.statement_view statement.now))
+        (next_after (based_names walk.old) (next_at walk.old) (source.statement_view statement.now))
         (spec.statement_typed (unit_at walk.old) (around walk.old) (next_at walk.old)
         (source.statement_view statement.now))
         (option_map statement_view typed)) }
@@ -133,7 +133,7 @@ fn type_statement(
     Ok(numbered(statement.number, form))
 }
 
-/// The same of what the statement of a number says, whose first token behind its label is `at`.
+/// The same of what the statement of a number says, whose first token after its label is `at`.
 #[cycle(typed)]
 fn type_body<'a>(
     alloc: Global,
@@ -197,7 +197,7 @@ fn type_body<'a>(
         Body::On { condition, unit } => {
             let list = slice::from_ref(&**unit);
             let block = type_block(alloc, walk, true, 0, None, number, list)?;
-            finish_unit(walk, *condition, block.head, block.list)
+            finish_on_unit(walk, *condition, block.head, block.list)
         }
         _ => type_simple(alloc, walk, at, body),
     }
@@ -251,7 +251,7 @@ fn type_group(
     Ok(list)
 }
 
-/// Statements, without those that leave nothing, if none has a fault. All faults are put behind the others, in the
+/// Statements, without those that leave nothing, if none has a fault. All faults are put after the others, in the
 /// order of the text. It calls itself as deep as statements nest.
 #[cycle(typed)]
 pub(crate) fn type_statements(

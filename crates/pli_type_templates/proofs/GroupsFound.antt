@@ -11,7 +11,7 @@ in_copies zero n t more h = absurd (omega arith)
 in_copies (suc count) zero t more h = refl
 in_copies (suc count) (suc n) t more h = in_copies count n t more (omega (arith, h))
 
--- behind them
+-- after them
 past_copies : {A : Type 0} (count n : ℕ) (t : A) (more : List A) → count ≤ n
     → slice_get more (n - count) ≡ slice_get (replicate count t ++ more) n
 past_copies zero n t more h =

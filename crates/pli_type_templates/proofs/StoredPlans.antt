@@ -7,7 +7,7 @@ use Rattle.std.proofs.lemmas.Bool.{leb-true, ltb-true, and_parts}
 use Rattle.std.proofs.Math.Nat.{le-mul_of_pos_right}
 use Rattle.pli_map.specs.Description.{Description, FixedBinary, Character, Varying, Bit, Pointer, Offset, Area, Array, Structure}
 use Rattle.pli_map.specs.Description.{Members, NoMembers, MemberThen}
-use Rattle.pli_map.specs.Sizes.{alignment_of, count_of, end_behind, size_of, stride_of}
+use Rattle.pli_map.specs.Sizes.{alignment_of, count_of, end_after, size_of, stride_of}
 use Rattle.pli_map.specs.declared.description.Bounds.{Bounds}
 use Rattle.pli_map.specs.declared.description.Description as program
 use Rattle.pli_map.specs.declared.description.Description.TheVariants as made
@@ -77,18 +77,18 @@ pub left_factor : (a b whole : ℕ) → a * b ≡ whole → 0 < whole → a ≤ 
 left_factor a zero whole e h = absurd (omega arith)
 left_factor a (suc b) whole e h = let more : a ≤ a * suc b = le-mul_of_pos_right a (omega arith) in omega (arith, more, e)
 
--- the member at hand ends within the members that are left
+-- the current member ends within the members that are left
 pub member_room : (xs : List program.Description) (i : ℕ) (x : program.Description) (ended whole : ℕ) → i < length xs → x ≡ get_or xs i x
-    → end_behind ended (members_view (drop i xs)) ≡ whole
+    → end_after ended (members_view (drop i xs)) ≡ whole
     → next_multiple_of ended (alignment_of (description_view x)) + size_of (description_view x) ≤ whole
 member_room xs i x ended whole h is end =
     let d = description_view x in
     let rest = members_view (drop (i + 1) xs) in
     let start = next_multiple_of ended (alignment_of d) in
-    let e : end_behind ended (members_view (drop i xs)) ≡ end_behind (start + size_of d) rest = ap (end_behind ended) (next_member xs i x h is) in
+    let e : end_after ended (members_view (drop i xs)) ≡ end_after (start + size_of d) rest = ap (end_after ended) (next_member xs i x h is) in
     omega (arith, later (start + size_of d) rest, e, end)
 
--- the member at hand is plain, and so are those behind it
+-- the current member is plain, and so are those after it
 pub member_plain : (xs : List program.Description) (i : ℕ) (x : program.Description) → i < length xs → x ≡ get_or xs i x
     → all_plain 63 (members_view (drop i xs)) ≡ true
     → (is_plain 63 (description_view x) ≡ true) × (all_plain 63 (members_view (drop (i + 1) xs)) ≡ true)
@@ -105,10 +105,10 @@ members_counted d v xs e there =
 -- the members of a structure that is plain and ends within so many bytes
 pub members_stored : (d : program.Description) (v : Vec program.Description Global) (xs : List program.Description) (first : ℕ) → d ≡ made.Structure v → xs ≡ v.items
     → is_plain 63 (description_view d) ≡ true → first + size_of (description_view d) ≤ 1000000
-    → (all_plain 63 (members_view xs) ≡ true) × (first + end_behind 0 (members_view xs) ≤ 1000000)
+    → (all_plain 63 (members_view xs) ≡ true) × (first + end_after 0 (members_view xs) ≤ 1000000)
 members_stored d v xs first e there plain room =
     let is : description_view d ≡ Structure (members_view xs) = structure_view d v e ∙ ap (λ ys. Structure (members_view ys)) (sym there) in
-    let sized : size_of (description_view d) ≡ end_behind 0 (members_view xs) = ap size_of is in
+    let sized : size_of (description_view d) ≡ end_after 0 (members_view xs) = ap size_of is in
     (members_plain (members_view xs) (sym (ap (is_plain 63) is) ∙ plain), omega (arith, room, sized))
 
 -- ---- elements of arrays in one another
@@ -163,13 +163,13 @@ mutual
   stored_on (Structure ds) from (i ∷ path) h = stored_in ds i path from 0 (members_plain ds h)
 
   stored_in : (ds : Members) (i : ℕ) (path : List ℕ) (from ended : ℕ) → all_plain 63 ds ≡ true
-      → IfSome (leaf_in_member (plans_from from ended ds) i path) (IsStoredLeaf from (end_behind ended ds) (levels_in_member (plans_from from ended ds) i path))
+      → IfSome (leaf_in_member (plans_from from ended ds) i path) (IsStoredLeaf from (end_after ended ds) (levels_in_member (plans_from from ended ds) i path))
   stored_in NoMembers i path from ended h = tt
   stored_in (MemberThen d ds) zero path from ended h =
       let start = next_multiple_of ended (alignment_of d) in
       let plain = and_parts (is_plain 63 d) (all_plain 63 ds) h in
       let end = later (start + size_of d) ds in
-      within (leaf_in (plan_from (from + start) d) path) (levels_in (plan_from (from + start) d) path) from (end_behind ended (MemberThen d ds)) (from + start) (size_of d)
+      within (leaf_in (plan_from (from + start) d) path) (levels_in (plan_from (from + start) d) path) from (end_after ended (MemberThen d ds)) (from + start) (size_of d)
       (omega arith) (omega (arith, end)) (stored_on d (from + start) path plain.0)
   stored_in (MemberThen d ds) (suc i) path from ended h =
       let plain = and_parts (is_plain 63 d) (all_plain 63 ds) h in

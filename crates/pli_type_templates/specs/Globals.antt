@@ -8,7 +8,7 @@ use Rattle.pli_type_tree.specs.TypedTree.{Global, OwnVariable, ExternalVariable,
 -- globals of one kind that are made from one template, or take and give the same
 abbrev pub IsLike : Global → Global → Type 0
 IsLike (OwnVariable kind template) (OwnVariable other further) = (other ≡ kind) × (further ≡ template)
-IsLike (ExternalVariable name kind template) (ExternalVariable name_behind other further) =
+IsLike (ExternalVariable name kind template) (ExternalVariable name_after other further) =
     (other ≡ kind) × (further ≡ template)
 IsLike (EntryPoint name signature) (EntryPoint further other) = other ≡ signature
 IsLike first global = ⊥

@@ -38,7 +38,7 @@ abbrev mutual
   plan_from first (Area bytes) = OfStructure NoPlans
   plan_from first scalar = OfScalar (record { first = first; description = scalar })
 
-  -- the plans of members of a structure that begins on this byte, where those before them end so far behind
+  -- the plans of members of a structure that begins on this byte, where those before them end so far after
   -- it
   pub plans_from : (first ended : ℕ) → Members → Plans
   plans_from first ended NoMembers = NoPlans
@@ -114,7 +114,7 @@ abbrev pub AreNested : List ArrayLevel → Type 0
 AreNested [] = Unit {0}
 AreNested (l ∷ ls) = (spread_over ls ≤ l.distance) × AreNested ls
 
--- a scalar that is compiled, which with the arrays above it stands within so many bytes behind this byte
+-- a scalar that is compiled, which with the arrays above it stands within so many bytes after this byte
 pub record IsStoredLeaf (from bytes : ℕ) (levels : List ArrayLevel) (leaf : Leaf) : Type 0 where
   pub first : leaf.first ≤ from + bytes
   pub over : spread_over levels ≤ bytes

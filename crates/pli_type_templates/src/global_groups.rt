@@ -76,7 +76,7 @@ fn is_alike(items: &ItemNumbers<'_>, left: &PlacedGlobal<'_>, right: &PlacedGlob
 }
 
 /// How many globals, from the first on, are like this one.
-fn alike_behind(
+fn alike_after(
     items: &ItemNumbers<'_>,
     first: &PlacedGlobal<'_>,
     more: &[PlacedGlobal<'_>],
@@ -107,7 +107,7 @@ fn put_name(global: &UnitGlobal<'_>, names: &mut Vec<Name>) -> Result<(), AllocE
     }
 }
 
-/// This name, and those of globals behind it.
+/// This name, and those of globals after it.
 fn names_of(alloc: Global, first: Name, more: &[PlacedGlobal<'_>]) -> Result<Vec<Name>, AllocError>
     ensures { IfOk result (λ names. names.items ≡ first ∷ names_in (map global_view more.now)) }
 {
@@ -171,7 +171,7 @@ pub(crate) fn groups(
     while at < globals.len() {
         let first = &globals[at];
         let more = &globals[at + 1..];
-        let count = alike_behind(items, first, more);
+        let count = alike_after(items, first, more);
         groups.push(group_of(alloc, first, &more[..count])?)?;
         at += count + 1;
     }

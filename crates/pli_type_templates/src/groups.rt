@@ -165,7 +165,7 @@ pub(crate) fn is_made_alike(
 }
 
 /// How many variables, from the first on, are made from what this one is made from.
-fn alike_behind(
+fn alike_after(
     items: &ItemNumbers<'_>,
     first: &MadeVariable<'_>,
     more: &[MadeVariable<'_>],
@@ -207,7 +207,7 @@ fn grouped(
     let mut at = 0;
     while at < made.len() {
         let first = &made[at];
-        let count = 1 + alike_behind(items, first, &made[at + 1..]);
+        let count = 1 + alike_after(items, first, &made[at + 1..]);
         groups.push(variable_group(alloc, count, first)?)?;
         at += count;
     }

@@ -2,7 +2,7 @@
 //! at the members before it.
 ghost use Rattle.std.specs.Int.{next_multiple_of};
 ghost use Rattle.std.specs.Prelude.{◌≡◌, ◌<◌, ◌≤◌, ◌+◌, ◌*◌, ◌++◌, IfOk, option_map, slice_get, true};
-ghost use Rattle.pli_map.specs.Sizes.{alignment_of, count_of, end_behind, size_of, stride_of};
+ghost use Rattle.pli_map.specs.Sizes.{alignment_of, count_of, end_after, size_of, stride_of};
 ghost use Rattle.pli_map.specs.views.DescriptionView.{description_view, members_view};
 ghost use Rattle.pli_type.specs.NamedUnits.{all_plain, is_plain, is_stored};
 ghost use Rattle.pli_type_templates.specs.Plans as planned;
@@ -37,14 +37,14 @@ pub(crate) enum Plan<'a> {
     Structure(Vec<Plan<'a>>),
 }
 
-/// A plan, and the byte behind the last of its description.
+/// A plan, and the byte after the last of its description.
 #[derive(Drop)]
 pub(crate) struct Planned<'a> {
     pub plan: Plan<'a>,
     pub end: u32,
 }
 
-/// Where a description stands behind so many bytes.
+/// Where a description stands after so many bytes.
 fn aligned(ended: u32, description: &Description) -> u32
     requires { next_multiple_of ended (alignment_of (description_view description.now)) ≤ 1000000 }
     ensures { result ≡ next_multiple_of ended (alignment_of (description_view description.now)) }
@@ -52,7 +52,7 @@ fn aligned(ended: u32, description: &Description) -> u32
     ended.next_multiple_of(alignment(description))
 }
 
-/// The byte behind a description that begins on this byte.
+/// The byte after a description that begins on this byte.
 fn end_of(first: u32, description: &Description) -> u32
     requires { first + size_of (description_view description.now) ≤ 1000000 }
     ensures { result ≡ first + size_of (description_view description.now) }
@@ -144,10 +144,10 @@ fn members_from<'a>(
     first: u32,
 ) -> Result<Planned<'a>, AllocError>
     requires plain { all_plain 63 (members_view members.now) ≡ true }
-    requires room { first + end_behind 0 (members_view members.now) ≤ 1000000 }
+    requires room { first + end_after 0 (members_view members.now) ≤ 1000000 }
     ensures { IfOk result (λ made. (plan_view made.plan ≡ planned.OfStructure
         (plans_from first 0 (members_view members.now)))
-        × (made.end ≡ first + end_behind 0 (members_view members.now))) }
+        × (made.end ≡ first + end_after 0 (members_view members.now))) }
 {
     let mut plans = Vec::with_capacity(alloc, members.len())?;
     let mut end = first;

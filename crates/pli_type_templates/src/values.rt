@@ -39,7 +39,7 @@ pub(crate) fn elements_written(values: &[InitialValue]) -> u128
     count
 }
 
-/// The bit at a place, counted from 0; 0 behind the end.
+/// The bit at a place, counted from 0; 0 past the end.
 fn bit_at(bits: &[bool], place: usize) -> bool
     ensures { result ≡ get_or bits.now place false }
 {

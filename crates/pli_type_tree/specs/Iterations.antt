@@ -4,7 +4,7 @@ use Rattle.pli_value.specs.Value.{Number}
 use Rattle.pli_type_tree.specs.TypedTree.{TypedExpression, Literal, TypedRange, Once, ToBy, ByTo, Repeated}
 use Rattle.pli_type_tree.specs.TypedTree.{RepeatedString}
 
--- what is kept behind the start: TO and BY in the order of the text; the step is 1 where TO stands without BY
+-- what is kept after the start: TO and BY in the order of the text; the step is 1 where TO stands without BY
 abbrev pub kept_by : TypedRange → List TypedExpression
 kept_by Once = []
 kept_by (ToBy to None) = to ∷ Literal (Number (pos 1)) ∷ []

@@ -47,8 +47,8 @@ mutual
     AsOffset : (area : TypedReference) (pointer : TypedExpression) → TypedExpression
     Bounded : (which : WhichBound) (dimension : ℕ) (variable : TypedReference) → TypedExpression
 
-  -- where a reference begins: at a parameter or an AUTOMATIC variable; at a variable that is made before the
-  -- program begins, by the number of its global; at the newest generation of a CONTROLLED variable, by the
+  -- where a reference begins: at a parameter or an AUTOMATIC variable; at a static
+  -- variable, by the number of its global; at the newest generation of a CONTROLLED variable, by the
   -- number of its global; or at what a pointer leads to, which is of this whole description
   pub data Root : Type 0 where
     InSlot : (outward slot : ℕ) → Root

@@ -163,11 +163,11 @@ AreAround bs cs = ⊥
 
 -- the blocks around an ON-unit that stands here: of the innermost one it knows the labels that last, as it
 -- may run while no group there does
-abbrev pub AreAroundUnit : (here around : List BlockAround) → Type 0
-AreAroundUnit (b ∷ bs) (c ∷ cs) =
+abbrev pub AreAroundOnUnit : (here around : List BlockAround) → Type 0
+AreAroundOnUnit (b ∷ bs) (c ∷ cs) =
     (b.number ≡ c.number) × ((b.parameters ≡ c.parameters) × (b.slots ≡ c.slots))
     × AreAmong c.labels b.lasting × AreAmong c.lasting b.lasting × AreAround bs cs
-AreAroundUnit bs cs = ⊥
+AreAroundOnUnit bs cs = ⊥
 
 -- the blocks around from the nearest of a number on
 abbrev pub blocks_from : (number : ℕ) → List BlockAround → Option (List BlockAround)
@@ -449,10 +449,10 @@ innermost [] = None
 innermost (b ∷ bs) = Some b.number
 
 -- a block is an ON-unit that stands here; it takes nothing and gives nothing
-abbrev pub IsUnitHere : TypingContext → (block : ℕ) → Type 0
-IsUnitHere s block =
+abbrev pub IsOnUnitHere : TypingContext → (block : ℕ) → Type 0
+IsOnUnitHere s block =
     (p : KnownProcedure) × (s.procedures block ≡ Some p) × (p.is_on_unit ≡ true)
-    × (p.parent ≡ innermost s.blocks) × AreAroundUnit s.blocks p.around × (p.parameters ≡ [])
+    × (p.parent ≡ innermost s.blocks) × AreAroundOnUnit s.blocks p.around × (p.parameters ≡ [])
     × (p.value ≡ None)
 
 abbrev mutual
@@ -492,7 +492,7 @@ abbrev mutual
   IsTypedForm n s (ReturnValue outward e) =
       (outward ≡ s.begins) × ((d : Description) × (s.value ≡ Some d) × IsValueFor n s d e)
   IsTypedForm n s Stop = Unit {0}
-  IsTypedForm n s (On condition block) = IsUnitHere s block
+  IsTypedForm n s (On condition block) = IsOnUnitHere s block
   IsTypedForm n s (Revert condition) = Unit {0}
   IsTypedForm n s (Signal condition) = Unit {0}
 

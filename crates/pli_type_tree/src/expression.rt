@@ -13,7 +13,7 @@ pub enum Root {
         outward: usize,
         slot: usize,
     },
-    /// At a variable that is made before the program begins, by the number of its global. Those of a unit are counted
+    /// At a static variable, by the number of its global. Those of a unit are counted
     /// from 0.
     OfProgram {
         number: usize,
@@ -127,12 +127,12 @@ pub enum TypedExpression {
     },
     /// A pointer to a variable (ADDR).
     Address(TypedReference),
-    /// An offset as a pointer into an area, which is evaluated behind it (POINTER).
+    /// An offset as a pointer into an area, which is evaluated after it (POINTER).
     AsPointer {
         area: TypedReference,
         offset: Box<TypedExpression>,
     },
-    /// A pointer as an offset of an area, which is evaluated behind it (OFFSET).
+    /// A pointer as an offset of an area, which is evaluated after it (OFFSET).
     AsOffset {
         area: TypedReference,
         pointer: Box<TypedExpression>,

@@ -7,12 +7,12 @@ use crate::expression::{TypedExpression, TypedReference};
 pub enum TypedRange {
     /// Without TO, BY and REPEAT there is one turn.
     Once,
-    /// TO, and BY behind it; the step is 1 where BY is absent.
+    /// TO, and BY after it; the step is 1 where BY is absent.
     ToBy {
         to: TypedExpression,
         by: Option<TypedExpression>,
     },
-    /// BY, and TO behind it; no limit where TO is absent.
+    /// BY, and TO after it; no limit where TO is absent.
     ByTo {
         by: TypedExpression,
         to: Option<TypedExpression>,

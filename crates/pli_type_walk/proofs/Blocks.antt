@@ -21,8 +21,8 @@ use Rattle.pli_map.specs.views.DescriptionView.{description_view}
 use Rattle.pli_map.specs.views.ParameterView.{type_seen}
 use Rattle.pli_type_tree.specs.views.TypedView.{head_view, procedure_view}
 use Rattle.pli_type_parts.specs.Around.{Around, Listing, blocks_with, blocks_from, blocks_of, seen_from, surroundings_of}
-use Rattle.pli_type_parts.specs.Parts.{unit_named, given, told, Adds, behind_body, behind_list}
-use Rattle.pli_type_walk.specs.Walking.{IsDeep, IsPlaced, Walks, WalksBody, WalksList, WalksBlock, Enters, Leaves, Finishes, Ends, ended_as, unit_ended, in_list, in_block, unit_at, around, based_names, next_at, finished}
+use Rattle.pli_type_parts.specs.Parts.{unit_named, given, told, Adds, after_body, after_list}
+use Rattle.pli_type_walk.specs.Walking.{IsDeep, IsPlaced, Walks, WalksBody, WalksList, WalksBlock, Enters, Leaves, Finishes, Ends, ended_as, on_unit_ended, in_list, in_block, unit_at, around, based_names, next_at, finished}
 use Rattle.pli_type_walk.specs.declared.walk.OpenBlock.{OpenBlock}
 use Rattle.pli_type_parts.specs.declared.surroundings.Surroundings.{Surroundings as Surrounded}
 use Rattle.pli_type_walk.specs.declared.walk.TypingWalk.{TypingWalk}
@@ -130,8 +130,8 @@ group_walked old e d new ss list placed same is next templates faults procedures
         };
       };
       next = ap (λ n. record { block = n.block; temporary = n.temporary }) next' ∙ w.next
-          ∙ ap (λ f. behind_list f (next_at e) ss) (same_based old e same)
-          ∙ ap (λ n. behind_list (based_names old) (record { block = n.block; temporary = n.temporary }) ss) next;
+          ∙ ap (λ f. after_list f (next_at e) ss) (same_based old e same)
+          ∙ ap (λ n. after_list (based_names old) (record { block = n.block; temporary = n.temporary }) ss) next;
       part = w.part ∙ ap given asked;
       faults = ap (λ f. f.items) faults' ∙ w.faults ∙ ap (λ f. f.items ++ told (statements_typed (unit_at e) (around e) (next_at e) ss)) faults
           ∙ ap (λ r. old.faults.items ++ told r) asked;
@@ -190,9 +190,9 @@ block_walked old e d new block is_on_unit begins value number ss list head place
     ap (λ (n : Names). statements_typed (unit_named n.unit) (around e) (next_at e) ss) in_it.naming
     ∙ ap (λ a. statements_typed (unit_at old) (surroundings_of a) (next_at e) ss) in_it.around
     ∙ ap (λ n. statements_typed (unit_at old) (in_block old is_on_unit begins value ss) n ss) in_it.next in
-    let nexts : next_at d ≡ behind_list (based_names old) (record { block = suc old.next.block; temporary = 0 }) ss =
-    w.next ∙ ap (λ (n : Names). behind_list (unit_named n.unit).is_based (next_at e) ss) in_it.naming
-    ∙ ap (λ n. behind_list (based_names old) n ss) in_it.next in
+    let nexts : next_at d ≡ after_list (based_names old) (record { block = suc old.next.block; temporary = 0 }) ss =
+    w.next ∙ ap (λ (n : Names). after_list (unit_named n.unit).is_based (next_at e) ss) in_it.naming
+    ∙ ap (λ n. after_list (based_names old) n ss) in_it.next in
     record {
       walked = record {
         back = record {
@@ -241,9 +241,9 @@ next_of block temporary = record { block = block; temporary = temporary }
 same_next : (x y x' y' : ℕ) → x ≡ x' → y ≡ y' → next_of (x) (y) ≡ next_of x' y'
 same_next x y x' y' e f = ap (λ b. record { block = b; temporary = y }) e ∙ ap (λ t. record { block = x'; temporary = t }) f
 
-behind_begin : (x : Next) (count : ℕ)
+after_begin : (x : Next) (count : ℕ)
     → next_of (suc x.block + count) (x.temporary) ≡ next_of (x.block + suc count) (x.temporary + 0)
-behind_begin x count = same_next _ _ _ _ (omega arith) (omega arith)
+after_begin x count = same_next _ _ _ _ (omega arith) (omega arith)
 
 pub begin_walked : (old new : TypingWalk) (number at : ℕ) (ss : tree.Statements) (end : ℕ) (begins : ℕ) (head : BlockHead)
     (list : Option TypedStatements) → begins ≡ suc old.surroundings.begins
@@ -255,7 +255,7 @@ begin_walked old new number at ss end begins head list is w =
     let stands : in_block old false begins a.value ss ≡ in_begin old.next.block ss (around old) =
     ap (λ bs. record { blocks = bs; begins = begins; value = a.value }) (last_list [] a.lists l)
     ∙ ap (λ b. record { blocks = spec.enclosing old.next.block ss ∷ (around old).blocks; begins = b; value = a.value }) is in
-    as_typed old new _ _ _ _ _ _ (behind_begin (next_at old) (blocks_among ss))
+    as_typed old new _ _ _ _ _ _ (after_begin (next_at old) (blocks_among ss))
     (ap (λ s. spec.made (typed.Begin (head_of (unit_at old) old.next.block number ss)) (statements_typed (unit_at old) s (spec.inside (next_at old)) ss)) stands)
     (ap (λ h. option_map (typed.Begin h) list) w.head)
     (made_walked (typed.Begin (head_of (unit_at old) old.next.block number ss)) old new _ _ list w.walked)
@@ -283,7 +283,7 @@ ended_walked : (old mid new : TypingWalk) (number at : ℕ) (b : tree.Body) (ss 
     (make other : TypedStatements → TypedProcedure) (head : BlockHead) (list : Option TypedStatements) (form : Option Form)
     → WalksBlock old mid inner number ss head list → Finishes mid new left other list form
     → ((x : TypedStatements) → other x ≡ make x)
-    → next_of (suc old.next.block + blocks_among ss) old.next.temporary ≡ behind_body (based_names old) (next_at old) b
+    → next_of (suc old.next.block + blocks_among ss) old.next.temporary ≡ after_body (based_names old) (next_at old) b
     → spec.as_procedure left make (statements_typed (unit_at old) inner (spec.inside (next_at old)) ss)
     ≡ body_typed (unit_at old) (around old) (next_at old) number at b
     → WalksBody old new number at b form
@@ -335,7 +335,7 @@ procedure_walked old mid new number at end heading ss value head list form gives
     ∙ ap (λ k. procedure_with false (head_view head) x (spec.block_at (around old)) (length ((unit_at old).parameters k)) (spec.function_end ((unit_at old).returned k) end)) counted
     ∙ ap (λ h. procedure_with false h x (spec.block_at (around old)) (length ((unit_at old).parameters b)) (spec.function_end ((unit_at old).returned b) end)) w.head in
     ended_walked old mid new number at (tree.Procedure heading ss end) ss (in_block old false 0 value ss) typed.Null make (ended_as mid end head) head list form
-    w ended same (behind_begin (next_at old) (blocks_among ss))
+    w ended same (after_begin (next_at old) (blocks_among ss))
     (ap (λ s. spec.as_procedure typed.Null make (statements_typed (unit_at old) s (spec.inside (next_at old)) ss)) stands)
 
 pub procedure_answer : {X E : Type 0} (view : X → Form) (result : Result (Option X) E) (old mid new : TypingWalk) (number at end : ℕ) (heading : tree.Heading) (ss : tree.Statements)
@@ -352,7 +352,7 @@ procedure_answer view (Err e) old mid new number at end heading ss value head li
 unit_walked : (old mid new : TypingWalk) (number at : ℕ) (c : Condition) (unit : tree.Statement) (head : BlockHead)
     (list : Option TypedStatements) (form : Option Form)
     → WalksBlock old mid (in_block old true 0 None (spec.only unit)) number (spec.only unit) head list
-    → Finishes mid new (typed.On c head.number) (unit_ended mid head) list form
+    → Finishes mid new (typed.On c head.number) (on_unit_ended mid head) list form
     → WalksBody old new number at (tree.On c unit) form
 unit_walked old mid new number at c unit head list form w ended =
     let a = around_view old.surroundings in
@@ -363,18 +363,18 @@ unit_walked old mid new number at c unit head list form w ended =
     ap (λ bs. record { blocks = bs; begins = 0; value = None }) (last_list [] a.lists l) in
     let make = spec.on_unit_of (unit_at old) (Some (spec.block_at (around old))) b number unit in
     let counted : head.number ≡ b = ap (λ (h : typed.BlockHead). h.number) w.head in
-    let same : (x : TypedStatements) → unit_ended mid head x ≡ make x = λ x.
+    let same : (x : TypedStatements) → on_unit_ended mid head x ≡ make x = λ x.
     ap (λ (a : Around). procedure_with true (head_view head) x (spec.block_at (surroundings_of a)) 0 None) w.walked.back.around
     ∙ ap (λ h. procedure_with true h x (spec.block_at (around old)) 0 None) w.head in
-    ended_walked old mid new number at (tree.On c unit) ss (in_block old true 0 None ss) (typed.On c b) make (unit_ended mid head) head list form
-    w (subst (λ k. Finishes mid new (typed.On c k) (unit_ended mid head) list form) counted ended) same
+    ended_walked old mid new number at (tree.On c unit) ss (in_block old true 0 None ss) (typed.On c b) make (on_unit_ended mid head) head list form
+    w (subst (λ k. Finishes mid new (typed.On c k) (on_unit_ended mid head) list form) counted ended) same
     (same_next _ _ _ _ (omega arith) (omega arith))
     (ap (λ s. spec.as_procedure (typed.On c b) make (statements_typed (unit_at old) s (spec.inside (next_at old)) ss)) stands)
 
 pub unit_answer : {X E : Type 0} (view : X → Form) (result : Result (Option X) E) (old mid new : TypingWalk) (number at : ℕ) (c : Condition) (unit : tree.Statement)
     (head : BlockHead) (list : Option TypedStatements)
     → WalksBlock old mid (in_block old true 0 None (spec.only unit)) number (spec.only unit) head list
-    → IfOk result (λ form. Finishes mid new (typed.On c head.number) (unit_ended mid head) list (option_map view form))
+    → IfOk result (λ form. Finishes mid new (typed.On c head.number) (on_unit_ended mid head) list (option_map view form))
     → IfOk result (λ form. WalksBody old new number at (tree.On c unit) (option_map view form))
 unit_answer view (Ok form) old mid new number at c unit head list w ended =
     unit_walked old mid new number at c unit head list (option_map view form) w ended

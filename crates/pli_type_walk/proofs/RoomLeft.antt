@@ -12,9 +12,9 @@ use Rattle.pli_base.specs.laws.StatementLaws.{unit_statements}
 use Rattle.pli_base.specs.views.StatementView as source
 use Rattle.pli_declare_outline.specs.Outlines.{Mark, PlacedMark, allocation_marks, alternative_marks, both_marks, body_marks, control_marks, expression_marks, label_marks, optional_marks, outline_of, placed, regions_among, regions_else, regions_in, regions_of, statement_marks, statements_marks, statements_regions}
 use Rattle.pli_resolve.proofs.RegionWalks.{list_regions_counted}
-use Rattle.pli_resolve.specs.TreeBlocks.{blocks_in, blocks_of, blocks_among, blocks_behind}
+use Rattle.pli_resolve.specs.TreeBlocks.{blocks_in, blocks_of, blocks_among, blocks_in_else}
 use Rattle.pli_type.specs.StatementTyping.{only}
-use Rattle.pli_type.specs.Temporaries.{Next, based_among, behind, kept_by, temporaries_among, temporaries_behind, temporaries_in, temporaries_of}
+use Rattle.pli_type.specs.Temporaries.{Next, based_among, next_after, kept_by, temporaries_among, temporaries_in_else, temporaries_in, temporaries_of}
 use Rattle.pli_type_templates.specs.ItemNames.{HasFewMarks, HasFewRegions}
 use Rattle.pli_type_walk.specs.NumbersTaken.{taken_among, taken_else, taken_in, taken_of}
 use Rattle.pli_type_walk.specs.Walking.{HasRoom}
@@ -57,7 +57,7 @@ module _ (is_based : ℕ → Bool) where
     few_among Ended = omega arith
     few_among (Before first more) = omega (arith, few_in first, few_among more)
 
-    few_else : (a : Alternative) → blocks_behind a + temporaries_behind is_based a ≤ taken_else a
+    few_else : (a : Alternative) → blocks_in_else a + temporaries_in_else is_based a ≤ taken_else a
     few_else tree.NoElse = omega arith
     few_else (tree.Else statement) = few_in statement
 
@@ -73,7 +73,7 @@ items_marked (a ∷ others) = item_marked (length others) (both_marks a.area a.t
 abbrev place : ℕ → Mark → PlacedMark
 place here m = record { region = here; mark = m }
 
--- in a region, also behind the mark that it begins with
+-- in a region, also after the mark that it begins with
 in_region : (regions taken n : ℕ) → taken ≤ 4 * regions + n → 4 + taken ≤ 4 * (1 + regions) + n
 in_region regions taken n few = omega (arith, few)
 
@@ -84,8 +84,8 @@ entered regions taken n few = omega (arith, few)
 of_marks : (k m n : ℕ) → k ≤ m → n ≡ m → k ≤ 4 * 0 + n
 of_marks k m n few same = omega (arith, few, same)
 
-behind_marks : (ms ns : List PlacedMark) (regions taken : ℕ) → taken ≤ 4 * regions + length ns → taken ≤ 4 * regions + length (ms ++ ns)
-behind_marks ms ns regions taken few = omega (arith, few, length-append ms ns)
+after_marks : (ms ns : List PlacedMark) (regions taken : ℕ) → taken ≤ 4 * regions + length ns → taken ≤ 4 * regions + length (ms ++ ns)
+after_marks ms ns regions taken few = omega (arith, few, length-append ms ns)
 
 both_marked : (ms ns : List PlacedMark) (k l m n : ℕ) → k ≤ 4 * m + length ms → l ≤ 4 * n + length ns → k + l ≤ 4 * (m + n) + length (ms ++ ns)
 both_marked ms ns k l m n few others = omega (arith, few, others, length-append ms ns)
@@ -93,7 +93,7 @@ both_marked ms ns k l m n few others = omega (arith, few, others, length-append 
 mutual
   marked_in : (s : Statement) (here next : ℕ) → taken_in s ≤ 4 * regions_in s + length (statement_marks here next s)
   marked_in (Numbered number label at body) here next =
-      behind_marks (placed here (label_marks label body)) (body_marks here next body) (regions_of body) (taken_of body) (marked_of body here next)
+      after_marks (placed here (label_marks label body)) (body_marks here next body) (regions_of body) (taken_of body) (marked_of body here next)
 
   marked_of : (b : Body) (here next : ℕ) → taken_of b ≤ 4 * regions_of b + length (body_marks here next b)
   marked_of (tree.Procedure heading statements end) here next =
@@ -102,14 +102,14 @@ mutual
       in_region (regions_among statements) (taken_among statements) (length (statements_marks next (next + 1) statements)) (marked_among statements next (next + 1))
   marked_of (tree.Do control statements end) here next =
       let inside = statements_marks next (next + 1) statements in
-      behind_marks (placed here (optional_marks control_marks control)) inside (1 + regions_among statements) (4 + taken_among statements)
+      after_marks (placed here (optional_marks control_marks control)) inside (1 + regions_among statements) (4 + taken_among statements)
       (in_region (regions_among statements) (taken_among statements) (length inside) (marked_among statements next (next + 1)))
   marked_of (tree.If condition consequence alternative) here next =
       let cs = placed here (expression_marks condition) in
       let fs = statement_marks here next consequence in
       let ss = alternative_marks here (next + regions_in consequence) alternative in
       both_marked (cs ++ fs) ss (taken_in consequence) (taken_else alternative) (regions_in consequence) (regions_else alternative)
-      (behind_marks cs fs (regions_in consequence) (taken_in consequence) (marked_in consequence here next))
+      (after_marks cs fs (regions_in consequence) (taken_in consequence) (marked_in consequence here next))
       (marked_else alternative here (next + regions_in consequence))
   marked_of (tree.On condition unit) here next =
       in_region (regions_in unit) (taken_in unit) (length (statement_marks next (next + 1) unit)) (marked_in unit next (next + 1))
@@ -132,31 +132,31 @@ mutual
 pub room_first : (x : Next) (taken more : ℕ) → HasRoom x (taken + more) → HasRoom x taken
 room_first x taken more room = omega (arith, room)
 
--- behind a statement
-pub room_behind : (is_based : ℕ → Bool) (x : Next) (s : Statement) (more : ℕ) → HasRoom x (taken_in s + more)
-    → HasRoom (behind is_based x s) more
-room_behind is_based x s more room = omega (arith, room, few_in is_based s)
+-- after a statement
+pub room_after : (is_based : ℕ → Bool) (x : Next) (s : Statement) (more : ℕ) → HasRoom x (taken_in s + more)
+    → HasRoom (next_after is_based x s) more
+room_after is_based x s more room = omega (arith, room, few_in is_based s)
 
 -- inside a block
 pub room_inside : (x : Next) (taken : ℕ) → HasRoom x (4 + taken) → HasRoom (record { block = suc x.block; temporary = 0 }) taken
 room_inside x taken room = omega (arith, room)
 
 -- inside an ON-unit, whose list is its statement
-pub room_unit : (x : Next) (b : Body) (c : Condition) (s : Statement) → b ≡ tree.On c s → HasRoom x (taken_of b)
+pub room_on_unit : (x : Next) (b : Body) (c : Condition) (s : Statement) → b ≡ tree.On c s → HasRoom x (taken_of b)
     → HasRoom x (4 + taken_among (only s))
-room_unit x b c s is room = omega (arith, subst (λ b. HasRoom x (taken_of b)) is room)
+room_on_unit x b c s is room = omega (arith, subst (λ b. HasRoom x (taken_of b)) is room)
 
 -- for what controls a group
 pub room_header : (x : Next) (b : Body) (control : Option Control) (ss : Statements) (end : ℕ) → b ≡ tree.Do control ss end
     → HasRoom x (taken_of b) → HasRoom x 4
 room_header x b control ss end is room = room_first x 4 (taken_among ss) (subst (λ b. HasRoom x (taken_of b)) is room)
 
--- behind what controls a group
+-- after what controls a group
 pub room_controlled : (x : Next) (control : Option Control) (taken : ℕ) → HasRoom x (4 + taken)
     → HasRoom (record { block = x.block; temporary = x.temporary + kept_by control }) taken
 room_controlled x control taken room = omega (arith, room, few_kept control)
 
--- in the statements of an IF, behind its condition
+-- in the statements of an IF, after its condition
 pub room_if : (x mid : Next) (b : Body) (e : Expression) (s s' : Statement) (a : Alternative) → b ≡ tree.If e s a → mid ≡ x → s' ≡ s
     → HasRoom x (taken_of b) → HasRoom mid (taken_in s' + taken_else a)
 room_if x mid b e s s' a is same again room =
@@ -164,14 +164,14 @@ room_if x mid b e s s' a is same again room =
     (subst (λ t. HasRoom x (taken_in t + taken_else a)) (sym again) (subst (λ b. HasRoom x (taken_of b)) is room))
 
 -- in the other of them
-pub room_else : (is_based : ℕ → Bool) (x there : Next) (s : Statement) (a : Alternative) (o o' : Statement) → there ≡ behind is_based x s
+pub room_else : (is_based : ℕ → Bool) (x there : Next) (s : Statement) (a : Alternative) (o o' : Statement) → there ≡ next_after is_based x s
     → a ≡ tree.Else o → o' ≡ o
     → HasRoom x (taken_in s + taken_else a) → HasRoom there (taken_in o')
 room_else is_based x there s a o o' next is again room =
     subst (λ y. HasRoom y (taken_in o')) (sym next)
-    (subst (HasRoom (behind is_based x s)) (ap taken_else is ∙ sym (ap taken_in again)) (room_behind is_based x s (taken_else a) room))
+    (subst (HasRoom (next_after is_based x s)) (ap taken_else is ∙ sym (ap taken_in again)) (room_after is_based x s (taken_else a) room))
 
--- the statement at hand, and those behind it
+-- the current statement, and those after it
 pub room_next : (x : Next) (ss : List program.Statement) (i : ℕ) (s : program.Statement) → s ≡ get_or ss i s → i < length ss
     → HasRoom x (taken_among (source.statements_view (drop i ss)))
     → HasRoom x (taken_in (source.statement_view s) + taken_among (source.statements_view (drop (i + 1) ss)))

@@ -16,7 +16,7 @@ use Rattle.pli_type_templates.specs.declared.unit_templates.UnitTemplates.{UnitT
 use Rattle.pli_type_templates.specs.views.UnitView.{automatic_at, based_at}
 use Rattle.pli_type_tree.specs.TypedTree.{Global, TypedStatements}
 use Rattle.pli_type_parts.specs.Around.{outermost, surroundings_of}
-use Rattle.pli_type_parts.specs.Parts.{behind_list, unit_named}
+use Rattle.pli_type_parts.specs.Parts.{after_list, unit_named}
 use Rattle.pli_type_walk.specs.Walking.{IsDeep, IsPlaced, Walks, WalksList, around, based_names, next_at, unit_at}
 use Rattle.pli_type_walk.specs.declared.walk.TypingWalk.{TypingWalk}
 use Rattle.pli_type_parts.specs.views.AroundView.{around_view}
@@ -95,14 +95,14 @@ pub whole_walked : (u : Procedure) (old new : TypingWalk) (ss : List Statement) 
     → value ≡ (unit_named u).returned 0
     → next_at old ≡ first_inside → ss ≡ (out-Procedure u).statements.items
     → WalksList old new (around old) (statements_view ss) list
-    → Walks TypedStatements old new (behind_list (unit_named u).is_based first_inside (all_of u)) (typed_list u (all_of u)) list
+    → Walks TypedStatements old new (after_list (unit_named u).is_based first_inside (all_of u)) (typed_list u (all_of u)) list
 whole_walked u old new ss list value named is gives next same w =
     let ts = statements_view ss in
     let f = (unit_named u).is_based in
-    as_typed old new (behind_list (based_names old) (next_at old) ts) (behind_list f first_inside (all_of u))
+    as_typed old new (after_list (based_names old) (next_at old) ts) (after_list f first_inside (all_of u))
     (statements_typed (unit_at old) (around old) (next_at old) ts) (typed_list u (all_of u)) list list
-    (ap (λ (n : Names). behind_list (unit_named n.unit).is_based (next_at old) ts) named
-    ∙ ap (λ x. behind_list f x ts) next ∙ ap (λ xs. behind_list f first_inside (statements_view xs)) same)
+    (ap (λ (n : Names). after_list (unit_named n.unit).is_based (next_at old) ts) named
+    ∙ ap (λ x. after_list f x ts) next ∙ ap (λ xs. after_list f first_inside (statements_view xs)) same)
     (ap (λ (n : Names). statements_typed (unit_named n.unit) (around old) (next_at old) ts) named
     ∙ ap (λ a. statements_typed (unit_named u) (surroundings_of a) (next_at old) ts) is
     ∙ ap (λ v. statements_typed (unit_named u) (in_unit v ts) (next_at old) ts) gives

@@ -123,7 +123,7 @@ then_walked make old mid new next last r s t x y first second e = record {
       (subst (λ u. Adds u (finished mid) (finished new)) e second.procedures);
 }
 
--- what is typed, what stands behind it, and the part, as they are written otherwise
+-- what is typed, what stands after it, and the part, as they are written otherwise
 pub as_typed : {A : Type 0} (old new : TypingWalk) (after last : Next) (r s : Typed A) (x y : Option A)
     → after ≡ last → r ≡ s → y ≡ x → Walks A old new after r x → Walks A old new last s y
 as_typed old new after last r s x y a e p w = record {
@@ -191,15 +191,15 @@ both_if None (Some s) None = refl
 both_if None None (Some o) = refl
 both_if None None None = refl
 
-pub if_walked : (old mid there new : TypingWalk) (next behind last : Next) (t : Result TypedExpression Fault)
+pub if_walked : (old mid there new : TypingWalk) (next after last : Next) (t : Result TypedExpression Fault)
     (c c' : Typed TypedStatement) (a a' : Typed OtherWise)
     (x : Option TypedExpression) (s : Option TypedStatement) (o : Option OtherWise)
-    → Walks TypedExpression old mid next (of_own t) x → Walks TypedStatement mid there behind c s
+    → Walks TypedExpression old mid next (of_own t) x → Walks TypedStatement mid there after c s
     → Walks OtherWise there new last a o → c ≡ c' → a ≡ a'
     → Walks _ old new last (if_form t c' a') (if_of x s o)
-if_walked old mid there new next behind last t c c' a a' x s o first second third e f =
+if_walked old mid there new next after last t c c' a a' x s o first second third e f =
     as_typed old new last last _ _ _ _ refl refl (both_if x s o)
     (then_walked (λ (x : TypedExpression) (both : TypedStatement × OtherWise). If x both.0 both.1) old mid new next last (of_own t)
     (together (λ (s : TypedStatement) (o : OtherWise). (s, o)) c a') _ x _ first
-    (then_walked (λ (s : TypedStatement) (o : OtherWise). (s, o)) mid there new behind last c a a' s o second third f)
+    (then_walked (λ (s : TypedStatement) (o : OtherWise). (s, o)) mid there new after last c a a' s o second third f)
     (ap (λ c. together (λ (s : TypedStatement) (o : OtherWise). (s, o)) c a') e))

@@ -18,7 +18,7 @@ use Rattle.pli_type_tree.specs.declared.statement.BlockHead.{BlockHead}
 use Rattle.pli_type_tree.specs.views.TemplateView.{groups_view}
 use Rattle.pli_type_tree.specs.views.TypedView.{head_view, procedure_view}
 use Rattle.pli_type_parts.specs.Around.{Around, Listing, surroundings_of}
-use Rattle.pli_type_parts.specs.Parts.{unit_named, given, told, Adds, behind_body, behind_list}
+use Rattle.pli_type_parts.specs.Parts.{unit_named, given, told, Adds, after_body, after_list}
 use Rattle.pli_type_walk.specs.declared.walk.OpenBlock.{OpenBlock}
 use Rattle.pli_type_walk.specs.declared.walk.TypingWalk.{TypingWalk}
 use Rattle.pli_type_parts.specs.views.AroundView.{around_view, lists_view}
@@ -67,8 +67,8 @@ pub record IsBack (old new : TypingWalk) : Type 0 where
   pub globals : new.templates.globals ≡ old.templates.globals
   pub placed : IsPlaced new
 
--- it has walked over a part: that part, if it has no fault; its faults behind the others; and its procedures
--- behind the others
+-- it has walked over a part: that part, if it has no fault; its faults after the others; and its procedures
+-- after the others
 pub record Walks (A : Type 0) (old new : TypingWalk) (after : Next)
     (typed : Result (WithProcedures A) (List Fault)) (answer : Option A) : Type 0 where
   pub back : IsBack old new
@@ -80,13 +80,13 @@ pub record Walks (A : Type 0) (old new : TypingWalk) (after : Next)
 -- over what a statement says
 abbrev pub WalksBody : (old new : TypingWalk) → (number at : ℕ) → Body → Option Form → Type 0
 WalksBody old new number at b form =
-    Walks Form old new (behind_body (based_names old) (next_at old) b)
+    Walks Form old new (after_body (based_names old) (next_at old) b)
     (spec.body_typed (unit_at old) (around old) (next_at old) number at b) form
 
 -- over a list in other surroundings than those of the place
 abbrev pub WalksList : (old new : TypingWalk) → Surroundings → Statements → Option TypedStatements → Type 0
 WalksList old new s ss list =
-    Walks TypedStatements old new (behind_list (based_names old) (next_at old) ss)
+    Walks TypedStatements old new (after_list (based_names old) (next_at old) ss)
     (spec.statements_typed (unit_at old) s (next_at old) ss) list
 
 -- a list that the walk has gone into
@@ -160,8 +160,8 @@ ended_as w end head list = record {
 }
 
 -- an ON-unit of this list
-abbrev pub unit_ended : TypingWalk → BlockHead → TypedStatements → TypedProcedure
-unit_ended w head list = record {
+abbrev pub on_unit_ended : TypingWalk → BlockHead → TypedStatements → TypedProcedure
+on_unit_ended w head list = record {
   is_on_unit = true;
   head = head_view head;
   parent = Some (spec.block_at (around w));
@@ -170,7 +170,7 @@ unit_ended w head list = record {
   statements = list;
 }
 
--- what is made of a list is put behind the others and leaves a form, if the list has no fault
+-- what is made of a list is put after the others and leaves a form, if the list has no fault
 abbrev pub Ends : (left : Form) → (make : TypedStatements → TypedProcedure) → (old : List TypedProcedure)
     → Option TypedStatements → (new : List TypedProcedure) → Option Form → Type 0
 Ends left make old None new form = form ≡ None

@@ -2,7 +2,7 @@
 ghost use Rattle.std.specs.Prelude.{◌≡◌, None, false, option_map, IfOk};
 ghost use Rattle.pli_map.specs.views.DescriptionView.{description_view};
 ghost use Rattle.pli_type.specs.StatementTyping as spec;
-ghost use Rattle.pli_type_walk.specs.Walking.{Finishes, ended_as, unit_ended};
+ghost use Rattle.pli_type_walk.specs.Walking.{Finishes, ended_as, on_unit_ended};
 ghost use Rattle.pli_type_tree.specs.TypedTree as plain;
 ghost use Rattle.pli_type_tree.specs.views.TypedView.{form_view, statements_view};
 
@@ -23,7 +23,7 @@ fn end_of(returned: Option<&Description>, end: u32) -> Option<u32>
     }
 }
 
-/// Puts a procedure behind those that have ended, if its list has no fault; it leaves nothing where it stands. The
+/// Puts a procedure after those that have ended, if its list has no fault; it leaves nothing where it stands. The
 /// statement of the number `end` is its END.
 pub fn finish(
     walk: &mut TypingWalk<'_>,
@@ -52,15 +52,15 @@ pub fn finish(
     Ok(Some(Form::Null))
 }
 
-/// Puts an ON-unit for a condition behind the procedures that have ended, if its statement has no fault.
-pub fn finish_unit(
+/// Puts an ON-unit for a condition after the procedures that have ended, if its statement has no fault.
+pub fn finish_on_unit(
     walk: &mut TypingWalk<'_>,
     condition: Condition,
     head: BlockHead,
     list: Option<Vec<TypedStatement>>,
 ) -> Result<Option<Form>, AllocError>
     ensures { IfOk result (λ form. Finishes walk.old walk.new (plain.On condition head.number)
-        (unit_ended walk.old head)
+        (on_unit_ended walk.old head)
         (option_map (λ list. statements_view list.items) list) (option_map form_view form)) }
 {
     let Some(statements) = list else {

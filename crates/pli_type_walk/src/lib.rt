@@ -7,7 +7,7 @@ mod temporaries;
 mod unit;
 mod walk;
 
-pub use ending::{finish, finish_unit};
+pub use ending::{finish, finish_on_unit};
 pub use outer::outer_signature;
 pub use temporaries::kept_in;
 pub use unit::{in_unit, typed_unit};

@@ -13,7 +13,7 @@ unequal_then Equal p h = absurd (h refl)
 unequal_then Greater p h = refl
 
 module _ {A : Type 0} (extension : A) (order : A → A → Ordering) (s t : List A) where
-  -- the order of what stands behind a place
+  -- the order of what stands after a place
   abbrev pub order_from : ℕ → Ordering
   order_from k = first_unequal (drop k (by_place extension order s t))
 

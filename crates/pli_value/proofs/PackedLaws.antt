@@ -5,7 +5,7 @@ use Rattle.std.specs.List.{range_with_len}
 use Rattle.std.proofs.lemmas.Bool.{agree_below_at, eqb-true, cases_lt}
 use Rattle.std.proofs.lemmas.List.FromFn.{fill_by_all, get_or-map-range_with_len, length-map-range_with_len}
 use Rattle.pli_value.specs.Packing.{packed_bit, unpacked, IsPacked, byte_of, packed, worth}
-use Rattle.pli_value.proofs.PackingLaws.{bit_at_place, bit_behind, bits_counted}
+use Rattle.pli_value.proofs.PackingLaws.{bit_at_place, bit_after, bits_counted}
 
 -- a byte is that of its bits
 byte_is : (b : ℕ) → b < 256 → byte_of (λ i. nat_eq (bit_at b (7 - i)) 1) ≡ b
@@ -19,7 +19,7 @@ same_byte f g a b c d e h i j = rw (a, b, c, d, e, h, i, j)
 pub bit_is : (n : ℕ) (bytes : List ℕ) (place : ℕ) → IsPacked n bytes → get_or (unpacked n bytes) place false ≡ packed_bit bytes place
 bit_is n bytes place it = elim (cases_lt place n) [
   | inl below ↦ bit_at_place n bytes place below
-  | inr over ↦ sym (bit_behind n bytes place over) ∙ sym (it.blank place over)
+  | inr over ↦ sym (bit_after n bytes place over) ∙ sym (it.blank place over)
 ]
 
 pub bit_in_byte : (n : ℕ) (bytes : List ℕ) (k i : ℕ) → IsPacked n bytes → i < 8 → get_or (unpacked n bytes) (8 * k + i) false ≡ nat_eq (bit_at (slice_index bytes k) (7 - i)) 1

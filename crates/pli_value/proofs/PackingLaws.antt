@@ -7,7 +7,7 @@ use Rattle.std.proofs.lemmas.List.FromFn.{length-map-range_with_len, get_or-map-
 use Rattle.std.proofs.lemmas.Nat.Bits.{bit_at_set_same, bit_at_set_other}
 use Rattle.pli_value.specs.Packing.{packed_bit, unpacked, IsPacked}
 
--- a byte 0 behind the others
+-- a byte 0 after the others
 with_zero : (bytes : List ℕ) (i : ℕ) → get_or (bytes ++ 0 ∷ []) i 0 ≡ get_or bytes i 0
 with_zero [] zero = refl
 with_zero [] (suc i) = refl
@@ -50,8 +50,8 @@ one_more n bytes others bit same here =
 pub bit_at_place : (n : ℕ) (bytes : List ℕ) (place : ℕ) → place < n → get_or (unpacked n bytes) place false ≡ packed_bit bytes place
 bit_at_place n bytes place below = get_or-map-range_with_len (packed_bit bytes) 0 n place place false below (omega arith)
 
-pub bit_behind : (n : ℕ) (bytes : List ℕ) (place : ℕ) → n ≤ place → false ≡ get_or (unpacked n bytes) place false
-bit_behind n bytes place over = sym (get_or_past (unpacked n bytes) place false (omega (arith, length-map-range_with_len (packed_bit bytes) 0 n)))
+pub bit_after : (n : ℕ) (bytes : List ℕ) (place : ℕ) → n ≤ place → false ≡ get_or (unpacked n bytes) place false
+bit_after n bytes place over = sym (get_or_past (unpacked n bytes) place false (omega (arith, length-map-range_with_len (packed_bit bytes) 0 n)))
 
 pub bits_counted : (n : ℕ) (bytes : List ℕ) → length (unpacked n bytes) ≡ n
 bits_counted n bytes = length-map-range_with_len (packed_bit bytes) 0 n

@@ -7,7 +7,7 @@ use Rattle.std.proofs.lemmas.Bool.Decides.{Decides-eqb}
 use Rattle.std.proofs.lemmas.List.Prefix.{front_fits, front_reads}
 use Rattle.memchr.specs.Find.{OccursAt, FindsNeedle}
 use Rattle.memchr.proofs.lemmas.MatchLemmas.{OccursAt-split}
-use Rattle.pli_value.specs.Strings.{first_place, index_of, one_behind, IndexIsTheFirstPlace}
+use Rattle.pli_value.specs.Strings.{first_place, index_of, one_after, IndexIsTheFirstPlace}
 
 is_false : (b : Bool) → (b ≡ true → ⊥) → b ≡ false
 is_false true h = absurd (h refl)
@@ -26,8 +26,8 @@ begun : (hay needle : List ℕ) → OccursAt hay needle 0 → starts_with nat_eq
 begun hay needle occurs = (starts_is Decides-eqb hay needle _ refl).1 _ (OccursAt-split hay needle 0 occurs)
 
 -- a place in the rest of a string, and in the whole
-behind : (x : ℕ) (xs needle : List ℕ) (k : ℕ) → OccursAt xs needle k → OccursAt (x ∷ xs) needle (suc k)
-behind x xs needle k it = record { fits = omega (arith, it.fits); reads = λ j below. rw suc-add (it.reads j below) }
+after : (x : ℕ) (xs needle : List ℕ) (k : ℕ) → OccursAt xs needle k → OccursAt (x ∷ xs) needle (suc k)
+after x xs needle k it = record { fits = omega (arith, it.fits); reads = λ j below. rw suc-add (it.reads j below) }
 
 before : (x : ℕ) (xs needle : List ℕ) (k : ℕ) → OccursAt (x ∷ xs) needle (suc k) → OccursAt xs needle k
 before x xs needle k it = record { fits = omega (arith, it.fits); reads = λ j below. rw suc-add at (it.reads j below) }
@@ -35,9 +35,9 @@ before x xs needle k it = record { fits = omega (arith, it.fits); reads = λ j b
 nowhere : (needle hay : List ℕ) → ((k : ℕ) → OccursAt hay needle k → ⊥) → first_place needle hay ≡ 0
 nowhere needle [] never = refl
 nowhere needle (x ∷ xs) never =
-    let tail : first_place needle xs ≡ 0 = nowhere needle xs (λ k o. never (suc k) (behind x xs needle k o)) in
+    let tail : first_place needle xs ≡ 0 = nowhere needle xs (λ k o. never (suc k) (after x xs needle k o)) in
     let not_here : starts_with nat_eq (x ∷ xs) needle ≡ false = is_false _ (λ is. never 0 (begins (x ∷ xs) needle is)) in
-    rw not_here (ap one_behind tail)
+    rw not_here (ap one_after tail)
 
 somewhere : (needle hay : List ℕ) (k : ℕ) → 0 < length needle → OccursAt hay needle k → ((j : ℕ) → j < k → OccursAt hay needle j → ⊥)
     → first_place needle hay ≡ k + 1
@@ -46,8 +46,8 @@ somewhere needle (x ∷ xs) zero some it none = rw (begun (x ∷ xs) needle it) 
 somewhere needle (x ∷ xs) (suc k) some it none =
     let not_here : starts_with nat_eq (x ∷ xs) needle ≡ false = is_false _ (λ is. none 0 (omega arith) (begins (x ∷ xs) needle is)) in
     let tail : first_place needle xs ≡ suc k =
-    somewhere needle xs k some (before x xs needle k it) (λ j below o. none (suc j) (omega arith) (behind x xs needle j o)) ∙ add-one k in
-    rw not_here (ap one_behind tail ∙ sym (add-one (suc k)))
+    somewhere needle xs k some (before x xs needle k it) (λ j below o. none (suc j) (omega arith) (after x xs needle j o)) ∙ add-one k in
+    rw not_here (ap one_after tail ∙ sym (add-one (suc k)))
 
 -- what a search finds, counted from 1
 abbrev pub counted : Option ℕ → ℕ

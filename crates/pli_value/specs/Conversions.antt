@@ -2,7 +2,7 @@
 use Rattle.std.specs.Prelude.{ℕ, ◌-◌, Bool, ℤ, List, [], ◌∷◌, ◌++◌, length, map, replicate, if◌then◌else◌}
 use Rattle.std.specs.Fmt.{signed_decimal}
 
--- a number at the right of so many characters, behind blanks: its digits without leading zeros, behind a
+-- a number at the right of so many characters, after blanks: its digits without leading zeros, after a
 -- minus sign where it is negative
 abbrev pub number_characters : (width : ℕ) → ℤ → List ℕ
 number_characters width x = replicate (width - length (signed_decimal x)) 32 ++ signed_decimal x

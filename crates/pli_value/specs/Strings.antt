@@ -42,7 +42,7 @@ abbrev pub is_true : List Bool → Bool
 is_true [] = false
 is_true (b ∷ bits) = b || is_true bits
 
--- `||`: one string behind the other, where the result has no more than 32,767 elements
+-- `||`: one string after the other, where the result has no more than 32,767 elements
 abbrev pub concatenation : {A : Type 0} → List A → List A → Option (List A)
 concatenation s t = if nat_le (length s + length t) 32767 then Some (s ++ t) else None
 
@@ -62,7 +62,7 @@ rest_of elements (pos (suc before)) =
 rest_of elements (pos zero) = None
 rest_of elements (negsuc n) = None
 
--- so many elements of a string behind so many
+-- so many elements of a string after so many
 abbrev pub piece : {A : Type 0} → List A → (ℕ × ℕ) → List A
 piece s part = take part.1 (drop part.0 s)
 
@@ -78,16 +78,16 @@ substring_from s first = option_map (piece s) (rest_of (length s) first)
 abbrev pub fitted : {A : Type 0} → (extension : A) → (elements : ℕ) → List A → List A
 fitted extension elements s = take elements s ++ replicate (elements - length s) extension
 
--- the place behind one that was counted from the second element on; 0 stays 0
-abbrev pub one_behind : ℕ → ℕ
-one_behind zero = zero
-one_behind (suc k) = suc (suc k)
+-- the place after one that was counted from the second element on; 0 stays 0
+abbrev pub one_after : ℕ → ℕ
+one_after zero = zero
+one_after (suc k) = suc (suc k)
 
 -- the first place, counted from 1, from which on a string reads as another does; 0 where there is none
 abbrev pub first_place : (sought : List ℕ) → List ℕ → ℕ
 first_place sought [] = 0
 first_place sought (x ∷ xs) =
-    if starts_with nat_eq (x ∷ xs) sought then 1 else one_behind (first_place sought xs)
+    if starts_with nat_eq (x ∷ xs) sought then 1 else one_after (first_place sought xs)
 
 -- a string stands in another at a place, and at none before it
 abbrev pub StandsFirstAt : (s sought : List ℕ) → (place : ℕ) → Type 0

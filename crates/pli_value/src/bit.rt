@@ -19,7 +19,7 @@ use std::marker::Model;
 /// How many bits a string has at most that is searched in little room.
 const SHORT: usize = 256;
 
-/// A bit string of at most 32,767 bits: eight to a byte, the first bit highest, and nothing behind the last one (own).
+/// A bit string of at most 32,767 bits: eight to a byte, the first bit highest, and nothing after the last one (own).
 /// Contracts see the list of its bits.
 #[derive(Drop)]
 pub struct Bits {
@@ -60,7 +60,7 @@ impl Bits {
         self.count
     }
 
-    /// The bytes, of which each has eight bits, the first bit highest. Behind the last bit stands nothing.
+    /// The bytes, of which each has eight bits, the first bit highest. After the last bit stands nothing.
     pub fn bytes(&self) -> &[u8]
         ensures value { unpacked (length self.now) result.now ≡ self.now }
         ensures packed { IsPacked (length self.now) result.now }
@@ -68,7 +68,7 @@ impl Bits {
         self.bytes.as_slice()
     }
 
-    /// The bit at a place, counted from 0; 0 behind the end.
+    /// The bit at a place, counted from 0; 0 past the end.
     #[inline]
     pub fn at(&self, place: usize) -> bool
         ensures { result ≡ slice_index_or self.now place false }
@@ -260,7 +260,7 @@ fn join(alloc: Global, left: &Bits, right: &Bits) -> Result<Bits, AllocError>
     Ok(Bits::of_bytes(both, before + more))
 }
 
-/// `||` (X3.74): one string behind the other; none where the result has more than [`STRING_LIMIT`] bits.
+/// `||` (X3.74): one string after the other; none where the result has more than [`STRING_LIMIT`] bits.
 pub fn concat(alloc: Global, left: &Bits, right: &Bits) -> Result<Option<Bits>, AllocError>
     ensures { IfOk result (λ given. MatchOption given (concatenation left.now right.now ≡ None)
         (λ both. concatenation left.now right.now ≡ Some both)) }

@@ -31,7 +31,7 @@ pub fn compare(left: &[u8], right: &[u8]) -> Ordering
     Ordering::Equal
 }
 
-/// The character at a place, a blank behind the end.
+/// The character at a place, a blank past the end.
 #[inline]
 fn at(characters: &[u8], place: usize) -> u8
     ensures { result ≡ slice_index_or characters.now place 32 }
@@ -53,7 +53,7 @@ pub fn index(characters: &[u8], sought: &[u8]) -> usize
     }
 }
 
-/// `||` (X3.74): one string behind the other; none where the result has more than [`STRING_LIMIT`] characters.
+/// `||` (X3.74): one string after the other; none where the result has more than [`STRING_LIMIT`] characters.
 pub fn concat(alloc: Global, left: &[u8], right: &[u8]) -> Result<Option<Vec<u8>>, AllocError>
     ensures { IfOk result (λ given. MatchOption given (concatenation left.now right.now ≡ None)
         (λ both. concatenation left.now right.now ≡ Some both.items)) }

@@ -30,7 +30,7 @@ stacked number w =
     (λ s w. further (made_of s.variable.description Controlled s.variable.initial w)
     (λ p w. Yields tt (with_places number s (p ∷ s.places) w)))
 
--- the newest of these ends, and those behind it are left; it is an error to ask for that where there is none
+-- the newest of these ends, and those after it are left; it is an error to ask for that where there is none
 abbrev pub without_newest_of : (number : ℕ) → Stack → List Place → World → Answer Unit
 without_newest_of number s [] w = Raises NoGeneration w
 without_newest_of number s (p ∷ older) w =

@@ -35,7 +35,7 @@ pub record Generation : Type 0 where
   pub blocks : List Block
 
 -- where a reference leads: into a generation, there into the block of an area at a position (0 outside
--- areas), so many bytes behind its beginning, to a part of this description. The whole description is the one
+-- areas), so many bytes after its beginning, to a part of this description. The whole description is the one
 -- that the generation or the block had when the reference was evaluated
 pub record Place : Type 0 where
   pub generation : ℕ
@@ -136,6 +136,6 @@ live_bytes (g ∷ gs) = size_of g.description + live_bytes gs
 abbrev pub generation_limit : ℕ
 generation_limit = 4294967294
 
--- how many bytes behind the beginning a reference leads at most (own)
+-- how many bytes after the beginning a reference leads at most (own)
 abbrev pub offset_limit : ℕ
 offset_limit = 1000000

@@ -70,7 +70,7 @@ subscripted_in (Some d) x p w =
     then led_on (unsigned_abs (x -ℤ d.bounds.low) * d.multiplier) d.after p w
     else Raises SubscriptRange w
 
--- a subscript of the dimension of a number, counted from 1, of the array that a place is: behind the last one
+-- a subscript of the dimension of a number, counted from 1, of the array that a place is: after the last one
 -- the place is the element's
 unfoldable pub subscripted_by : (dimension : ℕ) → ℤ → Place → World → Answer Place
 subscripted_by k x p w = subscripted_in (dimension_at p.description k) x p w

@@ -187,7 +187,7 @@ copied source target w =
 abbrev pub generation_ended : (generation : ℕ) → World → World
 generation_ended generation w = record w { storage = without (generation ∷ []) w.storage }
 
--- a place is led on by so many bytes, to a part of this description; it is wrong where that is too far behind
+-- a place is led on by so many bytes, to a part of this description; it is wrong where that is too far from
 -- the beginning
 abbrev pub led_on : (offset : ℕ) → Description → Place → World → Answer Place
 led_on offset description p w =
@@ -315,7 +315,7 @@ dummy_of d v w =
     (λ p w. Yields p (in_newest (λ a. record a { pending = a.pending ++ p.generation ∷ [] }) w))
     else Wrong
 
--- variables that are made before the program begins
+-- static variables
 
 -- where the one of a number of a unit stands
 abbrev pub static_in : List Static → (unit number : ℕ) → Option Standing

@@ -37,7 +37,7 @@ abbrev pub TwoBlocksFit : Type 0
 TwoBlocksFit =
     (first_fit no_block 8 ≡ Some 8) × (first_fit one_block 8 ≡ Some 24) × (first_fit two_blocks 1 ≡ None)
 
--- the second alone: one block, whose end is the extent, behind a hole of 16 bytes, where one of 8 bytes
+-- the second alone: one block, whose end is the extent, after a hole of 16 bytes, where one of 8 bytes
 -- fits and none of 9
 abbrev pub SecondIsLeft : Type 0
 SecondIsLeft = (length second_block.blocks ≡ 1) × (extent second_block.blocks ≡ 32)

@@ -7,7 +7,7 @@ use Rattle.pli_value.specs.Value.{Value}
 use Rattle.pli_world.specs.Areas.{end_of_blocks, with_block}
 use Rattle.pli_world.specs.Storage.{Block, block_at, values_from, with_block_values, with_values_at}
 
--- a part of this description stands so many bytes behind the beginning of the block at a position
+-- a part of this description stands so many bytes after the beginning of the block at a position
 pub record PartStands (bs : List Block) (position offset : ℕ) (d : Description) : Type 0 where
   pub block : Block
   pub scalar : ℕ

@@ -38,10 +38,10 @@ fault_ended p =
     let none : p ≡ p + 0 = omega arith in
     inr (refl, ap (λ n. n - 1) none)
 
--- a fault behind what was passed over
-pub fault_behind : (least p q : ℕ) (ts us : Tokens) (f : Fault) → Passes least p ts q us → FaultStands q us f
+-- a fault after what was passed over
+pub fault_after : (least p q : ℕ) (ts us : Tokens) (f : Fault) → Passes least p ts q us → FaultStands q us f
     → FaultStands p ts f
-fault_behind least p q ts us f passed stands =
+fault_after least p q ts us f passed stands =
     ⊎_elim (λ here. inl (
       omega (arith, passed.0, here.0),
       omega (arith, passed.1, here.1),

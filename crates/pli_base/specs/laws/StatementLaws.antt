@@ -135,7 +135,7 @@ pub on_made : (condition : Condition) (unit : Box Statement Global) → body_vie
     ≡ tree.On condition (statement_view unit.value)
 on_made condition unit = refl
 
--- what stands behind ELSE, if it is there
+-- what stands after ELSE, if it is there
 abbrev pub boxed_view : Option (Box Statement Global) → tree.Alternative
 boxed_view None = tree.NoElse
 boxed_view (Some statement) = tree.Else (statement_view statement.value)

@@ -10,7 +10,7 @@ rises_within [] low least high most below above h = omega arith
 rises_within (t ∷ ts) low least high most below above h =
     (omega (arith, h.0), rises_within ts (t + 1) (t + 1) high most (omega arith) above h.1)
 
--- one list behind the other
+-- one list after the other
 pub rises_on : (ts us : List ℕ) (low middle next high : ℕ) → middle ≤ next → Rises low ts middle
     → Rises next us high → Rises low (ts ++ us) high
 rises_on [] us low middle next high between first second =

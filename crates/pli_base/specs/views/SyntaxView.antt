@@ -47,7 +47,7 @@ abbrev pub expressions_view : List Expression → Expressions
 expressions_view [] = Empty
 expressions_view (e ∷ es) = Listed (expression_view e) (expressions_view es)
 
--- what stands in parentheses behind a name, if they are there
+-- what stands in parentheses after a name, if they are there
 abbrev pub arguments_view : Option (Vec Expression Global) → Arguments
 arguments_view None = Absent
 arguments_view (Some list) = Given (expressions_view list.items)

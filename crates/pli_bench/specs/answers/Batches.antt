@@ -13,7 +13,7 @@ pub record HasPut (old new : Option (List ℕ)) (whole left : List ℕ) : Type 0
   pub written : Appends old new text
   pub whole_is : text ++ left ≡ whole
 
--- what is left waits; or the writer failed behind some first bytes
+-- what is left waits; or the writer failed after some first bytes
 abbrev pub Passes : {A E : Type 0} → (old new : Option (List ℕ)) → (whole left : List ℕ) → Result A E → Type 0
 Passes old new whole left (Ok x) = HasPut old new whole left
 Passes old new whole left (Err e) = AppendsPrefix old new whole

@@ -27,12 +27,12 @@ edit_answer (Ok x) = okay
 edit_answer (Err (Refused r)) = refused r
 edit_answer (Err OutOfMemory) = no_memory
 
--- the module that stands behind an edit: none, where the edit was made
+-- the module that stands after an edit: none, where the edit was made
 abbrev pub standing_after : {A E M : Type 0} → Result A E → Option M → Option M
 standing_after (Ok x) standing = None
 standing_after (Err e) standing = standing
 
--- what stands behind the output of a run
+-- what stands after the output of a run
 abbrev pub end_answer : (column : ℕ) → Ending → List ℕ
 end_answer column ending = (if nat_eq column 1 then [] else 10 ∷ []) ++ ending_line ending
 

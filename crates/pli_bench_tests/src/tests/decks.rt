@@ -73,7 +73,7 @@ fn deck_of(rt: &impl Abort, alloc: Global, unit: &Compiled) -> Vec<u8> {
     write_deck(alloc, deck).expect(rt, "memory")
 }
 
-/// A compiled unit as that of the member U10, or of one of the members behind it.
+/// A compiled unit as that of the member U10, or of one of the members after it.
 fn named<'a>(rt: &impl Abort, alloc: Global, place: usize, unit: &'a Compiled) -> NamedUnit<'a> {
     let name = format!(in alloc; "U{}", place.saturating_add(10)).expect(rt, "memory");
     NamedUnit {

@@ -14,11 +14,11 @@ pub enum Inexact {
     Whole,
     /// Cut at this length they are not refused as they are to be.
     Cut(usize),
-    /// With a byte behind them they are not refused as they are to be.
+    /// With a byte after them they are not refused as they are to be.
     Longer,
     /// Another byte in this place is neither spelled so nor refused.
     Changed(usize),
-    /// Random changes, behind so many others, are neither spelled so nor refused.
+    /// Random changes, after so many others, are neither spelled so nor refused.
     Random(u32),
 }
 
@@ -48,7 +48,7 @@ fn first_cut(alloc: Global, kind: Kind, bytes: &[u8]) -> Option<Inexact> {
     None
 }
 
-/// Whether bytes with one more behind them are refused for that.
+/// Whether bytes with one more after them are refused for that.
 fn is_refused_longer(alloc: Global, kind: Kind, bytes: &[u8]) -> Result<bool, AllocError> {
     let mut longer = bytes.to_vec(alloc)?;
     longer.push(0)?;

@@ -18,7 +18,7 @@ fn word(rt: &impl Abort, alloc: Global, text: &str) -> String {
     String::from_str(alloc, text).expect(rt, "memory")
 }
 
-/// Words of the command line, behind the program's name, which is an option here.
+/// Words of the command line, after the program's name, which is an option here.
 fn words_of(rt: &impl Abort, alloc: Global, words: &[&str]) -> Vec<String> {
     let mut given = Vec::new(alloc);
     given.push(word(rt, alloc, "--steps")).expect(rt, "memory");
@@ -28,7 +28,7 @@ fn words_of(rt: &impl Abort, alloc: Global, words: &[&str]) -> Vec<String> {
     given
 }
 
-/// What `go` answers for words behind the program's name and an input: its status, what it writes, and what it tells.
+/// What `go` answers for words after the program's name and an input: its status, what it writes, and what it tells.
 fn ran(rt: &impl Abort, alloc: Global, words: &[&str], input: &str) -> (u8, Vec<u8>, Vec<u8>) {
     let given = words_of(rt, alloc, words);
     let mut reader = Device::over(Cursor::new(input.as_bytes()));
@@ -66,7 +66,7 @@ static WRONG: [(&[&str], &str); 6] = [
     ),
 ];
 
-/// Whether `go` answers so for words behind the program's name.
+/// Whether `go` answers so for words after the program's name.
 fn runs_so(
     rt: &impl Abort,
     alloc: Global,
@@ -140,7 +140,7 @@ fn too_many_reads(rt: HostRuntime) {
     }
 }
 
-/// Whether want of memory and wrong words have their statuses, and nothing is told where that fails.
+/// Whether refused memory and wrong words have their statuses, and nothing is told where that fails.
 fn are_refused(alloc: Global) -> bool {
     let mut errors = Kept::new(alloc, 9);
     let usage = ArgumentsError::Usage(String::new(alloc));

@@ -1,4 +1,4 @@
--- What is kept where values are laid down one behind the other.
+-- What is kept where values are laid down one after the other.
 use Rattle.std.specs.Prelude.{◌≡◌, ℕ, ◌+◌, ◌==◌, Bool, true, false, ◌&&◌, List, ◌++◌, map, length}
 use Rattle.std.specs.Prelude.{take, drop}
 use Rattle.pli_map.specs.Description.{Description, FixedBinary, Character, Varying, Bit, Pointer, Offset}
@@ -16,11 +16,11 @@ pub record Taken (ds : List Description) (vs rest : List Value) : Type 0 where
   pub is : vs ≡ used ++ rest
   pub held : are_held ds used ≡ true
 
--- whatever scalars stand behind these, the values are not theirs
+-- whatever scalars stand after these, the values are not theirs
 abbrev pub NoneTaken : (ds : List Description) (vs : List Value) → Type 0
 NoneTaken ds vs = (es : List Description) → are_held (ds ++ es) vs ≡ false
 
--- these places, which lie between two bytes, hold these values now, and no byte before or behind them has
+-- these places, which lie between two bytes, hold these values now, and no byte before or after them has
 -- changed
 pub record Laid (low : ℕ) (ss : List PlacedPart) (high : ℕ) (vs : List Value) (old new : List ℕ)
     : Type 0 where
@@ -29,7 +29,7 @@ pub record Laid (low : ℕ) (ss : List PlacedPart) (high : ℕ) (vs : List Value
   pub back : drop high new ≡ drop high old
   pub size : length new ≡ length old
 
--- the same of the scalars of a description that stands behind so many bytes
+-- the same of the scalars of a description that stands after so many bytes
 abbrev pub LaidAt : (at : ℕ) (d : Description) (vs : List Value) (old new : List ℕ) → Type 0
 LaidAt at d vs old new = Laid at (map (moved at) (scalars_at d)) (at + size_of d) vs old new
 

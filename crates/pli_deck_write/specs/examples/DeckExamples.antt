@@ -280,8 +280,8 @@ WrittenSo =
     × (deck_bytes narrow ≡ narrow_bytes) × (deck_bytes wide ≡ wide_bytes)
     × (deck_bytes starred ≡ starred_bytes)
 
--- how they are read, and what is wrong where a byte is missing, one stands behind, the version is another, or
--- a precision or a type is none of its version
+-- how they are read, and what is wrong where a byte is missing, one stands after the end, the version is
+-- another, or a precision or a type is none of its version
 abbrev pub ReadSo : Type 0
 ReadSo =
     (deck_read smallest_bytes ≡ Ok smallest) × (deck_read calling_bytes ≡ Ok calling)

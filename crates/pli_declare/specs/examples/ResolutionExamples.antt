@@ -60,7 +60,7 @@ region kind outer = record { kind = kind; outer = Some outer }
 abbrev pub in_region : ℕ → Mark → PlacedMark
 in_region r m = record { region = r; mark = m }
 
--- the procedure M, with these regions inside it and these marks behind its heading
+-- the procedure M, with these regions inside it and these marks after its heading
 abbrev pub unit : List Region → List PlacedMark → Outline
 unit regions marks =
     record {
@@ -131,9 +131,10 @@ Groups =
 -- `DO; L: ; ON AREA GOTO L; END;` and `L: ON AREA GOTO L;`
 abbrev pub Units : Type 0
 Units =
-    Answers (unit (region kinds.Group 0 ∷ region kinds.Unit 1 ∷ []) (in_region 1 (Labelled (at (codes "L") 6))
+    Answers (unit (region kinds.Group 0 ∷ region kinds.OnUnit 1 ∷ [])
+    (in_region 1 (Labelled (at (codes "L") 6))
     ∷ in_region 2 (Jumped (at (codes "L") 12)) ∷ [])) (fault BadGoto 12 ∷ [])
-    × Answers (unit (region kinds.Unit 0 ∷ []) (in_region 0 (Labelled (at (codes "L") 4))
+    × Answers (unit (region kinds.OnUnit 0 ∷ []) (in_region 0 (Labelled (at (codes "L") 4))
     ∷ in_region 1 (Jumped (at (codes "L") 9)) ∷ [])) []
 
 -- `DCL X BIT; BEGIN; X = Y; DCL X PTR, Y BIT; END; Y = X;`: a declaration holds in its whole block and in no

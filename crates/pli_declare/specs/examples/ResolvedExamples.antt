@@ -99,7 +99,7 @@ hiding = unit (region kinds.Begin 0 ∷ [])
     ∷ in_region 1 (Used (at (codes "X") 18 ∷ [])) ∷ in_region 1 (Used (at (codes "Y") 20 ∷ []))
     ∷ in_region 0 (Used (at (codes "X") 24 ∷ [])) ∷ in_region 0 (Used (at (codes "Y") 26 ∷ [])) ∷ [])
 
--- within the block Y is its own; behind its end Y is the outer one again
+-- within the block Y is its own; after its end Y is the outer one again
 abbrev pub Hiding : Type 0
 Hiding =
     Answers hiding []

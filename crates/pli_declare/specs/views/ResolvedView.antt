@@ -9,7 +9,7 @@ use Rattle.pli_base.specs.declared.failure.Failure.{Failure}
 use Rattle.pli_base.specs.declared.failure.Failure.TheVariants as failures
 use Rattle.pli_base.specs.declared.token.Fault.{Fault}
 
--- the resolved unit of this tree, where there are no faults; or all of them; want of memory is possible
+-- the resolved unit of this tree, where there are no faults; or all of them; memory may be refused
 -- anywhere
 abbrev pub IsResolved : Result Procedure (Failure (Vec Fault)) → ExternalProcedure → Type 0
 IsResolved (Ok resolved) u = (resolution_faults u ≡ []) × (unit_view resolved ≡ u)

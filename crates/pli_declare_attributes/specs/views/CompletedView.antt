@@ -34,7 +34,7 @@ completed_view (variants.Entry parameters result) =
     complete.OfEntry (map type_view parameters.items) (option_map description_view result)
 completed_view variants.BuiltIn = complete.OfBuiltIn
 
--- the completed item, or its least fault; want of memory is possible anywhere
+-- the completed item, or its least fault; memory may be refused anywhere
 abbrev pub IsCompleted : Result Completed (Failure Code) → ItemPlace → tree.Item → Type 0
 IsCompleted (Ok completed) p i =
     (item_fault p i ≡ None) × (completed_view completed ≡ complete.completed_of p i)

@@ -7,15 +7,15 @@ use Rattle.pli_declare_constructs.specs.Regions.{kind_at}
 use Rattle.pli_declare_constructs.specs.Reach.{is_group}
 
 -- whether an ON-unit of the block was left, when this region is left too
-abbrev pub left_unit : Bool → RegionKind → Bool
-left_unit left kinds.Procedure = false
-left_unit left kinds.Begin = false
-left_unit left kinds.Group = left
-left_unit left kinds.Unit = true
+abbrev pub left_on_unit : Bool → RegionKind → Bool
+left_on_unit left kinds.Procedure = false
+left_on_unit left kinds.Begin = false
+left_on_unit left kinds.Group = left
+left_on_unit left kinds.OnUnit = true
 
 -- outwards through these regions to the one that has the label
 abbrev pub reaches_through : List Region → (left : Bool) → List ℕ → (label : ℕ) → Bool
 reaches_through regions left [] label = false
 reaches_through regions left (r ∷ rs) label =
     if r == label then not (left && is_group (kind_at regions r))
-    else reaches_through regions (left_unit left (kind_at regions r)) rs label
+    else reaches_through regions (left_on_unit left (kind_at regions r)) rs label

@@ -47,7 +47,7 @@ abbrev pub AreKnown : List (List Judged) → Outline → Type 0
 AreKnown known o =
     known ≡ map (λ b. all_judged (entries_in o b) (parameters_of o b)) (numbers_from 0 (length o.regions + 1))
 
--- each mark behind the first stands in a block: the blocks round its region are those round that
+-- each mark after the first stands in a block: the blocks round its region are those round that
 abbrev pub AreInBlocks : Outline → Type 0
 AreInBlocks o = (p : PlacedMark) → Contains (inner_marks o.marks) p
     → blocks_round o.regions (block_of o.regions p.region) ≡ blocks_round o.regions p.region

@@ -69,7 +69,7 @@ Regions =
     ≡ record {
       regions =
           region kinds.Procedure None ∷ region kinds.Procedure (Some 0) ∷ region kinds.Group (Some 1)
-          ∷ region kinds.Unit (Some 0) ∷ [];
+          ∷ region kinds.OnUnit (Some 0) ∷ [];
       marks =
           marked 0 (Entered (heading (codes "M") 0 1) 0) ∷ marked 0 (Entered (heading (codes "F") 4 2) 1)
           ∷ marked 3 (Jumped (at (codes "F") 17)) ∷ [];

@@ -34,7 +34,7 @@ pub record IsStillOpen (lasts : List (Option ℕ)) (tops : List ℕ) (above n : 
   pub last : last_of lasts (get_or tops n 0) ≡ None
 
 -- where items stand in order, all that is within an item of a name reaches no further than the outermost that
--- each later item of that name is within, and all behind an item up to its last number is within it
+-- each later item of that name is within, and all after an item up to its last number is within it
 pub record AreReaching (items : BlockItems) (lasts : List (Option ℕ)) (tops : List ℕ) (is_ordered : Bool) :
     Type 0 where
   pub reach : is_ordered ≡ true → (above below n : ℕ) → below < length items
@@ -73,7 +73,7 @@ pub record AreClosed (items : BlockItems) (before : List (Option ℕ)) (owner : 
   pub within : is_ordered ≡ true
       → IfSome owner (λ o. (last : ℕ) → suc last ≡ length items → IsWithin items o last)
 
--- no item up to a number, but behind the bound, has the names before the last of a reference above it
+-- no item up to a number, but past the bound, has the names before the last of a reference above it
 abbrev pub IsReach : BlockItems → List Name → ℕ → Option ℕ → Type 0
 IsReach items names number bound =
     (n : ℕ) → n < length items → n ≤ number → (item_at items n).counts ≡ true

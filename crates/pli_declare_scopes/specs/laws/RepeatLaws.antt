@@ -13,7 +13,7 @@ written_at items n = get_or items n (record { name = []; owner = None })
 abbrev pub verdict_at : List Written → ℕ → Verdict
 verdict_at items n = get_or (verdicts_of items) n Beneath
 
--- each item stands behind its owner
+-- each item stands after its owner
 abbrev pub OwnersFirst : List Written → Type 0
 OwnersFirst items = (n : ℕ) → n < length items → IfSome (written_at items n).owner (λ o. o < n)
 

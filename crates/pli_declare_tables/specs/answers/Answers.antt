@@ -9,17 +9,17 @@ use Rattle.pli_declare_tables.specs.Tables.{Entry, written, unit_entries, unit_b
 use Rattle.pli_declare_tables.specs.views.TableView.{entries_view, table_view}
 use Rattle.pli_declare_tables.specs.declared.table.Tables.{Tables}
 
--- each name stands behind the item that it is a member of
-abbrev pub AreBehindOwners : List Entry → Type 0
-AreBehindOwners entries = OwnersFirst (map written entries)
+-- each name stands after the item that it is a member of
+abbrev pub AreAfterOwners : List Entry → Type 0
+AreAfterOwners entries = OwnersFirst (map written entries)
 
 -- so does each name of each of some blocks
-abbrev pub AllBehindOwners : List (List Entry) → Type 0
-AllBehindOwners blocks = (n : ℕ) → n < length blocks → AreBehindOwners (get_or blocks n [])
+abbrev pub AllAfterOwners : List (List Entry) → Type 0
+AllAfterOwners blocks = (n : ℕ) → n < length blocks → AreAfterOwners (get_or blocks n [])
 
--- each item of a DECLARE stands behind the one that it is a member of
-abbrev pub StandBehindOwners : List ItemStanding → Type 0
-StandBehindOwners stands =
+-- each item of a DECLARE stands after the one that it is a member of
+abbrev pub StandAfterOwners : List ItemStanding → Type 0
+StandAfterOwners stands =
     (n : ℕ) → n < length stands → IfSome (get_or stands n (standing 1 None)).owner (λ o. o < n)
 
 -- the tables of an outline

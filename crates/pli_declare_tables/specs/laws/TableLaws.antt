@@ -2,8 +2,8 @@
 use Rattle.std.specs.Prelude.{ℕ}
 use Rattle.pli_declare_outline.specs.Outlines.{Outline}
 use Rattle.pli_declare_tables.specs.Tables.{entries_in}
-use Rattle.pli_declare_tables.specs.answers.Answers.{AreBehindOwners}
+use Rattle.pli_declare_tables.specs.answers.Answers.{AreAfterOwners}
 
--- in each block each name stands behind the item that it is a member of
+-- in each block each name stands after the item that it is a member of
 abbrev pub OwnersStandBefore : Type 0
-OwnersStandBefore = (o : Outline) (block : ℕ) → AreBehindOwners (entries_in o block)
+OwnersStandBefore = (o : Outline) (block : ℕ) → AreAfterOwners (entries_in o block)

@@ -2,7 +2,7 @@
 use Rattle.std.specs.Prelude.{◌≡◌, ℕ, ◌<◌, max, Option, Some, None, List, length, get_or}
 use Rattle.pli_map.specs.Description.{Description, Members}
 use Rattle.pli_map.specs.Layouts.{IsLayout}
-use Rattle.pli_map.specs.Sizes.{size_of, alignment_of, end_behind, greatest_alignment}
+use Rattle.pli_map.specs.Sizes.{size_of, alignment_of, end_after, greatest_alignment}
 use Rattle.pli_map.specs.declared.layout.Layout.{Layout}
 use Rattle.pli_declare_variables.specs.declared.sizes.Measured.{Measured}
 use Rattle.pli_declare_variables.specs.declared.sizes.Measured.TheVariants.{Unknown, TooLarge, Takes}
@@ -27,15 +27,15 @@ AreMeasured describe measured numbers =
     (i : ℕ) → i < length numbers
     → IsMeasured (get_or measured (get_or numbers i 0) Unknown) (describe (get_or numbers i 0))
 
--- what is known of the first members of a structure, where these others stand behind them, and all together
+-- what is known of the first members of a structure, where these others stand after them, and all together
 -- make this whole
 abbrev pub IsFront : Measured → (others whole : Option Members) → Type 0
 IsFront Unknown others whole = whole ≡ None
 IsFront TooLarge None whole = whole ≡ None
 IsFront TooLarge (Some others) None = ⊥
-IsFront TooLarge (Some others) (Some whole) = 1000000 < end_behind 0 whole
+IsFront TooLarge (Some others) (Some whole) = 1000000 < end_after 0 whole
 IsFront (Takes l) None whole = whole ≡ None
 IsFront (Takes l) (Some others) None = ⊥
 IsFront (Takes l) (Some others) (Some whole) =
-    (end_behind l.bytes others ≡ end_behind 0 whole)
+    (end_after l.bytes others ≡ end_after 0 whole)
     × (max l.alignment (greatest_alignment others) ≡ greatest_alignment whole)

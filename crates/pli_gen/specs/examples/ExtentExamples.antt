@@ -39,7 +39,7 @@ ExtentsUsed =
     ∷ op.SubscriptIn 2 ∷ op.Local 0 0 ∷ op.BoundOf High 2 ∷ op.Store
     ∷ op.Step 3 ∷ op.Local 0 2 ∷ op.Constant (Characters (codes "A")) ∷ op.FitToPlace ∷ op.Store ∷ []
 
--- statement 2: `DO P = 5 REPEAT 'B';`: each value is fitted to the place, behind its conversion
+-- statement 2: `DO P = 5 REPEAT 'B';`: each value is fitted to the place, after its conversion
 abbrev pub ControlFitted : Type 0
 ControlFitted =
     statement_code

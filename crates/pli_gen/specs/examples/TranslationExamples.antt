@@ -130,7 +130,7 @@ head n s = record { number = n; statement = s; variables = []; temporaries = 0 }
 abbrev call_of_f : TypedExpression
 call_of_f = Called (OfBlock 2) NoArgument
 
--- M: PROC OPTIONS(MAIN); BEGIN; GOTO L; END; and behind F, L: IF F() THEN ; ELSE STOP; DO WHILE(F()); ; END;
+-- M: PROC OPTIONS(MAIN); BEGIN; GOTO L; END; and after F, L: IF F() THEN ; ELSE STOP; DO WHILE(F()); ; END;
 -- END M; its BEGIN is block 1
 abbrev external : TypedProcedure
 external = record {
@@ -457,7 +457,7 @@ pointing_unit = record {
   procedures = pointing ∷ [];
 }
 
--- a new pointer is kept till its target's place is there; what a BASED variable is made from comes behind the
+-- a new pointer is kept till its target's place is there; what a BASED variable is made from comes after the
 -- variables of blocks
 abbrev pub PointersFollowed : Type 0
 PointersFollowed =
@@ -514,7 +514,7 @@ holding_unit = record {
   procedures = holding ∷ [];
 }
 
--- a block of an area leads to where its item begins; what it is made from comes behind the variables of
+-- a block of an area leads to where its item begins; what it is made from comes after the variables of
 -- blocks; a locator becomes one of the other kind by the place of an area
 abbrev pub AreasUsed : Type 0
 AreasUsed =

@@ -1,4 +1,4 @@
--- What holds of two lists, one behind the other, holds of each.
+-- What holds of two lists, one after the other, holds of each.
 use Rattle.std.specs.Prelude.{List, [], ◌∷◌, ◌++◌}
 use Rattle.std.specs.List.{AllByRecursion}
 

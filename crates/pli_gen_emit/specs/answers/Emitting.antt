@@ -121,7 +121,7 @@ abbrev pub Lands : (old new : Emitter) → (jump : ℕ) → Instruction → Type
 Lands old new p x =
     (new.tables.lacks_memory ≡ old.tables.lacks_memory) × (emission new ≡ landed p x (emission old))
 
--- a jump behind a test, if there is one, leads to a target
+-- a jump after a test, if there is one, leads to a target
 abbrev pub guard_landed : (jump : Option ℕ) → (target : ℕ) → Emission → Emission
 guard_landed None target e = e
 guard_landed (Some p) target e = landed p (coded.JumpUnless (min target 65535)) e

@@ -5,7 +5,7 @@ use Rattle.pli_program.specs.Program as op
 use Rattle.pli_type_tree.specs.TypedTree.{Form, Assign, AssignAggregate, AssignArea, EmptyArea, Put, Begin}
 use Rattle.pli_type_tree.specs.TypedTree.{Call, Goto, Return, ReturnValue, Stop, On, Revert, Signal, Allocate}
 use Rattle.pli_type_tree.specs.TypedTree.{AssignString, Free, Iteration}
-use Rattle.pli_gen_emit.specs.TreeTranslation.{BlockTree, behind, block_code, place_code, value_code}
+use Rattle.pli_gen_emit.specs.TreeTranslation.{BlockTree, place_after, block_code, place_code, value_code}
 use Rattle.pli_gen_emit.specs.TreeTranslation.{skip_code, items_code, call_code}
 use Rattle.pli_gen_emit.specs.TreeTranslation.{allocations_code, freeings_code}
 use Rattle.pli_gen_emit.specs.TreeTranslation.{limit_test, while_test, guarded}
@@ -34,17 +34,17 @@ simple_code (Allocate items) p = allocations_code items p
 simple_code (Free items) p = freeings_code items
 simple_code form p = []
 
--- where the jump behind a test stands, if there is a test
+-- where the jump after a test stands, if there is a test
 abbrev pub jump_place : (test : Option (List Instruction)) → (at : ℕ) → Option ℕ
 jump_place None p = None
-jump_place (Some test) p = Some (behind test p)
+jump_place (Some test) p = Some (place_after test p)
 
 -- where the tests of an iteration stand, and the jumps out of it
 pub record IsTurn (i : Iteration) (p : ℕ) (turn : Turn) : Type 0 where
   pub place : turn.place ≡ p
   pub limit : turn.limit ≡ jump_place (limit_test i) p
   pub condition : turn.condition
-      ≡ jump_place (while_test i.condition) (behind (guarded (limit_test i) 0) p)
+      ≡ jump_place (while_test i.condition) (place_after (guarded (limit_test i) 0) p)
 
 -- both jumps lead to a target
 abbrev pub LandsTurn : (old new : Emitter) → Turn → (target : ℕ) → Type 0
@@ -58,7 +58,7 @@ NotesEntry old new before after =
     (new.tables.lacks_memory ≡ false → old.tables.lacks_memory ≡ false) × (emission new ≡ emission old)
     × (new.tables.lacks_memory ≡ false → after ≡ before ++ length old.code.items ∷ [])
 
--- the first instructions of blocks whose code stands one behind the other
+-- the first instructions of blocks whose code stands one after the other
 abbrev pub entries_of : List BlockTree → (at : ℕ) → List ℕ
 entries_of [] p = []
-entries_of (b ∷ bs) p = p ∷ entries_of bs (behind (block_code b p) p)
+entries_of (b ∷ bs) p = p ∷ entries_of bs (place_after (block_code b p) p)

@@ -7,7 +7,7 @@ use Rattle.pli_include.specs.declared.reading.Pause.TheVariants as at
 use Rattle.pli_include.specs.Pieces.{pieces_of}
 use Rattle.pli_include.specs.Expansion.{Progress, Outcome, Include, read_pieces, ◌then◌}
 
--- the tokens end, or a fault ends the expansion, or a member is included and then the tokens behind the
+-- the tokens end, or a fault ends the expansion, or a member is included and then the tokens after the
 -- directive are read
 abbrev pub resumed : ℕ → Include → Name → List Token → Pause → Progress → Outcome
 resumed limit include m tokens at.End s = Ok s

@@ -15,7 +15,7 @@ use Rattle.pli_ledger.specs.Work.{after}
 abbrev pub NothingFits : Type 0
 NothingFits = (s : Store) → Fits empty_ledger.units s
 
--- what fits before a member is added fits behind it
+-- what fits before a member is added fits after it
 abbrev pub AdditionsKeepFits : Type 0
 AdditionsKeepFits =
     (units : Units) (s : Store) (name : Name) (kind : MemberKind) → Fits units s

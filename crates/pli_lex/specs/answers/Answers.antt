@@ -25,7 +25,7 @@ abbrev pub reads : Option ℕ → ℕ → List ℕ → Result (List Token) LexFa
 reads None number text = tokens_after 0 number text
 reads (Some began) number text = in_comment began number text (closing_width text)
 
--- Whatever lines come behind what is left of a line: the tokens before, and those that are read from there,
+-- Whatever lines come after what is left of a line: the tokens before, and those that are read from there,
 -- are the tokens after, and those that are read then.
 abbrev pub Passes : Result (Option ℕ × ℕ) (Failure LexFault) → List Token → List Token → Option ℕ → ℕ
     → List ℕ → Type 0

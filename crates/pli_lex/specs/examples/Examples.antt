@@ -100,7 +100,7 @@ abbrev pub UnendedStrings : Type 0
 UnendedStrings =
     HaveFault (codes "A" ∷ codes "'B" ∷ codes "C'" ∷ []) UnendedString 2 × Fails (codes "'A''") UnendedString
 
--- a name character or `.` directly behind a number
+-- a name character or `.` directly after a number
 abbrev pub BadNumbers : Type 0
 BadNumbers =
     Fails (codes "12B") BadNumber × Fails (codes "1A") BadNumber × Fails (codes "12.5") BadNumber
@@ -120,7 +120,7 @@ GreatestNumbers =
     (Decimal 9223372036854775807 19 ∷ Binary 9223372036854775807 63 ∷ [])
     × Fails (codes "9223372036854775808") BadNumber
 
--- digits that are too great, a width that is none, and a name character directly behind
+-- digits that are too great, a width that is none, and a name character directly after it
 abbrev pub BadBitConstants : Type 0
 BadBitConstants =
     Fails (codes "'12'B") BadBits × Fails (codes "'8'B3") BadBits × Fails (codes "'1'B5") BadBits

@@ -30,7 +30,7 @@ IsClass known (Some t) (Some k) = place_of t known ≡ Some k
 abbrev pub known_in : List TemplateKey → List Template
 known_in ts = map templated ts
 
--- others may have come behind those that were known
+-- others may have come after those that were known
 pub record Grows (old new : List TemplateKey) : Type 0 where
   pub more : List TemplateKey
   pub is : new ≡ old ++ more

@@ -57,7 +57,7 @@ DeadBeforeOther =
     error_of (with_allocated (λ l w. further (based_freed number l w) (λ _ w. based (FixedBinary 14) l w)))
     ≡ Some DeadLocator
 
--- nothing lives behind the beginning of a generation that is no area
+-- nothing lives after the beginning of a generation that is no area
 abbrev pub InsideIsDead : Type 0
 InsideIsDead = error_of (with_allocated (λ l w. based number (Pointer 0 8) w)) ≡ Some DeadLocator
 

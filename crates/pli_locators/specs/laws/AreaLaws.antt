@@ -62,20 +62,20 @@ LeastIsTaken =
 abbrev pub BeginsApart : Type 0
 BeginsApart = (capacity : ℕ) → capacity % 8 ≡ 0 → capacity < 2 ^ 32 → IsArea (room_in capacity [])
 
--- so it stays behind ALLOCATE
+-- so it stays after ALLOCATE
 abbrev pub AllocatedApart : Type 0
 AllocatedApart =
     (capacity : ℕ) (bs : List Block) (d : Description) (vs : List Value) (position : ℕ)
     → IsArea (room_in capacity bs) → place_in capacity bs (size_of d) ≡ Some position
     → IsArea (room_in capacity (with_block bs (record { position = position; description = d; values = vs })))
 
--- behind FREE
+-- after FREE
 abbrev pub FreedApart : Type 0
 FreedApart =
     (capacity : ℕ) (bs : List Block) (position : ℕ) → IsArea (room_in capacity bs)
     → IsArea (room_in capacity (without_block bs position))
 
--- and behind an assignment
+-- and after an assignment
 abbrev pub AssignedApart : Type 0
 AssignedApart =
     (source target : ℕ) (bs cs : List Block) → IsArea (room_in source bs) → IsArea (room_in target cs)
@@ -117,7 +117,7 @@ abbrev pub BlocksAre : (generation : ℕ) → List Block → World → Type 0
 BlocksAre generation bs w =
     (g : Generation) → generation_in w.storage generation ≡ Some g → g.blocks ≡ bs
 
--- behind an assignment the same blocks stand at the same positions of both areas, so an offset leads to the
+-- after an assignment the same blocks stand at the same positions of both areas, so an offset leads to the
 -- same in each
 abbrev pub OffsetsKeepTheirMeaning : Type 0
 OffsetsKeepTheirMeaning =

@@ -53,17 +53,17 @@ FreedIsDead =
     → IfYields (based_freed d (Pointer number 0) w)
     (λ _ u. based e (Pointer number 0) u ≡ Raises DeadLocator u)
 
--- what has ended stays so behind ALLOCATE of a BASED variable
-abbrev pub EndedBehindAllocating : Type 0
-EndedBehindAllocating = (v : Variable) → StaysEnded (based_allocated v)
+-- what has ended stays so after ALLOCATE of a BASED variable
+abbrev pub EndedAfterAllocating : Type 0
+EndedAfterAllocating = (v : Variable) → StaysEnded (based_allocated v)
 
--- behind FREE of one
-abbrev pub EndedBehindFreeing : Type 0
-EndedBehindFreeing = (d : Description) (l : Locator) → StaysEnded (based_freed d l)
+-- after FREE of one
+abbrev pub EndedAfterFreeing : Type 0
+EndedAfterFreeing = (d : Description) (l : Locator) → StaysEnded (based_freed d l)
 
 -- ---- what lives beside
 
--- what lives stays as it is behind ALLOCATE of a BASED variable
+-- what lives stays as it is after ALLOCATE of a BASED variable
 abbrev pub BesideAllocated : Type 0
 BesideAllocated = (v : Variable) → LivingStays (based_allocated v)
 

@@ -103,10 +103,10 @@ as_global (Ok (Some s)) = Ok (Some (global_of s))
 as_global (Ok None) = Ok None
 as_global (Err fault) = Err fault
 
--- the number of the next global behind this one
-abbrev pub number_behind : (number : ℕ) → Option LinkedGlobal → ℕ
-number_behind number None = number
-number_behind number (Some g) = suc number
+-- the number of the next global after this one
+abbrev pub number_after : (number : ℕ) → Option LinkedGlobal → ℕ
+number_after number None = number
+number_after number (Some g) = suc number
 
 -- the next of these globals of a unit is linked; those that are left, and which external variables are made
 -- then
@@ -116,7 +116,7 @@ pub record NextLinked (unit number : ℕ) (statics : List Static) (externals : L
   pub made :
       statics_made nat_eq unit number (map global_variable globals) externals
       (world_at old statics)
-      ≡ statics_made nat_eq unit (number_behind number g) (map global_variable left) after
+      ≡ statics_made nat_eq unit (number_after number g) (map global_variable left) after
       (world_at new (statics ++ statics_from unit number (there g)))
   pub same : map entry_in globals ≡ map entry_of (there g) ++ map entry_in left
   pub known : AreKnown new after

@@ -290,7 +290,7 @@ with_variable v instructions = record {
 }
 
 -- a variable counts from 1 to 3, on a line for each number; as the test fails the fourth time it goes on
--- behind the loop
+-- after the loop
 abbrev pub counting : Program
 counting =
     with_variable (record { description = FixedBinary 15; initial = Number (pos 1) ∷ [] })

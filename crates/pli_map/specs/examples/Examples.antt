@@ -59,7 +59,7 @@ abbrev pub table : Description
 table =
     Array (record { low = pos 2; high = pos 3 } ∷ record { low = negsuc 0; high = pos 1 } ∷ []) (Character 4)
 
--- (2, -1) first, (2, 0) next, (3, -1) behind three, (3, 1) last; (3, 2) and one subscript alone lead nowhere
+-- (2, -1) first, (2, 0) next, (3, -1) after three, (3, 1) last; (3, 2) and one subscript alone lead nowhere
 abbrev pub RowMajorOrder : Type 0
 RowMajorOrder = Takes table 24 1
     × (place_of table (Element (pos 2 ∷ negsuc 0 ∷ []) ∷ [])
@@ -77,7 +77,7 @@ RowMajorOrder = Takes table 24 1
 abbrev pub pairs : Description
 pairs = Array (up_to 3 ∷ []) (structure (FixedBinary 31 ∷ FixedBinary 15 ∷ []))
 
--- the last member of the last element, 2 * 8 + 4 bytes behind the beginning
+-- the last member of the last element, 2 * 8 + 4 bytes after the beginning
 abbrev pub StridesAreAligned : Type 0
 StridesAreAligned = Takes pairs 24 4
     × (place_of pairs (Element (pos 3 ∷ []) ∷ Member 1 ∷ [])

@@ -47,7 +47,7 @@ ArraysAgree =
     × (agrees (ArrayOf (from_to (pos 1) (pos 2) ∷ []) (AnyString forms.Character))
     (AnyArray 1 (AnyString forms.Character)) ≡ false)
 
--- an array is stated where its element is; and an open one has its element behind all its dimensions
+-- an array is stated where its element is; and an open one has its element after all its dimensions
 abbrev pub ElementsAreOpen : Type 0
 ElementsAreOpen =
     (array_of (from_to (pos 2) (pos 4) ∷ []) (Stated (FixedBinary 15)) ≡ Stated three_numbers)

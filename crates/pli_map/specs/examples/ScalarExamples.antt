@@ -18,7 +18,7 @@ abbrev pub pair : Description
 pair = structure (FixedBinary 31 ∷ FixedBinary 15 ∷ [])
 
 -- the fourth member; the last member of the third element; the second element; nothing between two members,
--- nothing of another description, nothing behind the end
+-- nothing of another description, nothing past the end
 abbrev pub FoundScalars : Type 0
 FoundScalars = (first_scalar mixed 8 (Character 3) ≡ Some 2)
     × (first_scalar pairs 20 (FixedBinary 15) ≡ Some 5)

@@ -37,7 +37,7 @@ ScalarsLieWithin =
     → first_scalar whole offset description ≡ Some k
     → (k + scalars_in description ≤ scalars_in whole) × (offset + size_of description ≤ size_of whole)
 
--- a part of a part is a part of the whole, at the sum of both distances, and behind as many scalars as both
+-- a part of a part is a part of the whole, at the sum of both distances, and after as many scalars as both
 abbrev pub PartsOfParts : Type 0
 PartsOfParts =
     (whole : Description) (offset : ℕ) (part : Description) (k inner : ℕ) (description : Description) (j : ℕ)

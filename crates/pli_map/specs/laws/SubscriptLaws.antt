@@ -5,7 +5,7 @@ use Rattle.pli_map.specs.Description.{Description}
 use Rattle.pli_map.specs.Parts.{PathStep, PlacedPart, place_of}
 use Rattle.pli_map.specs.Subscripts.{IsWithin, bytes_passed, first_path, subscripts_of, has_subscripts}
 
--- a part stands behind the first element by the sum of what its subscripts pass, is described as that is, and
+-- a part stands after the first element by the sum of what its subscripts pass, is described as that is, and
 -- its subscripts are within their bounds
 abbrev pub OffsetsAreSums : Type 0
 OffsetsAreSums =

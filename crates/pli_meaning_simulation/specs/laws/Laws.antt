@@ -18,7 +18,7 @@ abbrev pub NoFault : Type 0
 NoFault =
     (t : TypedProgram) (n : ℕ) (o : Outcome) → whole_run t n ≡ Some o → o.ending ≢ MachineFault
 
--- Growth: with a step more the output of a program goes on, and a run that did not stop for want of steps is
+-- Growth: with a step more the output of a program goes on, and a run that did not run out of steps is
 -- the same
 abbrev pub Growth : Type 0
 Growth =

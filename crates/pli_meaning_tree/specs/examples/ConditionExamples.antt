@@ -107,8 +107,8 @@ NamesAreOfOn =
 
 -- `DCL X FIXED BIN(3); ON FOFL PUT LIST('F'); X = 9223372036854775807 + 1 + 100; PUT LIST(X);`: the sum is 0,
 -- and 100 does not fit
-abbrev pub ZeroStandsBehind : Type 0
-ZeroStandsBehind =
+abbrev pub ZeroStandsAfter : Type 0
+ZeroStandsAfter =
     Prints
     (main_with (FixedBinary 3 ∷ [])
     (Statement 3 (On condition.FixedOverflow 1)
@@ -165,7 +165,7 @@ NewestUnit =
     10 (codes "ZD                                   0 ") Ended 40
 
 -- `DCL I FIXED BIN(3), N FIXED BIN(31); DO I = 1 TO 7; N = N + 1; END; OUT: PUT LIST(N, I);`: 8 does not fit;
--- and with `ON FOFL GOTO OUT;` behind the DECLARE
+-- and with `ON FOFL GOTO OUT;` after the DECLARE
 abbrev pub CounterOverflows : Type 0
 CounterOverflows =
     fails 16 (Error error.FixedOverflow (codes "M") 3) × fails 15 OutOfSteps

@@ -20,10 +20,10 @@ abbrev pub prints_string : Form
 prints_string = Put false (held_in 0 0 ∷ [])
 
 -- a procedure calls one of one parameter, and then; that one does this
-abbrev pub calling : List Template → TypedArguments → (behind inside : List TypedStatement)
+abbrev pub calling : List Template → TypedArguments → (after inside : List TypedStatement)
     → List TypedProcedure
-calling variables arguments behind inside =
-    main_of variables (listed (Statement 2 (Call (OfBlock 1) arguments) ∷ behind))
+calling variables arguments after inside =
+    main_of variables (listed (Statement 2 (Call (OfBlock 1) arguments) ∷ after))
     ∷ inner_of 1 5 1 None [] (listed inside) ∷ []
 
 -- `CALL S('AB'); S: PROC(P); DCL P CHAR(*); PUT LIST(P);`: a dummy argument is as long as its string

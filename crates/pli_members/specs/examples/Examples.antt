@@ -8,7 +8,7 @@ use Rattle.pli_members.specs.declared.refusal.Refusal.TheVariants.{NoSuchLine, L
 abbrev three : List (List ℕ)
 three = codes "A" ∷ codes "B" ∷ codes "C" ∷ []
 
--- a line behind the first
+-- a line after the first
 abbrev pub LinePut : Type 0
 LinePut = changed_lines (Insert 1 (codes "X")) three ≡ codes "A" ∷ codes "X" ∷ codes "B" ∷ codes "C" ∷ []
 
@@ -30,7 +30,7 @@ NoLineZero =
     (refusal_of_lines (Replace 0 []) three ≡ Some NoSuchLine)
     × (refusal_of_lines (Remove 0 1) three ≡ Some NoSuchLine)
 
--- the last line may be removed, and none behind it; the first of the lines may not stand behind the last
+-- the last line may be removed, and none after it; the first of the lines may not stand after the last
 abbrev pub RemovalsInRange : Type 0
 RemovalsInRange =
     (refusal_of_lines (Remove 1 3) three ≡ None) × (refusal_of_lines (Remove 1 4) three ≡ Some NoSuchLine)

@@ -228,8 +228,8 @@ NoSemicolonAhead =
     ≡ at_fault faults.EndMissing 6
 
 -- M: PROC; END; X
-abbrev pub TextBehindEnd : Type 0
-TextBehindEnd =
+abbrev pub TextAfterUnit : Type 0
+TextAfterUnit =
     unit_of (w (codes "M") ∷ colon ∷ w (codes "PROC") ∷ stop ∷ w (codes "END") ∷ stop ∷ w (codes "X") ∷ [])
     ≡ at_fault faults.TextAfterEnd 6
 
@@ -254,12 +254,12 @@ ListNotClosed =
     ≡ at_fault faults.ParenthesisExpected 4
 
 -- DO 5;
-abbrev pub NumberBehindDo : Type 0
-NumberBehindDo = reads (w (codes "DO") ∷ digit 5 ∷ stop ∷ []) ≡ at_fault faults.SemicolonExpected 1
+abbrev pub NumberAfterDo : Type 0
+NumberAfterDo = reads (w (codes "DO") ∷ digit 5 ∷ stop ∷ []) ≡ at_fault faults.SemicolonExpected 1
 
 -- GOTO 5;
-abbrev pub NumberBehindGoto : Type 0
-NumberBehindGoto = reads (w (codes "GOTO") ∷ digit 5 ∷ stop ∷ []) ≡ at_fault faults.NameExpected 1
+abbrev pub NumberAfterGoto : Type 0
+NumberAfterGoto = reads (w (codes "GOTO") ∷ digit 5 ∷ stop ∷ []) ≡ at_fault faults.NameExpected 1
 
 -- IF X PUT LIST(1);
 abbrev pub NoThen : Type 0
@@ -312,14 +312,14 @@ abbrev pub NoCondition : Type 0
 NoCondition = reads (w (codes "ON") ∷ w (codes "FOO") ∷ stop ∷ []) ≡ at_fault faults.BadCondition 1
 
 -- ON AREA BEGIN; RETURN; END;
-abbrev pub ReturnInUnit : Type 0
-ReturnInUnit =
+abbrev pub ReturnInOnUnit : Type 0
+ReturnInOnUnit =
     reads (w (codes "ON") ∷ w (codes "AREA") ∷ w (codes "BEGIN") ∷ stop ∷ w (codes "RETURN") ∷ stop
     ∷ w (codes "END") ∷ stop ∷ []) ≡ at_fault faults.MisplacedStatement 4
 
 -- IF X THEN DCL Y BIT;
-abbrev pub DeclareBehindThen : Type 0
-DeclareBehindThen =
+abbrev pub DeclareAfterThen : Type 0
+DeclareAfterThen =
     reads (w (codes "IF") ∷ w (codes "X") ∷ w (codes "THEN") ∷ w (codes "DCL") ∷ w (codes "Y")
     ∷ w (codes "BIT") ∷ stop ∷ []) ≡ at_fault faults.MisplacedStatement 3
 
@@ -410,14 +410,14 @@ TwoAreas =
     ∷ w (codes "IN") ∷ left ∷ w (codes "B") ∷ right ∷ stop ∷ []) ≡ at_fault faults.BadOption 6
 
 -- IF A THEN L: ;
-abbrev pub LabelBehindThen : Type 0
-LabelBehindThen =
+abbrev pub LabelAfterThen : Type 0
+LabelAfterThen =
     reads (w (codes "IF") ∷ w (codes "A") ∷ w (codes "THEN") ∷ w (codes "L") ∷ colon ∷ stop ∷ [])
     ≡ at_fault faults.BadLabel 3
 
 -- IF A THEN END;
-abbrev pub EndBehindThen : Type 0
-EndBehindThen =
+abbrev pub EndAfterThen : Type 0
+EndAfterThen =
     reads (w (codes "IF") ∷ w (codes "A") ∷ w (codes "THEN") ∷ w (codes "END") ∷ stop ∷ [])
     ≡ at_fault faults.MisplacedStatement 3
 
@@ -426,8 +426,8 @@ abbrev pub StrayElse : Type 0
 StrayElse = reads (w (codes "ELSE") ∷ stop ∷ []) ≡ at_fault faults.NotAStatement 0
 
 -- ON AREA IF A THEN;
-abbrev pub IfBehindOn : Type 0
-IfBehindOn =
+abbrev pub IfAfterOn : Type 0
+IfAfterOn =
     reads (w (codes "ON") ∷ w (codes "AREA") ∷ w (codes "IF") ∷ w (codes "A") ∷ w (codes "THEN") ∷ stop ∷ [])
     ≡ at_fault faults.MisplacedStatement 2
 

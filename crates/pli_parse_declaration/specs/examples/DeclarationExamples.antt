@@ -1,4 +1,4 @@
--- Items and what they are read as, and faults: computed. Each text begins at token 1, behind DECLARE.
+-- Items and what they are read as, and faults: computed. Each text begins at token 1, after DECLARE.
 use Rattle.std.specs.Prelude.{◌≡◌, ℕ, Some, None, List, [], ◌∷◌, codes, true, false}
 use Rattle.pli_base.specs.Words.{Tokens}
 use Rattle.pli_base.specs.Reading.{at_fault, read_as}
@@ -103,8 +103,8 @@ Asterisks =
     } ∷ []) 12 []
 
 -- `P(1:*) BIT;`: an asterisk is all that a bound says
-abbrev pub NoAsteriskBehindColon : Type 0
-NoAsteriskBehindColon =
+abbrev pub NoAsteriskAfterColon : Type 0
+NoAsteriskAfterColon =
     declaration_at 1 (w (codes "P") ∷ left ∷ Decimal 1 1 ∷ Sign Colon ∷ Sign Times ∷ right ∷ w (codes "BIT")
     ∷ semicolon) ≡ at_fault ConstantExpected 5
 
@@ -153,9 +153,9 @@ NoDescription =
     declaration_at 1 (w (codes "F") ∷ w (codes "ENTRY") ∷ left ∷ w (codes "FOO") ∷ right ∷ semicolon)
     ≡ at_fault ParenthesisExpected 4
 
--- `F ENTRY(BIT, FOO);`: behind a comma a description must stand
-abbrev pub NoDescriptionBehindComma : Type 0
-NoDescriptionBehindComma =
+-- `F ENTRY(BIT, FOO);`: after a comma a description must stand
+abbrev pub NoDescriptionAfterComma : Type 0
+NoDescriptionAfterComma =
     declaration_at 1 (w (codes "F") ∷ w (codes "ENTRY") ∷ left ∷ w (codes "BIT") ∷ comma ∷ w (codes "FOO")
     ∷ right ∷ semicolon) ≡ at_fault BadAttribute 6
 

@@ -112,9 +112,9 @@ abbrev pub NoListThere : Type 0
 NoListThere = expression_at 64 0 0 (Word (codes "A") ∷ Sign signs.OpenParenthesis ∷ Sign signs.Semicolon ∷ [])
     ≡ at_fault faults.ParenthesisExpected 2
 
--- A(1, ) wants an expression behind the comma
-abbrev pub NothingBehindComma : Type 0
-NothingBehindComma =
+-- A(1, ) wants an expression after the comma
+abbrev pub NothingAfterComma : Type 0
+NothingAfterComma =
     expression_at 64 0 0 (Word (codes "A") ∷ Sign signs.OpenParenthesis ∷ Decimal 1 1 ∷ Sign signs.Comma
     ∷ Sign signs.CloseParenthesis ∷ [])
     ≡ at_fault faults.ExpressionExpected 4
@@ -156,7 +156,7 @@ abbrev pub LastOperator : Type 0
 LastOperator = expression_at 64 999 0 (Word (codes "A") ∷ Sign signs.Plus ∷ Word (codes "B") ∷ [])
     ≡ counted (Infix Add 1 (plain (codes "A") 0) (plain (codes "B") 2)) 1000 3 []
 
--- the next one, whatever stands behind it
+-- the next one, whatever stands after it
 abbrev pub TooManyOperators : Type 0
 TooManyOperators = expression_at 64 1000 0 (Word (codes "A") ∷ Sign signs.Plus ∷ Sign signs.Semicolon ∷ [])
     ≡ at_fault faults.NestedTooDeep 1

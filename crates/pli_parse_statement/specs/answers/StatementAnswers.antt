@@ -65,15 +65,15 @@ option_view options.Recursive = reading.RecursiveWord
 -- how a specification begins
 abbrev pub specified_view : SpecificationStart → reading.Specified
 specified_view specifieds.Unspecified = reading.Unspecified
-specified_view (specifieds.Conditioned behind) = reading.Conditioned behind.now
+specified_view (specifieds.Conditioned after) = reading.Conditioned after.now
 specified_view specifieds.Iterated = reading.Iterated
 
--- behind WHILE there is a token less
-abbrev pub BehindWhile : Tokens → SpecificationStart → Type 0
-BehindWhile ts (specifieds.Conditioned behind) = length behind.now + 1 ≡ length ts
-BehindWhile ts x = Unit {0}
+-- after WHILE there is a token less
+abbrev pub AfterWhile : Tokens → SpecificationStart → Type 0
+AfterWhile ts (specifieds.Conditioned after) = length after.now + 1 ≡ length ts
+AfterWhile ts x = Unit {0}
 
--- an option behind its word
+-- an option after its word
 abbrev pub option_of : reading.OptionWord → ℕ → Tokens → Result (Front tree.ProcedureOption) Fault
 option_of reading.OptionsWord p ts = reading.main_at p ts
 option_of reading.ReturnsWord p ts = mapped tree.Returns (returned_at p ts)
@@ -91,7 +91,7 @@ heading_view name number h =
 
 -- where a statement stands
 abbrev pub context_view : first.Context → Context
-context_view c = record { standing = c.standing; in_unit = c.in_unit }
+context_view c = record { standing = c.standing; in_on_unit = c.in_on_unit }
 
 -- what a statement is
 abbrev pub kind_view : StatementKind → grammar.StatementKind
@@ -101,16 +101,16 @@ kind_view (kinds.Keyed keyword rest) = grammar.Keyed keyword rest.now
 kind_view kinds.Unknown = grammar.Unknown
 
 -- of so many tokens those of the keyword, or the `;`, are passed over
-abbrev pub BehindKind : ℕ → StatementKind → Type 0
-BehindKind n (kinds.Empty rest) = length rest.now + 1 ≡ n
-BehindKind n (kinds.Keyed keyword rest) = length rest.now + words keyword ≡ n
-BehindKind n kind = Unit {0}
+abbrev pub AfterKind : ℕ → StatementKind → Type 0
+AfterKind n (kinds.Empty rest) = length rest.now + 1 ≡ n
+AfterKind n (kinds.Keyed keyword rest) = length rest.now + words keyword ≡ n
+AfterKind n kind = Unit {0}
 
--- what a statement begins with: whether a `;` is ahead, and what it is behind its label
+-- what a statement begins with: whether a `;` is ahead, and what it is after its label
 pub record IsBeginning (ts : Tokens) (b : Beginning) : Type 0 where
   pub ahead : b.has_semicolon ≡ reading.has_semicolon ts
   pub kind : kind_view b.kind ≡ grammar.kind_of (reading.label_at 0 ts).rest
-  pub place : BehindKind (length (reading.label_at 0 ts).rest) b.kind
+  pub place : AfterKind (length (reading.label_at 0 ts).rest) b.kind
 
 -- a statement that may not stand where it does
 abbrev pub misplacement_view : Misplacement → reading.Misplacement
@@ -123,9 +123,9 @@ next_view (nexts.EndsHere rest) = reading.EndsHere rest.now
 next_view nexts.Another = reading.Another
 
 -- of so many tokens END is passed over
-abbrev pub BehindNext : ℕ → NextStatement → Type 0
-BehindNext n (nexts.EndsHere rest) = length rest.now + 1 ≡ n
-BehindNext n nexts.Another = Unit {0}
+abbrev pub AfterNext : ℕ → NextStatement → Type 0
+AfterNext n (nexts.EndsHere rest) = length rest.now + 1 ≡ n
+AfterNext n nexts.Another = Unit {0}
 
 -- the tree, apart from where it lies in memory, without the count
 abbrev pub tree_view : {X Y : Type 0} → (X → Y) → Counted X → Y

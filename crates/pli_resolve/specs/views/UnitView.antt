@@ -80,7 +80,7 @@ pub record IsUnitOf (u : ExternalProcedure) (tables : UnitTables) (undescribed :
     pub are_tables : AreTablesOf tables u
     pub undescribed_is : description_view undescribed ≡ described.Pointer
 
--- the resolved unit of this tree, where there are no faults; or all of them; want of memory is possible
+-- the resolved unit of this tree, where there are no faults; or all of them; memory may be refused
 -- anywhere
 abbrev pub IsResolvedUnit : Result Procedure (Failure (Vec Fault)) → ExternalProcedure → Type 0
 IsResolvedUnit answer u = IsResolved answer u

@@ -50,7 +50,7 @@ SameBesideFollows = (before after : World) → SameBeside before after → Follo
 
 -- ---- numbers of generations
 
--- what is so of the result and the world behind, where an operation gives a result
+-- what is so of the result and the world after it, where an operation gives a result
 abbrev pub IfYields : {A : Type 0} → Answer A → (A → World → Type 0) → Type 0
 IfYields (Yields x w) says = says x w
 IfYields (Raises e w) says = Unit {0}
@@ -61,32 +61,32 @@ pub record HasEnded (number : ℕ) (w : World) : Type 0 where
   pub given : number < w.made
   pub gone : generation_in w.storage number ≡ None
 
--- what has ended stays so behind an operation
+-- what has ended stays so after an operation
 abbrev pub StaysEnded : {A : Type 0} → (World → Answer A) → Type 0
 StaysEnded operation =
     (w : World) (number : ℕ) → HasEnded number w → IfYields (operation w) (λ _ u. HasEnded number u)
 
--- so it is behind whatever makes a generation
-abbrev pub EndedBehindMaking : Type 0
-EndedBehindMaking = (d : Description) (how : Made) (vs : List Value) → StaysEnded (made_of d how vs)
+-- so it is after whatever makes a generation
+abbrev pub EndedAfterMaking : Type 0
+EndedAfterMaking = (d : Description) (how : Made) (vs : List Value) → StaysEnded (made_of d how vs)
 
--- behind ALLOCATE of a CONTROLLED variable
-abbrev pub EndedBehindStacking : Type 0
-EndedBehindStacking = (number : ℕ) → StaysEnded (stacked number)
+-- after ALLOCATE of a CONTROLLED variable
+abbrev pub EndedAfterStacking : Type 0
+EndedAfterStacking = (number : ℕ) → StaysEnded (stacked number)
 
--- behind FREE of one
-abbrev pub EndedBehindUnstacking : Type 0
-EndedBehindUnstacking = (number : ℕ) → StaysEnded (unstacked number)
+-- after FREE of one
+abbrev pub EndedAfterUnstacking : Type 0
+EndedAfterUnstacking = (number : ℕ) → StaysEnded (unstacked number)
 
 -- ---- what lives beside
 
--- what lives stays as it is behind an operation
+-- what lives stays as it is after an operation
 abbrev pub LivingStays : {A : Type 0} → (World → Answer A) → Type 0
 LivingStays operation =
     (w : World) (number : ℕ) (g : Generation) → generation_in w.storage number ≡ Some g
     → IfYields (operation w) (λ _ u. generation_in u.storage number ≡ Some g)
 
--- behind ALLOCATE of a CONTROLLED variable
+-- after ALLOCATE of a CONTROLLED variable
 abbrev pub BesideStacked : Type 0
 BesideStacked = (number : ℕ) → LivingStays (stacked number)
 

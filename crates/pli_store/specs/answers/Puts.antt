@@ -48,7 +48,7 @@ abbrev pub ValuesPutOrSame : Bool → (old new : List plain.Generation) → Gene
 ValuesPutOrSame true old new part d vs = ValuesPut old new part d vs
 ValuesPutOrSame false old new part d vs = new ≡ old
 
--- characters are put behind those of a string of CHARACTER VARYING that stands there, and both are no more
+-- characters are put after those of a string of CHARACTER VARYING that stands there, and both are no more
 -- than it may hold and than so many
 pub record IsLengthened (old new : List plain.Generation) (part : GenerationPart) (greatest : ℕ)
     (more : List ℕ) (room : ℕ) : Type 0 where

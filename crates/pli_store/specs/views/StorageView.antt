@@ -62,7 +62,7 @@ CannotPut s p v = holds p.description v ≡ true → LeadsToNone (storage_view s
 abbrev pub NumberPut : Bool → (old new : Storage) → plain.Place → ℤ → Type 0
 NumberPut b old new p x = ValuePut b old new p (Number x)
 
--- characters are put behind those that a place holds, and both are no more than so many
+-- characters are put after those that a place holds, and both are no more than so many
 pub record IsAppended (old new : Storage) (p : plain.Place) (more : List ℕ) (room : ℕ) : Type 0 where
   pub text : List ℕ
   pub was : (w : World) → held p (with_storage old w) ≡ Yields (Characters text) (with_storage old w)

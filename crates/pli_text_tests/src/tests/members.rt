@@ -62,7 +62,7 @@ fn is_refused(answer: Result<(), EditError>, wanted: Refusal) -> bool {
     answer == Err(EditError::Refused(wanted))
 }
 
-/// Whether there is no version behind the last.
+/// Whether there is no version after the last.
 fn are_ended(members: &mut Members, a: Name) -> bool {
     let ended = Refusal::VersionsExhausted;
     is_refused(members.replace_line(a, 1, b"Y"), ended)

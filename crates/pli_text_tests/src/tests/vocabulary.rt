@@ -132,7 +132,7 @@ impl Sink for Faulty {
     }
 }
 
-/// Whether three bytes are put, and nothing behind the failure.
+/// Whether three bytes are put, and nothing after the failure.
 fn fails(sink: &mut Faulty) -> bool {
     put_all(sink, b"ab") == Ok(())
         && put_all(sink, b"cd") == Err(Failed)

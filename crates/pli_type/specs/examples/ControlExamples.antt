@@ -129,7 +129,7 @@ head number statement temporaries =
     record { number = number; statement = statement; variables = []; temporaries = temporaries }
 
 -- GOTO leads to a label one link outward, the blocks are numbered in the order of the text, and a procedure
--- stands behind those in it
+-- stands after those in it
 abbrev pub BlocksAreTyped : Type 0
 BlocksAreTyped =
     (statements_typed (unit_of no_tree ((6, i) ∷ (11, ALabel 2) ∷ [])) (in_unit None blocks) first_inside

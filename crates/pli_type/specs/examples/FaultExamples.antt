@@ -19,7 +19,7 @@ use Rattle.pli_type.specs.examples.ExampleTrees.{x, n, v, c, a, r, p, q, s_a, w,
 use Rattle.pli_type.specs.examples.ExampleTrees.{abs}
 use Rattle.pli_type.specs.examples.ExampleTrees.{greatest, divide, length_of, index, low_bound, substring}
 
--- An IF has a fault of its own, and so has the statement behind THEN; of a statement only the first fault
+-- An IF has a fault of its own, and so has the statement after THEN; of a statement only the first fault
 -- is told, operands before operators, and the target before the expression before `=`
 abbrev pub OneFaultToAStatement : Type 0
 OneFaultToAStatement =
@@ -225,7 +225,7 @@ LocatorsAreNotAllowed =
     Located (called (codes "A") 2) (Given (Listed (decimal 1 1 4) Empty)) Alone)) 6 (named (codes "X") 7)) ≡
     one LocatorMissingOrNotAllowed 2)
 
--- Parentheses behind what is no variable hold arguments, whose own faults come first; a function without
+-- Parentheses after what is no variable hold arguments, whose own faults come first; a function without
 -- parentheses is no value
 abbrev pub NamesOfNoVariable : Type 0
 NamesOfNoVariable =

@@ -76,11 +76,11 @@ null_function = AFunction functions.Null
 abbrev pub address : NamedAs
 address = AFunction functions.Address
 
--- a name with parentheses behind it, at a token
+-- a name with parentheses after it, at a token
 abbrev pub of_list : (at : ℕ) → Expressions → Expression
 of_list at list = Referred (Named (called [] at) (Given list) Alone)
 
--- one name behind another and an arrow, each at a token
+-- one name after another and an arrow, each at a token
 abbrev pub located : (locator at : ℕ) → Reference
 located locator at = Named (called [] locator) Absent (Joined Located (called [] at) Absent Alone)
 

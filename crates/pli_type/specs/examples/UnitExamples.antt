@@ -25,7 +25,7 @@ abbrev pub all_of : List Statement → Statements
 all_of [] = Ended
 all_of (s ∷ ss) = Before s (all_of ss)
 
--- `M: PROC OPTIONS(MAIN); .. END M;`, whose statements begin at token 8 or behind it
+-- `M: PROC OPTIONS(MAIN); .. END M;`, whose statements begin at token 8 or after it
 abbrev pub main : List Statement → ExternalProcedure
 main statements = record {
   heading = record {

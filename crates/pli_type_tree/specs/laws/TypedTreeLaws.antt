@@ -128,7 +128,7 @@ pub iterate_made : (iteration : Box Iteration Global) (statements : Vec TypedSta
 iterate_made iteration statements =
     ap (plain.Iterate (iteration_view iteration.value)) (list_made statements)
 
--- what stands behind ELSE, if it is there
+-- what stands after ELSE, if it is there
 abbrev pub boxed_view : Option (Box TypedStatement Global) → plain.OtherWise
 boxed_view None = plain.NoElse
 boxed_view (Some statement) = plain.Else (statement_view statement.value)

@@ -60,7 +60,7 @@ fn are_parts(rt: &impl Abort, alloc: Global, bits: &Bits) -> bool {
             .is_none()
 }
 
-/// Whether nine of them are found at their front, and put behind them again.
+/// Whether nine of them are found at their front, and put after them again.
 fn are_nine(rt: &impl Abort, alloc: Global, bits: &Bits) -> bool {
     let nine = fit(alloc, bits, 9).expect(rt, "memory");
     index(bits, &nine) == 1

@@ -30,7 +30,7 @@ fn characters_lie(rt: &impl Abort, alloc: Global) -> bool {
     bytes == *b".AB." && is_text(read, b"AB")
 }
 
-/// Whether characters are put behind others up to the greatest length, and no further.
+/// Whether characters are put after others up to the greatest length, and no further.
 fn characters_follow() -> bool {
     let mut bytes = [0; 7];
     append_at(&mut bytes, 1, 4, b"ABCD", 100)

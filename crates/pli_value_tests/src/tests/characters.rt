@@ -26,7 +26,7 @@ fn is_written(rt: &impl Abort, alloc: Global) -> bool {
     least.as_slice() == b"-9223372036854775807".as_slice()
 }
 
-/// Whether no character comes behind the longest string.
+/// Whether no character comes after the longest string.
 fn is_longest(rt: &impl Abort, alloc: Global) -> bool {
     let longest = fit(alloc, b"A", STRING_LIMIT).expect(rt, "memory");
     concat(alloc, &longest, b"A").expect(rt, "memory").is_none()

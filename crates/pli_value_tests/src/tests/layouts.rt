@@ -10,7 +10,7 @@ use std::alloc::Global;
 use std::process::Abort;
 use std::test::*;
 
-/// Arrays of two areas in a structure, behind locators of both kinds with characters between.
+/// Arrays of two areas in a structure, after locators of both kinds with characters between.
 fn record(rt: &impl Abort, alloc: Global) -> Description {
     let areas = Description::Array {
         bounds: vec![in alloc; Bounds { low: 1, high: 2 }].expect(rt, "memory"),
@@ -99,8 +99,8 @@ fn areas_are_told() -> bool {
         && Description::Area(u32::MAX) == Description::Area(u32::MAX - 6)
 }
 
-/// Three layouts behind a halfword, and whether more than so many have one.
-fn behind_halfword(layout: Layout) -> Option<Layout> {
+/// Three layouts after a halfword, and whether more than so many have one.
+fn after_halfword(layout: Layout) -> Option<Layout> {
     Layout::empty()
         .and(Layout::of(2, 2)?)?
         .and(layout.times(3)?)
@@ -111,7 +111,7 @@ fn are_counted(layout: Layout) -> bool {
     let dimension = Bounds { low: -2, high: 7 };
     layout.stride() == 6
         && layout.times(166_667).is_none()
-        && behind_halfword(layout).is_some_and(|both| both.bytes == 20)
+        && after_halfword(layout).is_some_and(|both| both.bytes == 20)
         && fixed_binary_size(31) == 4
         && fixed_binary_size(32) == 8
         && dimension.extent() == 10

@@ -27,7 +27,7 @@ fn declare(rt: &impl Abort, block: &mut BlockItems, text: &str, owner: Option<us
     block.declare(declared).expect(rt, "memory");
 }
 
-/// The block of a structure S with a member A, and of a variable A behind it.
+/// The block of a structure S with a member A, and of a variable A after it.
 fn block(rt: &impl Abort, alloc: Global) -> BlockItems {
     let mut block = BlockItems::new(alloc);
     declare(rt, &mut block, "S", None);
@@ -112,7 +112,7 @@ static REGIONS: [Region; 4] = [
         outer: Some(0),
     },
     Region {
-        kind: RegionKind::Unit,
+        kind: RegionKind::OnUnit,
         outer: Some(1),
     },
     Region {

@@ -62,7 +62,7 @@ fn characters(rt: HostRuntime) {
     assert!(rt; varying_characters(&rt, rt.alloc()) && is_cut(&rt, rt.alloc()));
 }
 
-/// Whether bits over the end of a byte are read; what stands behind the last one does not count.
+/// Whether bits over the end of a byte are read; what stands after the last one does not count.
 fn bits_are_read(rt: &impl Abort, alloc: Global) -> bool {
     match load_value(alloc, &Description::Bit(9), &[0b1010_0000, 0b1111_1111]).expect(
         rt, "memory",

@@ -76,7 +76,7 @@ DummyDead =
     error_of (within (λ w. further (dummy_of (Character 2) (Characters (codes "AB")) w)
     (λ p w. stored p (Number (pos 1)) (cleared w)))) ≡ Some DeadLocator
 
--- a structure of a CHARACTER(1) and, two bytes behind its beginning, a FIXED BINARY(15)
+-- a structure of a CHARACTER(1) and, two bytes after its beginning, a FIXED BINARY(15)
 abbrev pub element : Description
 element = Structure (MemberThen (Character 1) (MemberThen (FixedBinary 15) NoMembers))
 
@@ -84,7 +84,7 @@ element = Structure (MemberThen (Character 1) (MemberThen (FixedBinary 15) NoMem
 abbrev pub elements : Description
 elements = Array (record { low = pos 1; high = pos 3 } ∷ []) element
 
--- a structure of a FIXED BINARY(15) and, two bytes behind its beginning, that array
+-- a structure of a FIXED BINARY(15) and, two bytes after its beginning, that array
 abbrev pub aggregate : Description
 aggregate = Structure (MemberThen (FixedBinary 15) (MemberThen elements NoMembers))
 
@@ -152,7 +152,7 @@ TooFar =
     × (with_aggregate (subscripted (pos 1) (pos 3) 1000000 (pos 3)) ≡ Wrong)
     × (error_of (with_aggregate (subscripted (pos 1) (pos 3) 1000000 (pos 4))) ≡ Some SubscriptRange)
 
--- behind a character there is none
+-- after a character there is none
 abbrev pub NoPart : Type 0
 NoPart = with_aggregate (λ p w. held (field_of 3 (Character 1) p) w) ≡ Wrong
 

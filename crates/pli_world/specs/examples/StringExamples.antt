@@ -45,7 +45,7 @@ grid_place = whole 0 grid
 abbrev pub grid_element : (x y : ℤ) → World → Answer Place
 grid_element x y w = further (subscripted_by 1 x grid_place w) (subscripted_by 2 y)
 
--- it lies behind three elements of the row before, and one of its own; no generation is asked for
+-- it lies after three elements of the row before, and one of its own; no generation is asked for
 abbrev pub ElementOfGrid : Type 0
 ElementOfGrid =
     grid_element (pos 3) (pos 6) nothing ≡ Yields (field_of 8 (Character 2) grid_place) nothing

@@ -132,9 +132,9 @@ making_keeps d how vs w =
     by new false f = follows_same w
 
 -- an operation in the world that another has left
-behind : {A : Type 0} (n : ℕ) (u v : World) (a : Answer A) → Follows n u v → AnswerFollows (height v) v a
+after : {A : Type 0} (n : ℕ) (u v : World) (a : Answer A) → Follows n u v → AnswerFollows (height v) v a
     → AnswerFollows n u a
-behind n u v a f answer = answer_then n n u v a f (subst (λ k. AnswerFollows k v a) f.heights answer)
+after n u v a f answer = answer_then n n u v a f (subst (λ k. AnswerFollows k v a) f.heights answer)
 
 living_keeps : (p : Place) (w : World) → AnswerFollows (height w) w (living p w)
 living_keeps p w = found (generation_in w.storage p.generation)
@@ -165,13 +165,13 @@ leading_into_keeps p g w = by (nat_eq p.position 0) (block_at g.blocks p.positio
 using_keeps : (p : Place) (w : World) → AnswerFollows (height w) w (used p w)
 using_keeps p w =
     further_follows (height w) (height w) w (living p w) (led_into p) (living_keeps p w) refl
-    (λ g v f. behind (height w) w v (led_into p g v) f (leading_into_keeps p g v))
+    (λ g v f. after (height w) w v (led_into p g v) f (leading_into_keeps p g v))
 
 pub parts_held_keep : PartsHeldKeep
 unfolding parts_held
 parts_held_keep p w =
     further_follows (height w) (height w) w (used p w) _ (using_keeps p w) refl
-    (λ c v f. behind (height w) w v _ f
+    (λ c v f. after (height w) w v _ f
     (further_follows (height v) (height v) v (known (scalar_at c p) v) _
     (known_follows (scalar_at c p) v) refl
     (λ k u h. h)))
@@ -180,7 +180,7 @@ pub parts_stored_keep : PartsStoredKeep
 unfolding parts_stored
 parts_stored_keep p vs w =
     further_follows (height w) (height w) w (used p w) _ (using_keeps p w) refl
-    (λ c v f. behind (height w) w v _ f
+    (λ c v f. after (height w) w v _ f
     (further_follows (height v) (height v) v (known (scalar_at c p) v) _
     (known_follows (scalar_at c p) v) refl
     (λ k u h. record { steps = h.steps; heights = h.heights; output = h.output })))
@@ -194,14 +194,14 @@ pub loading_keeps : LoadingKeeps
 unfolding held
 loading_keeps p w =
     further_follows (height w) (height w) w (parts_held p w) _ (parts_held_keep p w) refl
-    (λ vs v f. behind (height w) w v _ f
+    (λ vs v f. after (height w) w v _ f
     (guarded (height v) v (is_scalar p.description) (single vs v) (single_keeps vs v)))
 
 pub storing_keeps : StoringKeeps
 unfolding stored
 storing_keeps p x w =
     further_follows (height w) (height w) w (used p w) _ (using_keeps p w) refl
-    (λ c v f. behind (height w) w v _ f
+    (λ c v f. after (height w) w v _ f
     (guarded (height v) v (holds p.description x) (parts_stored p (x ∷ []) v)
     (parts_stored_keep p (x ∷ []) v)))
 
@@ -209,7 +209,7 @@ pub copying_keeps : CopyingKeeps
 unfolding copied
 copying_keeps source target w =
     further_follows (height w) (height w) w (parts_held source w) _ (parts_held_keep source w) refl
-    (λ vs v f. behind (height w) w v _ f
+    (λ vs v f. after (height w) w v _ f
     (by vs v (is_area source.description) (same source.description target.description)))
   where
     by : (vs : List Value) (v : World) (area alike : Bool)
@@ -293,10 +293,10 @@ pub newest_follows : (change : Activation → Activation) (w : World)
 newest_follows change w =
     record { steps = refl; heights = newest_stays change w.activations; output = prefix_same w.output }
 
--- a change of the newest behind another operation
-newest_behind : (n : ℕ) (change : Activation → Activation) (u v : World) → Follows n u v
+-- a change of the newest after another operation
+newest_after : (n : ℕ) (change : Activation → Activation) (u v : World) → Follows n u v
     → Follows n u (in_newest change v)
-newest_behind n change u v f =
+newest_after n change u v f =
     record {
       steps = f.steps;
       heights = newest_stays change v.activations ∙ f.heights;
@@ -309,7 +309,7 @@ making_all_keeps (v ∷ vs) w =
     further_follows (height w) (height w) w (made_of v.description Automatic v.initial w) _
     (making_keeps v.description Automatic v.initial w) refl
     (λ p u f. let slotted = in_newest (with_slot p) u in
-    behind (height w) w slotted (made_all vs slotted) (newest_behind (height w) (with_slot p) w u f)
+    after (height w) w slotted (made_all vs slotted) (newest_after (height w) (with_slot p) w u f)
     (making_all_keeps vs slotted))
 
 pub entering_adds : EnteringAdds
@@ -369,7 +369,7 @@ dummy_keeps d v w =
     guarded (height w) w (holds d v) _
     (further_follows (height w) (height w) w (made_of d Dummy (v ∷ []) w) _ (making_keeps d Dummy (v ∷ []) w)
     refl
-    (λ p u f. newest_behind (height w) _ w u f))
+    (λ p u f. newest_after (height w) _ w u f))
 
 pub string_dummy_keeps : StringDummyKeeps
 unfolding string_dummy_of
@@ -379,14 +379,14 @@ string_dummy_keeps form v w = by (string_dummy form v)
     by None = tt
     by (Some d) = dummy_keeps d.description d.value w
 
--- an operation that keeps, behind another
+-- an operation that keeps, after another
 one_after_another : {A B : Type 0} (a : World → Answer A) (go : A → World → Answer B)
     → ((w : World) → AnswerFollows (height w) w (a w))
     → ((x : A) (v : World) → AnswerFollows (height v) v (go x v)) → (w : World)
     → AnswerFollows (height w) w (further (a w) go)
 one_after_another a go first next w =
     further_follows (height w) (height w) w (a w) go (first w) refl
-    (λ x v f. behind (height w) w v (go x v) f (next x v))
+    (λ x v f. after (height w) w v (go x v) f (next x v))
 
 -- one on where a global stands
 named_keeps : {A : Type 0} (number : ℕ) (go : Standing → World → Answer A)
@@ -630,7 +630,7 @@ reverting_keeps c w = newest_follows (λ a. record a { on_units = with_on_unit c
 pub signalling_keeps : SignallingKeeps
 signalling_keeps c w = follows_same w
 
--- variables that are made before the program begins
+-- static variables
 
 once_keeps : (kind : VariableKind) (v : Variable) (before : Option Standing) (w : World)
     → AnswerFollows (height w) w (made_once kind v before w)
@@ -653,7 +653,7 @@ statics_keep K equal unit number (Some g ∷ gs) shared w =
     (λ s v f.
     let new = with_static unit number s v in
     let more = with_shared g.global.external s shared in
-    behind (height w) w new (statics_made equal unit (suc number) gs more new)
+    after (height w) w new (statics_made equal unit (suc number) gs more new)
     (record { steps = f.steps; heights = f.heights; output = f.output })
     (statics_keep K equal unit (suc number) gs more new))
 

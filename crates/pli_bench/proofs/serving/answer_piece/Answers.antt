@@ -10,7 +10,7 @@ use Rattle.pli_bench.proofs.LinesAnswered.{Going-none, Going-other, Going-line, 
 use Rattle.pli_bench.proofs.serving.answer_piece.Goals as goal
 use Rattle.pli_bench.proofs.serving.answer_piece.Goals.{then-byte-eq10+in_ok-command+in_default, else-byte-eq10}
 
--- the bytes before this one, this one and those behind it
+-- the bytes before this one, this one and those after it
 split : (text : List ℕ) (i : ℕ) → i < length text → take i text ++ get_or text i 0 ∷ drop (i + 1) text ≡ text
 split text i h = ap (λ l. take i text ++ l) (sym (drop_more text i 0 h)) ∙ take-append-drop i text
 

@@ -29,10 +29,10 @@ few_reads taken read reads size few h = omega (arith, mul-le-mul_left size h)
 module _ {S : Type 0} (quits : List ℕ → Bool) (service : Service S) (between : Bytes) (taken buffer : List ℕ) (count read size : ℕ) (r : Result AfterCommand ServeFault) where
   takes_piece : Consumes service.reader.before between taken → Consumes between service.reader.after (take count buffer) → length taken ≤ read * size → count ≤ length buffer → length buffer ≡ size → read < service.reads
       → Stops quits size (taken ++ take count buffer) service.reader.after r → Takes quits size service r
-  takes_piece before behind few within sized h stops =
+  takes_piece before later few within sized h stops =
       let next : read + 1 ≤ service.reads = omega arith in record {
         taken = taken ++ take count buffer;
-        consumed = Consumes-then _ between _ taken (take count buffer) before behind;
+        consumed = Consumes-then _ between _ taken (take count buffer) before later;
         few = few_reads (taken ++ take count buffer) (read + 1) service.reads size (few_more taken buffer count read size few within sized) next;
         stops = stops;
       }
@@ -54,18 +54,18 @@ returns-in_err-answer_last-clause-served g c =
     let (taken, before, reads, so_far, sized, few, asked) = c.loop-read.invariant in
     let none = c.if-count-eq0.true in
     let ended = c.in-Ok.ensures.moved.1 none (omega (arith, sized)) in
-    let behind = subst (λ n. Consumes (g.R.Source.remaining c.loop-read.reader) (g.R.Source.remaining c.take.new.self) (take n c.take.new.buffer)) none c.in-Ok.ensures.moved.0 in
+    let later = subst (λ n. Consumes (g.R.Source.remaining c.loop-read.reader) (g.R.Source.remaining c.take.new.self) (take n c.take.new.buffer)) none c.in-Ok.ensures.moved.0 in
     let run = c.in_err-answer_last.ensures.answered (pending_line taken) (c.bytes.ensures ∙ so_far.kept_is) in
-    rw (p.1, p.2) (served_end g.T.Interpreter.steps g.T.Interpreter.quits c.args.bench.now c.loop-read.bench c.answer_last.new.bench taken c.loop-read.line _ _ _ _ _ _ (Err c.in_err-answer_last.field-0.0) so_far before behind ended run)
+    rw (p.1, p.2) (served_end g.T.Interpreter.steps g.T.Interpreter.quits c.args.bench.now c.loop-read.bench c.answer_last.new.bench taken c.loop-read.line _ _ _ _ _ _ (Err c.in_err-answer_last.field-0.0) so_far before later ended run)
 
 pub returns-then-count-eq0-clause-served : goal.returns-then-count-eq0-clause-served
 returns-then-count-eq0-clause-served g c =
     let (taken, before, reads, so_far, sized, few, asked) = c.loop-read.invariant in
     let none = c.if-count-eq0.true in
     let ended = c.in-Ok.ensures.moved.1 none (omega (arith, sized)) in
-    let behind = subst (λ n. Consumes (g.R.Source.remaining c.loop-read.reader) (g.R.Source.remaining c.take.new.self) (take n c.take.new.buffer)) none c.in-Ok.ensures.moved.0 in
+    let later = subst (λ n. Consumes (g.R.Source.remaining c.loop-read.reader) (g.R.Source.remaining c.take.new.self) (take n c.take.new.buffer)) none c.in-Ok.ensures.moved.0 in
     let run = c.in_ok-answer_last.ensures.answered (pending_line taken) (c.bytes.ensures ∙ so_far.kept_is) in
-    served_end g.T.Interpreter.steps g.T.Interpreter.quits c.args.bench.now c.loop-read.bench c.answer_last.new.bench taken c.loop-read.line _ _ _ _ _ _ (Ok c.in_ok-answer_last.field-0) so_far before behind ended run
+    served_end g.T.Interpreter.steps g.T.Interpreter.quits c.args.bench.now c.loop-read.bench c.answer_last.new.bench taken c.loop-read.line _ _ _ _ _ _ (Ok c.in_ok-answer_last.field-0) so_far before later ended run
 
 pub returns-in_err-answer_piece-clause-served : goal.returns-in_err-answer_piece-clause-served
 returns-in_err-answer_piece-clause-served g c =

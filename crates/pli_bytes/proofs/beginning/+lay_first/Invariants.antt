@@ -1,6 +1,6 @@
 use Rattle.std.proofs.Common.{◌≡◌, ◌*◌, ◌+◌, take}
 use Rattle.pli_map.specs.Description as tree
-use Rattle.pli_map.specs.Sizes.{end_behind}
+use Rattle.pli_map.specs.Sizes.{end_after}
 use Rattle.pli_map.specs.Values.{first_values_of}
 use Rattle.pli_map.specs.views.DescriptionView.{description_view, members_view}
 use Rattle.pli_map.proofs.ScalarPlaces.{nodes, nodes_among}
@@ -23,7 +23,7 @@ invariant-lay_first_members-loop-member l =
     record {
       laid : LaidAt l.at (tree.Structure (members_view (take l.member-index l.members)))
           (first_values_of (members_view (take l.member-index l.members))) l.fn.bytes l.bytes;
-      end : l.end ≡ end_behind 0 (members_view (take l.member-index l.members));
+      end : l.end ≡ end_after 0 (members_view (take l.member-index l.members));
     }
 
 -- the elements so far are laid

@@ -1,6 +1,6 @@
 use Rattle.std.proofs.Common.{◌≡◌, ◌*◌, ◌+◌, take, map}
 use Rattle.pli_map.specs.Description as tree
-use Rattle.pli_map.specs.Sizes.{end_behind}
+use Rattle.pli_map.specs.Sizes.{end_after}
 use Rattle.pli_map.specs.views.DescriptionView.{description_view, members_view}
 use Rattle.pli_map.proofs.ScalarPlaces.{nodes, nodes_among}
 use Rattle.pli_value.specs.Value.{value_view}
@@ -22,7 +22,7 @@ abbrev pub invariant-lay_members-loop-member : goal.invariant-lay_members-loop-m
 invariant-lay_members-loop-member l =
     record {
       front : LaidFront l.at (tree.Structure (members_view (take l.member-index l.members))) (map value_view l.values) (map value_view l.left) l.fn.bytes l.bytes;
-      end : l.end ≡ end_behind 0 (members_view (take l.member-index l.members));
+      end : l.end ≡ end_after 0 (members_view (take l.member-index l.members));
     }
 
 -- the elements so far are laid

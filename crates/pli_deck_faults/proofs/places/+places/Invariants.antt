@@ -1,5 +1,5 @@
 use Rattle.std.proofs.Common.{◌≡◌, ◌++◌, map, drop}
-use Rattle.pli_map.specs.Sizes.{end_behind}
+use Rattle.pli_map.specs.Sizes.{end_after}
 use Rattle.pli_map.specs.views.DescriptionView.{members_view}
 use Rattle.pli_deck_faults.specs.Places.{places_view, starts_from, ends_from}
 use Rattle.pli_deck_faults.proofs.PlacesMade.{listed_places}
@@ -11,7 +11,7 @@ invariant-places_among-loop-member l =
     let left = members_view (drop l.member-index l.members) in
     let all = members_view l.members in
     record {
-      end : end_behind l.at left ≡ end_behind 0 all;
+      end : end_after l.at left ≡ end_after 0 all;
       starts_are : l.starts.items ++ starts_from l.at left ≡ starts_from 0 all;
       ends_are : l.ends.items ++ ends_from l.at left ≡ ends_from 0 all;
       inner_are : map places_view l.inner.items ++ listed_places left ≡ listed_places all;

@@ -1,7 +1,7 @@
 use Rattle.std.proofs.Common.{◌-◌, ◌<◌, ◌≤◌, length, get_or}
 use Rattle.pli_deck_faults.proofs.places.first_over.Given as goal
 
--- those before low end at the offset or before it, and that at high behind it
+-- those before low end at the offset or before it, and that at high after it
 abbrev pub invariant-loop-low : goal.invariant-loop-low
 invariant-loop-low l =
     record {

@@ -5,7 +5,7 @@ use Rattle.pli_deck_write.specs.Descriptions.{description_within}
 use Rattle.pli_deck_read.proofs.LoopLemmas.{with_front}
 use Rattle.pli_deck_read.proofs.described.+description.Given as goal
 
--- each call is of fewer levels, or of the same with a lesser number behind the product
+-- each call is of fewer levels, or of the same with a lesser number after the product
 abbrev pub decreases-description_at : goal.decreases-description_at
 decreases-description_at l = 4 * l.levels
 

@@ -17,7 +17,7 @@ loop-preserved g c =
     let read = (g.R.ReadsOne.field c.args.reader.now).read in
     let n = c.in_ok-value.value in
     let e : map say c.push.new.self.items ≡ map say c.loop.values.items ++ say n ∷ [] = rw c.in_ok-push.ensures.items (map_push _ c.loop.values.items n) in
-    rw e (goes_on read (map say c.loop.values.items) c.args.count c.loop.counter c.loop.rest.now (say n) c.in_ok-value.behind.now (many read c.args.count c.args.bytes.now) c.loop-test.true c.in_ok-value.ensures c.loop.invariant)
+    rw e (goes_on read (map say c.loop.values.items) c.args.count c.loop.counter c.loop.rest.now (say n) c.in_ok-value.after.now (many read c.args.count c.args.bytes.now) c.loop-test.true c.in_ok-value.ensures c.loop.invariant)
 
 pub returns : goal.returns
 returns g c =

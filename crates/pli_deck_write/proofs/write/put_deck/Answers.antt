@@ -14,7 +14,7 @@ returns c =
     let said = deck_view c.args.deck.now in
     let magic = 80 ∷ 76 ∷ 73 ∷ 68 ∷ [] in
     let version = version_number said.version ∷ [] in
-    let behind = (contents said.version).bytes_of (deck_parts said).1 in
+    let after = (contents said.version).bytes_of (deck_parts said).1 in
     let first = then_put out _ _ magic version (magic ++ version) c.in_ok-put_bytes.ensures.put refl
     (c.in_ok-put_byte.ensures ∙ ap (λ n. c.put_bytes.new.out.items ++ n ∷ []) c.number.ensures) in
-    on_ok_weaker c.put_contents.result (then_put out _ _ (magic ++ version) behind (deck_bytes said) first refl) c.put_contents.ensures
+    on_ok_weaker c.put_contents.result (then_put out _ _ (magic ++ version) after (deck_bytes said) first refl) c.put_contents.ensures

@@ -4,7 +4,7 @@ use Rattle.pli_declare_outline.specs.views.OutlineView.{region_view, regions_vie
 use Rattle.pli_declare_outline.specs.declared.region.Region.{Region as Written}
 use Rattle.pli_declare_outline.specs.declared.region.RegionKind.TheVariants as kinds
 use Rattle.pli_declare_constructs.specs.Regions.{innermost, outside}
-use Rattle.pli_declare_constructs.proofs.BlocksAround.{told_block, told_other, told, told_all, next_before, next_behind, next_none}
+use Rattle.pli_declare_constructs.proofs.BlocksAround.{told_block, told_other, told, told_all, next_before, next_after, next_none}
 use Rattle.pli_declare_constructs.proofs.nesting.blocks_of.Goals as goal
 use Rattle.pli_declare_constructs.proofs.nesting.blocks_of.Goals.{then-is_block, else-is_block+in-Some, else-is_block+in_default-2, else-is_block+in_default}
 
@@ -29,7 +29,7 @@ loop-region-preserved c =
           let within : w.in-Some.outer < length blocks = omega (arith, before, c.loop-region.invariant.count) in
           w.block-is ∙ w.index.ensures ∙ get_or_default blocks w.in-Some.outer w.index.result.now None within ∙ c.loop-region.invariant.each w.in-Some.outer before
           ∙ sym (next_before rs i region.outer w.in-Some.outer w.in-Some.is before) ∙ sym (told_other rs i lt region is (sym c.is_block.ensures ∙ w.if-is_block.false)))
-      | else-is_block+in_default-2 w ↦ w.block-is ∙ sym (next_behind rs i region.outer w.in-Some.outer w.in-Some.is (omega (arith, number, w.if-outer-number.false)))
+      | else-is_block+in_default-2 w ↦ w.block-is ∙ sym (next_after rs i region.outer w.in-Some.outer w.in-Some.is (omega (arith, number, w.if-outer-number.false)))
           ∙ sym (told_other rs i lt region is (sym c.is_block.ensures ∙ w.if-is_block.false))
       | else-is_block+in_default w ↦ w.block-is ∙ sym (next_none rs i region.outer w.in_default.is) ∙ sym (told_other rs i lt region is (sym c.is_block.ensures ∙ w.if-is_block.false))
     ] in

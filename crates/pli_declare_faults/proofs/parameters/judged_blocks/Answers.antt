@@ -3,7 +3,7 @@ use Rattle.std.proofs.lemmas.List.{get_or-map, length-map, map-append}
 use Rattle.pli_declare_outline.specs.views.OutlineView.{outline_view}
 use Rattle.pli_declare_tables.specs.Tables.{entries_in, numbers_from}
 use Rattle.pli_declare_tables.specs.views.TableView.{entries_view}
-use Rattle.pli_declare_tables.specs.answers.Answers.{AreBehindOwners}
+use Rattle.pli_declare_tables.specs.answers.Answers.{AreAfterOwners}
 use Rattle.pli_declare_variables.specs.Judging.{all_judged}
 use Rattle.pli_declare.specs.Resolution.{parameters_of}
 use Rattle.pli_declare_faults.proofs.NumberLists.{number_at, length_of_numbers, one_more}
@@ -19,7 +19,7 @@ judge-requires c =
     let same = c.deref-table-items.ensures.value in
     let lt : n < length all = omega (arith, ap length same) in
     let e = table_at all o n x c.requires.tabled.blocks lt (c.table-item.is ∙ ap (λ ts. get_or ts n x) same) in
-    subst AreBehindOwners (sym (ap entries_view c.deref.ensures.value ∙ ap (λ t. t.entries) e)) (c.owners_stand_before.ensures o n)
+    subst AreAfterOwners (sym (ap entries_view c.deref.ensures.value ∙ ap (λ t. t.entries) e)) (c.owners_stand_before.ensures o n)
 
 pub loop-block-preserved : goal.loop-block-preserved
 loop-block-preserved c =

@@ -3,7 +3,7 @@ use Rattle.std.proofs.lemmas.List.{length-map}
 use Rattle.pli_declare_outline.specs.views.OutlineView.{outline_view, region_view}
 use Rattle.pli_declare_tables.specs.Tables.{entries_in}
 use Rattle.pli_declare_tables.specs.views.TableView.{entries_view}
-use Rattle.pli_declare_tables.specs.answers.Answers.{AreBehindOwners}
+use Rattle.pli_declare_tables.specs.answers.Answers.{AreAfterOwners}
 use Rattle.pli_declare_variables.specs.Declarations.{AreGood, declared_in}
 use Rattle.pli_declare_variables.specs.views.DeclarationView.{declaration_view}
 use Rattle.pli_declare.specs.Resolution.{parameters_of}
@@ -40,7 +40,7 @@ declare-requires-clause-owners c =
     let within : n < length o.regions = omega (arith, c.requires.within, length-map c.args.outline.now.regions.items region_view) in
     let e : entries_view c.deref.result.now ≡ entries_in o n =
     ap entries_view c.deref.ensures.value ∙ entries_are c.args.tables.now.blocks.items o n c.index.result.now c.requires.tabled.blocks within c.index.ensures in
-    subst AreBehindOwners (sym e) (c.owners_stand_before.ensures o n)
+    subst AreAfterOwners (sym e) (c.owners_stand_before.ensures o n)
 
 pub declare-requires-clause-good : goal.declare-requires-clause-good
 declare-requires-clause-good c =

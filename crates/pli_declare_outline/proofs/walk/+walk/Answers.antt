@@ -41,8 +41,8 @@ walk_region-returns t c =
     (region_then c.args.region c.len-number.result (regions_among ss) c.args.regions.now.items _ _ _ _ (λ n m. statements_regions n m ss) (λ n m. statements_marks n m ss) (c.len-number.ensures ∙ c.args.regions.now.ok.0) c.in_ok-push.ensures.items)
     c.walk_statements.ensures
 
-pub walk_unit-returns : goal.walk_unit-returns
-walk_unit-returns t c =
+pub walk_on_unit-returns : goal.walk_on_unit-returns
+walk_on_unit-returns t c =
     let s = statement_view c.args.statement.now in
     on_ok_weaker
     c.walk_statement.result
@@ -118,8 +118,8 @@ pub walk_body-returns-in-On : goal.walk_body-returns-in-On
 walk_body-returns-in-On t c =
     let b = c.in-On in
     on_ok_weaker
-    c.walk_unit.result
+    c.walk_on_unit.result
     (unit_walked c.args.here c.len.result b.condition _ _ _ _ _ _ _
     (ap body_view b.is ∙ on_made b.condition b.unit ∙ ap (λ s. tree.On b.condition (statement_view s)) (sym c.deref-in-On.ensures))
     c.in_ok-mark_head.ensures)
-    c.walk_unit.ensures
+    c.walk_on_unit.ensures

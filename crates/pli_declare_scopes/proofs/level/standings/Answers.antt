@@ -10,7 +10,7 @@ loop-number-preserved c =
     let n = c.loop-number.number in
     let level = c.unwrap_or-level.result in
     let done = c.loop-number.standings.items in
-    let stands : c.standing_behind.result ≡ standing level (nearest level before) = c.standing_behind.ensures ∙ ap (standing level) c.nearest_among-nearest.ensures.found in
+    let stands : c.standing_after.result ≡ standing level (nearest level before) = c.standing_after.ensures ∙ ap (standing level) c.nearest_among-nearest.ensures.found in
     ap (λ is. c.push.new.self.items ++ standings_after is (n + 1) (map level_of (drop (n + 1) c.args.levels.now))) c.in_ok-push-2.ensures.items
     ∙ ap (λ ss. ss ++ standings_after (after ++ record { number = n; level = level } ∷ []) (n + 1) (map level_of (drop (n + 1) c.args.levels.now)))
     (c.in_ok-push.ensures.items ∙ ap (λ s. done ++ s ∷ []) stands)

@@ -18,7 +18,7 @@ loop-at-preserved c =
     let items = c.args.items.now in
     let n = c.in-Some.number in
     let stands : n < length items = subst (λ a. IfSome a (λ o. o < length items)) c.in-Some.is c.loop-at.invariant.0.here in
-    let over : (o : ℕ) → c.args.owner ≡ Some o → o < n = λ o f. subst (λ a. IfSome a (λ k. k < n)) f (c.is_up_to.ensures.behind c.if-is_up_to.false) in
+    let over : (o : ℕ) → c.args.owner ≡ Some o → o < n = λ o f. subst (λ a. IfSome a (λ k. k < n)) f (c.is_up_to.ensures.after c.if-is_up_to.false) in
     let now = set c.loop-at.lasts.items n (Some (length items - 1)) in (
       subst (λ o. Closing items c.args.lasts.now.items c.args.owner now o) (ap (λ j. j.owner) (sym (get_or_default items n c.index-items-number.result no_item stands)))
           (closing_on items c.args.lasts.now.items c.requires.all c.args.owner c.requires.owners c.loop-at.lasts.items c.loop-at.at n c.in-Some.is over c.loop-at.invariant.0

@@ -16,11 +16,11 @@ returns c =
     let before = c.args.before in
     let lasts = c.args.lasts.now.items in
     let tops = c.args.tops.now.items in
-    let now = c.close-is_behind.new.lasts.items in
+    let now = c.close-is_after.new.lasts.items in
     let within = noted_within items item before c.requires.before c.requires.none in
     let reaching = reaching_more items c.requires.owners lasts now tops c.args.is_ordered c.is_in_order.result c.requires.reaching item c.requires.owned before
-    c.requires.before within c.close-is_behind.result c.close-is_behind.ensures.closed
-    c.is_in_order.ensures.so_far c.is_in_order.ensures.behind c.is_in_order.ensures.counted (owners_added items item c.requires.owners c.requires.owned) in
+    c.requires.before within c.close-is_after.result c.close-is_after.ensures.closed
+    c.is_in_order.ensures.so_far c.is_in_order.ensures.after c.is_in_order.ensures.counted (owners_added items item c.requires.owners c.requires.owned) in
     let top : c.outermost-top.result ≡ outermost_of now tops before (length items) =
     c.outermost-top.ensures ∙ ap (λ ls. outermost_of ls c.deref-2.result.now before (length items)) c.deref.ensures.value
     ∙ ap (λ ts. outermost_of now ts before (length items)) c.deref-2.ensures.value in

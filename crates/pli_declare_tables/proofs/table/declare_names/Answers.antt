@@ -11,7 +11,7 @@ use Rattle.pli_declare_scopes.specs.contracts.repeat.Verdict.{the_type}
 use Rattle.pli_declare_tables.specs.Tables.{with_verdicts}
 use Rattle.pli_declare_tables.specs.views.TableView.{entries_view}
 use Rattle.pli_declare_tables.specs.declared.entry.Entry.{Entry}
-use Rattle.pli_declare_tables.proofs.MembersStandBehind.{Behind, owners_behind}
+use Rattle.pli_declare_tables.proofs.MembersStandAfter.{After, owners_after}
 use Rattle.pli_declare_tables.proofs.BlocksByMarks.{none_left}
 use Rattle.pli_declare_tables.proofs.table.declare_names.Goals as goal
 
@@ -24,8 +24,8 @@ loop-entry-init c =
     record {
       block = ap (λ (b : BlockItems). b ++ with_verdicts (entries_view left) given) c.requires.empty ∙ ap (λ es. with_verdicts (entries_view es) given) first
           ∙ ap (with_verdicts (entries_view c.args.entries.now)) second;
-      behind = subst (λ (es : List Entry). Behind (length c.args.block.now) (entries_view es)) (sym first)
-          (subst (λ (b : BlockItems). Behind (length b) (entries_view c.args.entries.now)) (sym c.requires.empty) (owners_behind (entries_view c.args.entries.now) c.requires.behind));
+      after = subst (λ (es : List Entry). After (length c.args.block.now) (entries_view es)) (sym first)
+          (subst (λ (b : BlockItems). After (length b) (entries_view c.args.entries.now)) (sym c.requires.empty) (owners_after (entries_view c.args.entries.now) c.requires.after));
     }
 
 pub returns : goal.returns
@@ -60,11 +60,11 @@ one_more before after whole left rest given others e v counts l g k made all =
     ∙ ap (λ (vs : List Verdict). before ++ with_verdicts (entries_view left) vs) (sym g)
     ∙ all
 
-behind_it : (before after : BlockItems) (left rest : List Entry) (e : Entry) (item : Declared) → left ≡ e ∷ rest → after ≡ before ++ item ∷ []
-    → Behind (length before) (entries_view left) → Behind (length after) (entries_view rest)
-behind_it before after left rest e item l made h =
+after_it : (before after : BlockItems) (left rest : List Entry) (e : Entry) (item : Declared) → left ≡ e ∷ rest → after ≡ before ++ item ∷ []
+    → After (length before) (entries_view left) → After (length after) (entries_view rest)
+after_it before after left rest e item l made h =
     let longer : length after ≡ length before + 1 = ap (λ (b : BlockItems). length b) made ∙ length-append before (item ∷ []) in
-    subst (λ (n : ℕ). Behind n (entries_view rest)) (sym longer) (subst (λ (es : List Entry). Behind (length before) (entries_view es)) l h).1
+    subst (λ (n : ℕ). After n (entries_view rest)) (sym longer) (subst (λ (es : List Entry). After (length before) (entries_view es)) l h).1
 
 pub loop-entry-preserved : goal.loop-entry-preserved
 loop-entry-preserved c =
@@ -73,5 +73,5 @@ loop-entry-preserved c =
     let made = c.in_ok-declare.ensures.ok in
     record {
       block = one_more c.loop-entry.block c.declare.new.self _ _ _ _ _ c.in-Some.entry.now c.in-Some.verdict.now c.eq.result left given (c.eq.ensures ∙ said c.in-Some.verdict.now) made c.loop-entry.invariant.block;
-      behind = behind_it c.loop-entry.block c.declare.new.self _ _ c.in-Some.entry.now _ left made c.loop-entry.invariant.behind;
+      after = after_it c.loop-entry.block c.declare.new.self _ _ c.in-Some.entry.now _ left made c.loop-entry.invariant.after;
     }

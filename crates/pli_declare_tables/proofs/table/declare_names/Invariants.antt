@@ -3,7 +3,7 @@ use Rattle.std.specs.Iterator.Adapters.{zip_first, zip_second}
 use Rattle.std.specs.Slice.Iter.{iter_rest}
 use Rattle.pli_declare_tables.specs.Tables.{with_verdicts}
 use Rattle.pli_declare_tables.specs.views.TableView.{entries_view}
-use Rattle.pli_declare_tables.proofs.MembersStandBehind.{Behind}
+use Rattle.pli_declare_tables.proofs.MembersStandAfter.{After}
 use Rattle.pli_declare_tables.proofs.table.declare_names.Given as goal
 
 -- the block so far, and what is left of its names
@@ -13,5 +13,5 @@ invariant-loop-entry l =
     let verdicts = iter_rest (zip_second l.entry-iterator) in
     record {
       block : l.block ++ with_verdicts left verdicts ≡ with_verdicts (entries_view l.entries) l.verdicts;
-      behind : Behind (length l.block) left;
+      after : After (length l.block) left;
     }

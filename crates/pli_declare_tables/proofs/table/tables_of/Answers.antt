@@ -2,7 +2,7 @@ use Rattle.std.proofs.Common.{◌≡◌, suc, ◌++◌, ◌∷◌, List, [], map
 use Rattle.std.proofs.lemmas.List.{nil_from_length, map_push}
 use Rattle.pli_declare_tables.specs.Tables.{table_with}
 use Rattle.pli_declare_tables.specs.views.TableView.{table_view, blocks_view}
-use Rattle.pli_declare_tables.specs.answers.Answers.{AllBehindOwners}
+use Rattle.pli_declare_tables.specs.answers.Answers.{AllAfterOwners}
 use Rattle.pli_declare_tables.specs.declared.entry.Entry.{Entry}
 use Rattle.pli_declare_tables.specs.declared.table.Table.{Table}
 use Rattle.pli_declare_tables.proofs.table.tables_of.Goals as goal
@@ -13,12 +13,12 @@ loop-entries-init c =
     let rest = c.into_iter-entries-iterator.result.rest.items in
     record {
       tables = ap (λ (ts : List Table). map table_view ts ++ map table_with (blocks_view rest)) c.new-tables.ensures.items ∙ ap (λ bs. map table_with (blocks_view bs)) all;
-      behind = subst (λ (bs : List (Vec Entry Global)). AllBehindOwners (blocks_view bs)) (sym all) c.requires;
+      after = subst (λ (bs : List (Vec Entry Global)). AllAfterOwners (blocks_view bs)) (sym all) c.requires;
     }
 
 pub new-requires : goal.new-requires
 new-requires c =
-    let left = subst (λ (bs : List (Vec Entry Global)). AllBehindOwners (blocks_view bs)) c.in-Some.ensures.steps.0 c.loop-entries.invariant.behind in
+    let left = subst (λ (bs : List (Vec Entry Global)). AllAfterOwners (blocks_view bs)) c.in-Some.ensures.steps.0 c.loop-entries.invariant.after in
     left 0 (omega arith)
 
 pub loop-entries-preserved : goal.loop-entries-preserved
@@ -27,7 +27,7 @@ loop-entries-preserved c =
     let done = c.loop-entries.tables.items in
     let table = c.in_ok-new.field-0 in
     let rest = map table_with (blocks_view c.next.new.self.rest.items) in
-    let left = subst (λ (bs : List (Vec Entry Global)). AllBehindOwners (blocks_view bs)) steps c.loop-entries.invariant.behind in
+    let left = subst (λ (bs : List (Vec Entry Global)). AllAfterOwners (blocks_view bs)) steps c.loop-entries.invariant.after in
     record {
       tables = ap (λ (ts : List Table). map table_view ts ++ rest) c.in_ok-push.ensures.items
           ∙ ap (λ ts. ts ++ rest) (map_push table_view done table)
@@ -35,7 +35,7 @@ loop-entries-preserved c =
           ∙ ap (λ t. map table_view done ++ t ∷ rest) c.in_ok-new.ensures
           ∙ sym (ap (λ bs. map table_view done ++ map table_with (blocks_view bs)) steps)
           ∙ c.loop-entries.invariant.tables;
-      behind = λ n lt. left (suc n) (omega (arith, lt));
+      after = λ n lt. left (suc n) (omega (arith, lt));
     }
 
 pub returns : goal.returns

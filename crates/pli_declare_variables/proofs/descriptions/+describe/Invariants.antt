@@ -5,7 +5,7 @@ use Rattle.pli_declare_variables.specs.Descriptions.{described, members_made}
 use Rattle.pli_declare_variables.proofs.DescriptionLemmas.{in_front}
 use Rattle.pli_declare_variables.proofs.descriptions.+describe.Given as goal
 
--- members stand behind their owner
+-- members stand after their owner
 abbrev pub decreases-describe : goal.decreases-describe
 decreases-describe l = 2 * (length l.entries.now - l.number) + 1
 

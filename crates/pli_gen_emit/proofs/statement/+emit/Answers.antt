@@ -44,7 +44,7 @@ emit_form-returns-in-None t c =
     emits_as old c.land_test.new.self _ _
     (one_way_emitted old c.emit_value.new.code jumping done c.land_test.new.self test (statement_code part) c.emit_value.ensures c.jump_unless.ensures
     (emits_as jumping done _ _ c.emit_statement.ensures (ap (λ s. statement_code (statement_view s) (length jumping.code.items)) c.deref.ensures))
-    (lands_as done c.land_test.new.self _ _ _ _ coded.JumpUnless c.land_test.ensures c.place-test.ensures c.place-behind.ensures))
+    (lands_as done c.land_test.new.self _ _ _ _ coded.JumpUnless c.land_test.ensures c.place-test.ensures c.place-after.ensures))
     (sym (ap (λ f. form_code c.args.number f at)
     (ap form_view b.is ∙ if_made b.condition b.consequence b.alternative ∙ ap (λ a. plain.If (expression_view b.condition) part (boxed_view a)) c.in-None.is)))
 
@@ -68,7 +68,7 @@ emit_form-returns-in-Some t c =
     c.jump.ensures
     (lands_as over put _ _ _ _ coded.JumpUnless c.land_test-in-Some.ensures c.place-test.ensures c.place-part.ensures)
     (emits_as put last _ _ c.emit_statement-in-Some.ensures (ap (λ s. statement_code (statement_view s) (length put.code.items)) c.deref-in-Some.ensures))
-    (lands_as last all _ _ _ _ coded.Jump c.land_jump.ensures c.place-over.ensures c.place-behind-in-Some.ensures))
+    (lands_as last all _ _ _ _ coded.Jump c.land_jump.ensures c.place-over.ensures c.place-after-in-Some.ensures))
     (sym (ap (λ f. form_code c.args.number f at)
     (ap form_view b.is ∙ if_made b.condition b.consequence b.alternative ∙ ap (λ a. plain.If (expression_view b.condition) part (boxed_view a)) c.in-Some.is)))
 
@@ -98,7 +98,7 @@ emit_form-returns-in-While t c =
     c.emit.ensures c.emit_value-in-While.ensures c.jump_unless-in-While.ensures c.emit-in-While.ensures
     (emits_as stepping done _ _ c.emit_list-in-While.ensures (ap (λ ss. list_code (statements_view ss) (length stepping.code.items)) c.as_slice-in-While.ensures.value))
     (emits_as done back _ _ c.jump-in-While.ensures (ap (λ n. op.Jump n ∷ []) c.place-turn.ensures))
-    (lands_as back all _ _ _ _ coded.JumpUnless c.land_test-in-While.ensures c.place-test-in-While.ensures c.place-behind-in-While.ensures))
+    (lands_as back all _ _ _ _ coded.JumpUnless c.land_test-in-While.ensures c.place-test-in-While.ensures c.place-after-in-While.ensures))
     (sym (ap (λ f. form_code c.args.number f at) (ap form_view b.is ∙ while_made b.condition b.statements)))
 
 pub emit_form-returns-in-Iterate : goal.emit_form-returns-in-Iterate

@@ -1,5 +1,5 @@
 use Rattle.std.proofs.Common.{◌≡◌, ◌+◌, false, eqb, ◌&&◌, get_or, sym, arith}
-use Rattle.pli_lex.proofs.ClosingFound.{closes_here, closes_behind, closes_nowhere, not_both, not_first}
+use Rattle.pli_lex.proofs.ClosingFound.{closes_here, closes_after, closes_nowhere, not_both, not_first}
 use Rattle.pli_lex.proofs.piece.closing_width.Goals as goal
 use Rattle.pli_lex.proofs.piece.closing_width.Goals.{else-text-at-eq42-via-then-text-at-eq42+else-text-at-eq47, else-text-at-eq42-via-else-text-at-eq42}
 
@@ -14,7 +14,7 @@ loop-at-preserved c =
       | else-text-at-eq42-via-then-text-at-eq42+else-text-at-eq47 w ↦ not_both _ _ w.if-text-at-eq47.false
       | else-text-at-eq42-via-else-text-at-eq42 w ↦ not_first _ _ w.if-text-at-eq42.false
     ] in
-    record { within = omega arith; first = closes_behind text c.loop-at.at c.loop-at-test.true not_here c.loop-at.invariant.first }
+    record { within = omega arith; first = closes_after text c.loop-at.at c.loop-at-test.true not_here c.loop-at.invariant.first }
 
 pub returns : goal.returns
 returns c = sym (closes_nowhere c.args.text.now c.loop-at.at c.loop-at-test.false c.loop-at.invariant.first)

@@ -5,7 +5,7 @@ use Rattle.pli_link.specs.ModuleSize.{all_own, shared_in}
 use Rattle.pli_link.specs.Names.{externals}
 use Rattle.pli_link.specs.answers.Counting.{counted, if_counted}
 use Rattle.pli_link.specs.answers.Tables.{units_in}
-use Rattle.pli_link.proofs.ByteCountLemmas.{counted_behind}
+use Rattle.pli_link.proofs.ByteCountLemmas.{counted_after}
 use Rattle.pli_link.proofs.sizes.bytes_made.Goals as goal
 
 pub returns-in_err-with_all_own : goal.returns-in_err-with_all_own
@@ -14,7 +14,7 @@ returns-in_err-with_all_own c =
     let shared = flat_map shared_in (values_of (externals cs)) in
     c.from_residual.ensures
     ∙ ap (λ o. if_counted o (λ more. counted more shared)) (sym c.in_err-with_all_own.was ∙ c.with_all_own.ensures.counts)
-    ∙ sym (counted_behind 0 (all_own cs) shared)
+    ∙ sym (counted_after 0 (all_own cs) shared)
 
 pub returns : goal.returns
 returns c =
@@ -23,4 +23,4 @@ returns c =
     c.with_externals.ensures.counts
     ∙ ap (λ es. counted c.in_ok-with_all_own.field-0 (flat_map shared_in (values_of es))) c.requires.1
     ∙ ap (λ o. if_counted o (λ more. counted more shared)) (sym c.in_ok-with_all_own.was ∙ c.with_all_own.ensures.counts)
-    ∙ sym (counted_behind 0 (all_own cs) shared)
+    ∙ sym (counted_after 0 (all_own cs) shared)

@@ -11,7 +11,7 @@ pub returns-clause-freed : goal.returns-clause-freed
 returns-clause-freed c = proof.freed_is_dead
 
 pub returns-clause-allocating : goal.returns-clause-allocating
-returns-clause-allocating c = proof.ended_behind_allocating
+returns-clause-allocating c = proof.ended_after_allocating
 
 pub returns-clause-freeing : goal.returns-clause-freeing
-returns-clause-freeing c = proof.ended_behind_freeing
+returns-clause-freeing c = proof.ended_after_freeing

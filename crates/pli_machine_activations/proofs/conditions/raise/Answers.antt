@@ -13,13 +13,13 @@ pub returns-in-Some : goal.returns-in-Some
 returns-in-Some c =
     let m = c.args.machine.now in
     let image = image_of c.args.loaded.now in
-    IfOk-weaker c.run_unit.result _ _
+    IfOk-weaker c.run_on_unit.result _ _
     (λ stop moves put.
     ap
     (λ h. leads (raises (program_of image.linked) c.args.condition h (record (frame_view m.here) { again = c.args.again }) (frames_of m.waiting.items) (world_of image m put)) (left_of m))
     (c.find_handler.ensures image put ∙ ap (option_map handler_view) c.in-Some.is)
     ∙ moves image put)
-    c.run_unit.ensures
+    c.run_on_unit.ensures
 
 pub returns-in-None : goal.returns-in-None
 returns-in-None c = λ put.

@@ -15,15 +15,15 @@ returns-in_ok-push-in-Ok-2 c = λ image put.
     let m = c.args.machine.now in
     let frames = frames_of m.waiting.items in
     let ops = stack m.here.operands.items in
-    let behind = with_storage c.make_dummy.new.self (world_of image m put) in
+    let after = with_storage c.make_dummy.new.self (world_of image m put) in
     let left = left_of m in
     dummy_goes (description_view c.args.description.now) (value_view c.args.value) (place_view c.in-Ok.place)
     (OfValue (value_view c.args.value) ∷ ops) ops (frame_view m.here) frames (world_of image m put) _ left
     refl (c.in-Ok.ensures.made (world_of image m put))
     ∙ ap (λ ops. Running (At (with_operands ops (frame_view m.here)) frames
-    (record behind { activations = record (activation_view m.here) { pending = m.here.pending.items ++ c.in-Ok.place.generation ∷ [] } ∷ activations_of m.waiting.items }) left)) (sym c.in_ok-push-in-Ok-2.ensures)
+    (record after { activations = record (activation_view m.here) { pending = m.here.pending.items ++ c.in-Ok.place.generation ∷ [] } ∷ activations_of m.waiting.items }) left)) (sym c.in_ok-push-in-Ok-2.ensures)
     ∙ ap (λ ns. Running (At (with_operands (stack c.push-in-Ok.new.operands.items) (frame_view m.here)) frames
-    (record behind { activations = record (activation_view m.here) { pending = ns } ∷ activations_of m.waiting.items }) left)) (sym c.in_ok-push-in-Ok.ensures.items)
+    (record after { activations = record (activation_view m.here) { pending = ns } ∷ activations_of m.waiting.items }) left)) (sym c.in_ok-push-in-Ok.ensures.items)
 
 pub returns-in_ok-stop_at-in-Err : goal.returns-in_ok-stop_at-in-Err
 returns-in_ok-stop_at-in-Err c = λ image put.

@@ -5,7 +5,7 @@ use Rattle.pli_machine_loading.specs.answers.MadeGlobals.{AreKnown}
 use Rattle.pli_machine_loading.proofs.LinkedGlobals.{GlobalsSoFar}
 use Rattle.pli_machine_loading.proofs.linking.link_unit.Given as goal
 
--- the globals that are left are linked behind those so far as all are behind none
+-- the globals that are left are linked after those so far as all are after none
 abbrev pub invariant-loop-global : goal.invariant-loop-global
 invariant-loop-global l =
     (number : ℕ) (statics : List Static) (externals : List (ℕ × Standing)) → AreKnown l.initial.shared externals

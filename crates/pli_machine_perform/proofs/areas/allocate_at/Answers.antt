@@ -12,7 +12,7 @@ use Rattle.pli_world.specs.Storage.{Place}
 use Rattle.pli_machine_step.specs.Machine.{Operand, OfValue, At, again_at, allocates_in, handled, pushes, used_up, with_operands}
 use Rattle.pli_machine_operate.specs.views.OperandView.{stack, taken_operand}
 use Rattle.pli_machine_activations.specs.views.MachineView.{Running, leads, frame_view, frames_of, world_of, left_of}
-use Rattle.pli_machine_activations.specs.answers.Used.{behind_use}
+use Rattle.pli_machine_activations.specs.answers.Used.{after_use}
 use Rattle.pli_machine_activations.specs.views.ImageView.{image_of}
 use Rattle.pli_machine_perform.specs.views.HaltView.{halted, to_do_again}
 use Rattle.pli_machine_perform.proofs.HaltLemmas.{refused_halts, same_with}
@@ -52,16 +52,16 @@ returns-in_ok-push-in-Ok c = λ u put.
     let new = c.use_up.new.machine in
     let used = c.use_up.ensures in
     let value = OfValue (Located c.in-Ok.locator) in
-    let behind = with_storage c.make_block-made.new.storage w in
+    let later = with_storage c.make_block-made.new.storage w in
     ap (λ all. leads (allocates_in p v after all here frames w) left) c.in-Some.ensures
     ∙ ap (λ m. leads m left)
     (off_taken t ops w
     (λ (x : Operand) (area : Place) (ops : List Operand). handled p w (again_at after ops here) frames (used_up x (block_made area v w)) (λ v w. pushes here frames (OfValue v) ops w)))
     ∙ ap (λ q. leads (handled p w (again_at after ops here) frames (used_up x (block_made q v w)) (λ v w. pushes here frames (OfValue v) ops w)) left) (sym c.place.ensures)
     ∙ ap (λ a. leads (handled p w (again_at after ops here) frames a (λ v w. pushes here frames (OfValue v) ops w)) left)
-    (used_yields x (Located c.in-Ok.locator) behind _ (rw c.in-Ok.is at (c.make_block-made.ensures.answer w)))
-    ∙ ap (λ f. Running (At (with_operands (value ∷ f.operands) f) frames (behind_use x behind) left)) (sym used.here)
-    ∙ ap (λ fs. Running (At (with_operands (value ∷ stack new.here.operands.items) (frame_view new.here)) fs (behind_use x behind) left)) (sym used.frames)
+    (used_yields x (Located c.in-Ok.locator) later _ (rw c.in-Ok.is at (c.make_block-made.ensures.answer w)))
+    ∙ ap (λ f. Running (At (with_operands (value ∷ f.operands) f) frames (after_use x later) left)) (sym used.here)
+    ∙ ap (λ fs. Running (At (with_operands (value ∷ stack new.here.operands.items) (frame_view new.here)) fs (after_use x later) left)) (sym used.frames)
     ∙ ap (λ u. Running (At (with_operands (value ∷ stack new.here.operands.items) (frame_view new.here)) (frames_of new.waiting.items) u left)) (sym (used.world image put))
     ∙ ap (λ l. Running (At (with_operands (value ∷ stack new.here.operands.items) (frame_view new.here)) (frames_of new.waiting.items) (world_of image new put) l)) (sym used.left)
     ∙ ap (λ ops. Running (At (with_operands ops (frame_view new.here)) (frames_of new.waiting.items) (world_of image new put) (left_of new))) (sym c.in_ok-push-in-Ok.ensures)
@@ -85,7 +85,7 @@ returns-in_ok-halt-in-Err c =
     let new = c.use_up.new.machine in
     let used = c.use_up.ensures in
     let before = m.storage in
-    let behind = c.make_block-made.new.storage in
+    let later = c.make_block-made.new.storage in
     let wait = to_do_again after in
     let h = c.in_ok-halt-in-Err.halt in
     ap (λ all. leads (allocates_in p v after all here frames w) left) c.in-Some.ensures
@@ -93,12 +93,12 @@ returns-in_ok-halt-in-Err c =
     (off_taken t ops w
     (λ (x : Operand) (area : Place) (ops : List Operand). handled p w (again_at after ops here) frames (used_up x (block_made area v w)) (λ v w. pushes here frames (OfValue v) ops w)))
     ∙ ap (λ q. leads (handled p w (again_at after ops here) frames (used_up x (block_made q v w)) (λ v w. pushes here frames (OfValue v) ops w)) left) (sym c.place.ensures)
-    ∙ refused_halts p wait (with_operands ops here) frames left {T = Locator} (λ l. Located l) c.in-Err.fault h w (behind_use x (with_storage before w)) (behind_use x (with_storage behind w))
+    ∙ refused_halts p wait (with_operands ops here) frames left {T = Locator} (λ l. Located l) c.in-Err.fault h w (after_use x (with_storage before w)) (after_use x (with_storage later w))
     _ (λ v w. pushes here frames (OfValue v) ops w) c.in_ok-halt-in-Err.ensures (used_output x w) (used_column x w)
-    (used_refused x (λ l. Located l) c.in-Err.fault (with_storage before w) (with_storage behind w) _ (rw c.in-Err.is at (c.make_block-made.ensures.answer w)))
-    ∙ ap (λ u. halted p wait left (Some h) (with_operands ops here) frames (behind_use x u)) (same_with before behind w (rw c.in-Err.is at c.make_block-made.ensures.err))
-    ∙ ap (λ f. halted p wait left (Some h) f frames (behind_use x (with_storage behind w))) (sym used.here)
-    ∙ ap (λ fs. halted p wait left (Some h) (frame_view new.here) fs (behind_use x (with_storage behind w))) (sym used.frames)
+    (used_refused x (λ l. Located l) c.in-Err.fault (with_storage before w) (with_storage later w) _ (rw c.in-Err.is at (c.make_block-made.ensures.answer w)))
+    ∙ ap (λ u. halted p wait left (Some h) (with_operands ops here) frames (after_use x u)) (same_with before later w (rw c.in-Err.is at c.make_block-made.ensures.err))
+    ∙ ap (λ f. halted p wait left (Some h) f frames (after_use x (with_storage later w))) (sym used.here)
+    ∙ ap (λ fs. halted p wait left (Some h) (frame_view new.here) fs (after_use x (with_storage later w))) (sym used.frames)
     ∙ ap (λ u. halted p wait left (Some h) (frame_view new.here) (frames_of new.waiting.items) u) (sym (used.world image put))
     ∙ ap (λ l. halted p wait l (Some h) (frame_view new.here) (frames_of new.waiting.items) (world_of image new put)) (sym used.left)
     ∙ settles put)

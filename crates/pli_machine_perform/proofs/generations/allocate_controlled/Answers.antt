@@ -28,9 +28,9 @@ pub returns-in_ok-stop_at-in-Err : goal.returns-in_ok-stop_at-in-Err
 returns-in_ok-stop_at-in-Err c = λ u put.
     let m = c.args.machine.now in
     let w = world_of (image_of c.args.unit.now.loaded.now) m put in
-    let behind = with_stacks c.allocate_controlled.new.self (with_storage c.allocate_controlled.new.storage w) in
-    stacks_stop {T = Unit {0}} (λ _. tt) c.in-Err.fault c.in_ok-stop_at-in-Err.field-0 c.allocate_controlled.new.self c.allocate_controlled.new.storage w behind
+    let after = with_stacks c.allocate_controlled.new.self (with_storage c.allocate_controlled.new.storage w) in
+    stacks_stop {T = Unit {0}} (λ _. tt) c.in-Err.fault c.in_ok-stop_at-in-Err.field-0 c.allocate_controlled.new.self c.allocate_controlled.new.storage w after
     (generation_stacked c.args.global w)
     (λ _ w. Goes (frame_view m.here) (frames_of m.waiting.items) w) (frame_view m.here) (frames_of m.waiting.items) (left_of m) c.in_ok-stop_at-in-Err.ensures
-    (subst (λ a. Answered {T = Unit {0}} (λ _. tt) (Err c.in-Err.fault) w behind a)
+    (subst (λ a. Answered {T = Unit {0}} (λ _. tt) (Err c.in-Err.fault) w after a)
     (sym (stacked_by_name c.args.global c.in-Some.stack w (c.in-Some.ensures put))) (c.in-Err.ensures.answer w))

@@ -3,7 +3,7 @@ use Rattle.std.specs.Int.{next_multiple_of}
 use Rattle.pli_map.specs.Scalars.{scalars_in, first_scalar}
 use Rattle.pli_map.specs.Sizes.{count_of, stride_of}
 use Rattle.pli_map.specs.views.DescriptionView.{description_view}
-use Rattle.pli_map.proofs.FoundScalars.{found_here, behind_member, none_before_member, none_in_member, some_in_member, quotient_is, no_element, none_in_element, some_in_element}
+use Rattle.pli_map.proofs.FoundScalars.{found_here, after_member, none_before_member, none_in_member, some_in_member, quotient_is, no_element, none_in_element, some_in_element}
 use Rattle.pli_map.proofs.Members.{next_member}
 use Rattle.pli_map.proofs.scalars.+first_scalar.Goals as goal
 
@@ -14,7 +14,7 @@ scalar_of_member-loop-member-preserved t c =
     let start = c.aligned-start.ensures.value ∙ ap (λ n. next_multiple_of l.at n) (c.from.ensures ∙ c.alignment.ensures.value) in
     let before : c.saturating_add-before.result ≡ min (l.before + c.scalars_in.result) 18446744073709551615 = c.saturating_add-before.ensures in
     record {
-      whole = behind_member 18446744073709551615 _ l.at l.before c.args.offset _ _ (description_view c.member-item.result) (description_view c.args.part.now)
+      whole = after_member 18446744073709551615 _ l.at l.before c.args.offset _ _ (description_view c.member-item.result) (description_view c.args.part.now)
           c.aligned-start.result left start l.invariant.whole c.far_size.result c.saturating_add-before.result c.far_size.ensures (omega arith)
           (omega arith) (before ∙ ap (λ n. min (l.before + n) 18446744073709551615) c.scalars_in.ensures);
       near = omega arith;

@@ -3,10 +3,10 @@ use Rattle.std.specs.Int.{next_multiple_of}
 use Rattle.pli_map.specs.views.DescriptionView.{description_view, members_view}
 use Rattle.pli_map.proofs.Members.{next_member}
 use Rattle.pli_map.proofs.ScalarPlaces.{start_of}
-use Rattle.pli_map.proofs.ScalarsAmong.{found_among, some_behind, some_first}
+use Rattle.pli_map.proofs.ScalarsAmong.{found_among, some_after, some_first}
 use Rattle.pli_map.proofs.scalars.stands_among.Goals as goal
 
--- behind a scalar that ends before the offset what is left is looked through
+-- after a scalar that ends before the offset what is left is looked through
 pub loop-member-preserved : goal.loop-member-preserved
 loop-member-preserved c =
     let l = c.loop-member in
@@ -15,7 +15,7 @@ loop-member-preserved c =
     let start : c.aligned-start.result ≡ start_of l.at d = c.aligned-start.ensures.value ∙ ap (next_multiple_of l.at) c.in-Some.ensures.alignment in
     record {
       found = λ e. l.invariant.found
-          (some_behind l.at d _ _ c.args.offset (description_view c.args.part.now) left _ (omega (arith, start, c.in-Some.ensures.size)) e);
+          (some_after l.at d _ _ c.args.offset (description_view c.args.part.now) left _ (omega (arith, start, c.in-Some.ensures.size)) e);
       near = omega arith;
     }
 

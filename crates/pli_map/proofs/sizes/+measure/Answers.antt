@@ -1,6 +1,6 @@
 use Rattle.std.proofs.Common.{◌≡◌, ◌<◌, ◌+◌, ap, arith}
 use Rattle.std.specs.Int.{next_multiple_of}
-use Rattle.pli_map.specs.Sizes.{size_of, alignment_of, end_behind}
+use Rattle.pli_map.specs.Sizes.{size_of, alignment_of, end_after}
 use Rattle.pli_map.specs.views.DescriptionView.{description_view, members_view}
 use Rattle.pli_map.proofs.Alignments.{members_positive}
 use Rattle.pli_map.proofs.Members.{alignment_by_member, end_by_member, over_by_member, next_member}
@@ -9,7 +9,7 @@ use Rattle.pli_map.proofs.sizes.+measure.Goals as goal
 pub measure_members-loop-member-init : goal.measure_members-loop-member-init
 measure_members-loop-member-init t c =
     let positive = members_positive (members_view c.args.members.now) in
-    record { end = ap (λ n. end_behind n (members_view c.args.members.now)) c.empty-whole.ensures.bytes; alignment = omega (arith, c.empty-whole.ensures.alignment); in_limit = omega arith; positive = omega arith; small = omega arith }
+    record { end = ap (λ n. end_after n (members_view c.args.members.now)) c.empty-whole.ensures.bytes; alignment = omega (arith, c.empty-whole.ensures.alignment); in_limit = omega arith; positive = omega arith; small = omega arith }
 
 pub measure_members-returns-in_err-measure : goal.measure_members-returns-in_err-measure
 measure_members-returns-in_err-measure t c =

@@ -136,8 +136,8 @@ returns-clause-second_takes_place c = conditions.second_takes_place
 pub returns-clause-names_are_of_on : goal.returns-clause-names_are_of_on
 returns-clause-names_are_of_on c = conditions.names_are_of_on
 
-pub returns-clause-zero_stands_behind : goal.returns-clause-zero_stands_behind
-returns-clause-zero_stands_behind c = conditions.zero_stands_behind
+pub returns-clause-zero_stands_after : goal.returns-clause-zero_stands_after
+returns-clause-zero_stands_after c = conditions.zero_stands_after
 
 pub returns-clause-zero_divide_unit : goal.returns-clause-zero_divide_unit
 returns-clause-zero_divide_unit c = conditions.zero_divide_unit

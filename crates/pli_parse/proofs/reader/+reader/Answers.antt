@@ -27,7 +27,7 @@ do_at-returns-clause-numbers t c = rw (c.front.ensures, list_made c.in-Ok-list_i
 pub if_at-returns-in-Err-alternative_at-clause-value : goal.if_at-returns-in-Err-alternative_at-clause-value
 if_at-returns-in-Err-alternative_at-clause-value t c =
     let first = c.in-Ok-statement_at.first in
-    alternative_fails (inside_at c.args.levels) (context_view c.args.context) c.args.at c.args.number first.value.count c.args.texts.now c.in-Ok.behind.now
+    alternative_fails (inside_at c.args.levels) (context_view c.args.context) c.args.at c.args.number first.value.count c.args.texts.now c.in-Ok.after.now
     (front_view expression_view c.in_ok-condition.condition) (front_view (tree_view statement_view) first) c.in-Err-alternative_at.error
     c.in_ok-condition.ensures.value c.in-Ok.ensures.value c.in-Ok-statement_at.ensures.value c.in-Ok-statement_at.ensures.numbers c.in-Err-alternative_at.ensures.value
 
@@ -35,20 +35,20 @@ pub list_in-returns-in_err-ended-in-EndsHere-clause-value : goal.list_in-returns
 list_in-returns-in_err-ended-in-EndsHere-clause-value t c =
     let l = c.loop-statements in
     let p = err_from_is_err_and c.from_residual-in_err-ended-in-EndsHere.result c.from_residual-in_err-ended-in-EndsHere.ensures.1 in
-    let next : next_of l.rest.now ≡ EndsHere c.in-EndsHere.behind.now = sym c.next_of.ensures.value ∙ ap next_view c.in-EndsHere.is in
+    let next : next_of l.rest.now ≡ EndsHere c.in-EndsHere.after.now = sym c.next_of.ensures.value ∙ ap next_view c.in-EndsHere.is in
     rw (p.1, p.2)
     (end_fails (statement_at c.args.levels) (context_view c.args.context) c.args.label.now l.statements.items l.next l.count l.rest.now
     (list_in (inside_at c.args.levels) (context_view c.args.context) c.args.label.now c.args.at c.args.number c.args.texts.now)
-    c.in-EndsHere.behind.now c.in_err-ended-in-EndsHere.field-0.0 next c.in_err-ended-in-EndsHere.ensures.value l.invariant.value)
+    c.in-EndsHere.after.now c.in_err-ended-in-EndsHere.field-0.0 next c.in_err-ended-in-EndsHere.ensures.value l.invariant.value)
 
 pub list_in-returns-in-EndsHere-clause-value : goal.list_in-returns-in-EndsHere-clause-value
 list_in-returns-in-EndsHere-clause-value t c =
     let l = c.loop-statements in
-    let next : next_of l.rest.now ≡ EndsHere c.in-EndsHere.behind.now = sym c.next_of.ensures.value ∙ ap next_view c.in-EndsHere.is in
+    let next : next_of l.rest.now ≡ EndsHere c.in-EndsHere.after.now = sym c.next_of.ensures.value ∙ ap next_view c.in-EndsHere.is in
     rw c.front.ensures
     (ends (statement_at c.args.levels) (context_view c.args.context) c.args.label.now l.statements.items l.next l.count l.rest.now
     (list_in (inside_at c.args.levels) (context_view c.args.context) c.args.label.now c.args.at c.args.number c.args.texts.now)
-    c.in-EndsHere.behind.now c.in_ok-ended-in-EndsHere.ended.next c.in_ok-ended-in-EndsHere.ended.rest.now next c.in_ok-ended-in-EndsHere.ensures.value l.invariant.value)
+    c.in-EndsHere.after.now c.in_ok-ended-in-EndsHere.ended.next c.in_ok-ended-in-EndsHere.ended.rest.now next c.in_ok-ended-in-EndsHere.ensures.value l.invariant.value)
 
 pub list_in-returns-in_err-read-in-Another-clause-value : goal.list_in-returns-in_err-read-in-Another-clause-value
 list_in-returns-in_err-read-in-Another-clause-value t c =

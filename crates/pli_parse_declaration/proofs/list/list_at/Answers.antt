@@ -22,7 +22,7 @@ loop-values-preserved g c =
     record {
       value = rw (e, c.in-Some.ensures.next) (goes_on c.args.separator one (map tree c.loop-values.values.items) c.loop-values.next c.loop-values.rest.now
           (list_at c.args.separator one c.args.at c.args.texts.now)
-          (front_view tree c.in_ok-read.read) c.in-Some.behind.rest.now c.in_ok-read.ensures.value (omega (arith, c.in_ok-read.ensures.place, c.in-Some.ensures.place)) c.in-Some.ensures.value c.loop-values.invariant.value);
+          (front_view tree c.in_ok-read.read) c.in-Some.after.rest.now c.in_ok-read.ensures.value (omega (arith, c.in_ok-read.ensures.place, c.in-Some.ensures.place)) c.in-Some.ensures.value c.loop-values.invariant.value);
       place = (omega (arith, c.in_ok-read.ensures.place, c.in-Some.ensures.place), omega (arith, c.in_ok-read.ensures.place, c.in-Some.ensures.place));
     }
 

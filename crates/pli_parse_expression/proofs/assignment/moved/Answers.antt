@@ -7,4 +7,4 @@ returns-in_ok-push-in-Enters c = λ more.
 
 pub returns-in-Some : goal.returns-in-Some
 returns-in-Some c = λ more.
-    left c.args.step more c.args.around.now.items c.pop.new.self.items c.args.frame c.in-Some.outer c.behind_frame.result c.in-Leaves.is c.in-Some.ensures.items c.behind_frame.ensures
+    left c.args.step more c.args.around.now.items c.pop.new.self.items c.args.frame c.in-Some.outer c.after_frame.result c.in-Leaves.is c.in-Some.ensures.items c.after_frame.ensures

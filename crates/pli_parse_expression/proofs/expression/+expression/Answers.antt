@@ -13,16 +13,16 @@ use Rattle.pli_parse_expression.proofs.expression.+expression.Goals as goal
 
 pub right_of-returns-then-operators-ge-OPERATOR_LIMIT-clause-value : goal.right_of-returns-then-operators-ge-OPERATOR_LIMIT-clause-value
 right_of-returns-then-operators-ge-OPERATOR_LIMIT-clause-value t c = λ bound small.
-    rw c.fault.ensures (too_many (operand_at c.args.levels) bound c.args.operator c.args.operators c.args.at c.args.behind.now (omega arith))
+    rw c.fault.ensures (too_many (operand_at c.args.levels) bound c.args.operator c.args.operators c.args.at c.args.tail.now (omega arith))
 
 pub right_of-returns-in_err-operand-clause-value : goal.right_of-returns-in_err-operand-clause-value
 right_of-returns-in_err-operand-clause-value t c = λ bound small.
     let p = err_from_is_err_and c.from_residual.result c.from_residual.ensures.1 in
-    rw (p.1, p.2) (operand_fails (operand_at c.args.levels) bound c.args.operator c.args.operators c.args.at c.args.behind.now c.in_err-operand.field-0.0 (omega arith) c.in_err-operand.ensures.value)
+    rw (p.1, p.2) (operand_fails (operand_at c.args.levels) bound c.args.operator c.args.operators c.args.at c.args.tail.now c.in_err-operand.field-0.0 (omega arith) c.in_err-operand.ensures.value)
 
 pub right_of-returns-clause-value : goal.right_of-returns-clause-value
 right_of-returns-clause-value t c = λ bound small.
-    let e = right_goes_on (operand_at c.args.levels) bound c.args.operator c.args.operators c.args.at c.args.behind.now (front_view (counted_view expression_view) c.in_ok-operand.operand) (c.level_of.result + 1) (omega arith)
+    let e = right_goes_on (operand_at c.args.levels) bound c.args.operator c.args.operators c.args.at c.args.tail.now (front_view (counted_view expression_view) c.in_ok-operand.operand) (c.level_of.result + 1) (omega arith)
     (ap (λ n. n + 1) c.level_of.ensures.value) c.in_ok-operand.ensures.value in
     rw e (c.infix_from.ensures.value bound (omega (arith, c.in_ok-operand.ensures.place)))
 
@@ -30,7 +30,7 @@ pub infix_from-returns-in_err-right-clause-value : goal.infix_from-returns-in_er
 infix_from-returns-in_err-right-clause-value t c = λ bound small.
     let p = err_from_is_err_and c.from_residual.result c.from_residual.ensures.1 in
     rw (p.1, p.2)
-    (right_fails (operand_at c.args.levels) c.args.min c.loop-operator.operators (expression_view c.loop-operator.sum) c.loop-operator.next c.loop-operator.rest.now (c.in-Some.operator, c.in-Some.behind.now)
+    (right_fails (operand_at c.args.levels) c.args.min c.loop-operator.operators (expression_view c.loop-operator.sum) c.loop-operator.next c.loop-operator.rest.now (c.in-Some.operator, c.in-Some.tail.now)
     (infix_from (operand_at c.args.levels) bound c.args.min c.args.operators (expression_view c.args.left) c.args.at c.args.texts.now) c.in-Some.ensures.value
     c.in_err-right.field-0.0 (omega (arith, c.in-Some.ensures.place)) c.in_err-right.ensures.value (c.loop-operator.invariant.value bound small))
 
@@ -39,7 +39,7 @@ infix_from-loop-operator-preserved t c =
     record {
       value = λ bound small.
           rw c.in_ok-sum.ensures
-          (goes_on (operand_at c.args.levels) c.args.min c.loop-operator.operators (expression_view c.loop-operator.sum) c.loop-operator.next c.loop-operator.rest.now (c.in-Some.operator, c.in-Some.behind.now)
+          (goes_on (operand_at c.args.levels) c.args.min c.loop-operator.operators (expression_view c.loop-operator.sum) c.loop-operator.next c.loop-operator.rest.now (c.in-Some.operator, c.in-Some.tail.now)
           (infix_from (operand_at c.args.levels) bound c.args.min c.args.operators (expression_view c.args.left) c.args.at c.args.texts.now) c.in-Some.ensures.value
           (front_view (counted_view expression_view) c.in_ok-right.right) (omega (arith, c.in-Some.ensures.place)) (omega (arith, c.in_ok-right.ensures.place, c.in-Some.ensures.place)) c.in_ok-right.ensures.value
           (c.loop-operator.invariant.value bound small));
@@ -62,7 +62,7 @@ joined_from-loop-joining-init t c =
 pub joined_from-returns-in_default-name_first-clause-value : goal.joined_from-returns-in_default-name_first-clause-value
 joined_from-returns-in_default-name_first-clause-value t c = λ bound small.
     rw c.misfit.ensures
-    (no_name (option_map (argument_of c.args.outermost) (inside c.args.levels)) c.loop-joining.parts.items c.loop-joining.operators c.loop-joining.next c.loop-joining.rest.now (c.in-Some.joining, c.in-Some.behind.now)
+    (no_name (option_map (argument_of c.args.outermost) (inside c.args.levels)) c.loop-joining.parts.items c.loop-joining.operators c.loop-joining.next c.loop-joining.rest.now (c.in-Some.joining, c.in-Some.tail.now)
     (joined_from (option_map (argument_of c.args.outermost) (inside c.args.levels)) bound c.args.operators c.args.at c.args.texts.now) c.in-Some.ensures.value
     c.in_default-name_first.ensures.value (c.loop-joining.invariant.value bound small))
 
@@ -70,7 +70,7 @@ pub joined_from-returns-in_err-list-clause-value : goal.joined_from-returns-in_e
 joined_from-returns-in_err-list-clause-value t c = λ bound small.
     let p = err_from_is_err_and c.from_residual.result c.from_residual.ensures.1 in
     rw (p.1, p.2)
-    (arguments_fail (option_map (argument_of c.args.outermost) (inside c.args.levels)) c.loop-joining.parts.items c.loop-joining.operators c.loop-joining.next c.loop-joining.rest.now (c.in-Some.joining, c.in-Some.behind.now)
+    (arguments_fail (option_map (argument_of c.args.outermost) (inside c.args.levels)) c.loop-joining.parts.items c.loop-joining.operators c.loop-joining.next c.loop-joining.rest.now (c.in-Some.joining, c.in-Some.tail.now)
     (joined_from (option_map (argument_of c.args.outermost) (inside c.args.levels)) bound c.args.operators c.args.at c.args.texts.now) c.in-Some.ensures.value
     (c.in-Some-name_first.named.0, c.in-Some-name_first.named.1.now) c.in-Some-name_first.ensures.value c.in_err-list.field-0.0 c.in_err-list.ensures.value (c.loop-joining.invariant.value bound small))
 
@@ -80,7 +80,7 @@ joined_from-loop-joining-preserved t c =
     record {
       value = λ bound small.
           rw c.in_ok-push.ensures.items
-          (part_goes_on (option_map (argument_of c.args.outermost) (inside c.args.levels)) c.loop-joining.parts.items c.loop-joining.operators c.loop-joining.next c.loop-joining.rest.now (c.in-Some.joining, c.in-Some.behind.now)
+          (part_goes_on (option_map (argument_of c.args.outermost) (inside c.args.levels)) c.loop-joining.parts.items c.loop-joining.operators c.loop-joining.next c.loop-joining.rest.now (c.in-Some.joining, c.in-Some.tail.now)
           (joined_from (option_map (argument_of c.args.outermost) (inside c.args.levels)) bound c.args.operators c.args.at c.args.texts.now) c.in-Some.ensures.value
           (c.in-Some-name_first.named.0, c.in-Some-name_first.named.1.now) c.in-Some-name_first.ensures.value x (front_view (counted_view arguments_view) c.in_ok-list.list) refl c.in_ok-list.ensures.value
           (omega (arith, c.in_ok-list.ensures.place, c.in-Some-name_first.ensures.place, c.in-Some.ensures.place)) (c.loop-joining.invariant.value bound small));
@@ -101,8 +101,8 @@ listed_at-returns-in_err-first-clause-value t c =
     let p = err_from_is_err_and c.from_residual.result c.from_residual.ensures.1 in
     rw (p.1, p.2) (first_fails (argument_of c.args.outermost (operand_at c.args.levels)) c.args.operators c.args.at c.args.texts.now c.in_err-first.field-0.0 c.in_err-first.ensures.value)
 
-pub listed_at-loop-behind-init : goal.listed_at-loop-behind-init
-listed_at-loop-behind-init t c =
+pub listed_at-loop-tail-init : goal.listed_at-loop-tail-init
+listed_at-loop-tail-init t c =
     let e : c.push.new.self.items ≡ c.in_ok-first.first.value.tree ∷ [] = c.in_ok-push.ensures.items ∙ ap (λ es. es ++ c.in_ok-first.first.value.tree ∷ []) c.new-list.ensures.items in
     record {
       value = list_begins (argument_of c.args.outermost (operand_at c.args.levels)) c.args.operators c.args.at c.args.texts.now c.push.new.self.items c.in_ok-first.first.value.tree
@@ -114,31 +114,31 @@ pub listed_at-returns-in_err-one-clause-value : goal.listed_at-returns-in_err-on
 listed_at-returns-in_err-one-clause-value t c =
     let p = err_from_is_err_and c.from_residual-in_err-one.result c.from_residual-in_err-one.ensures.1 in
     rw (p.1, p.2)
-    (one_fails (argument_of c.args.outermost (operand_at c.args.levels)) c.loop-behind.list.items c.loop-behind.operators c.loop-behind.next c.loop-behind.rest.now c.in-Some.behind.now
-    (listed_at (argument_of c.args.outermost (operand_at c.args.levels)) c.args.operators c.args.at c.args.texts.now) c.in-Some.ensures.value c.in_err-one.field-0.0 c.in_err-one.ensures.value c.loop-behind.invariant.value)
+    (one_fails (argument_of c.args.outermost (operand_at c.args.levels)) c.loop-tail.list.items c.loop-tail.operators c.loop-tail.next c.loop-tail.rest.now c.in-Some.tail.now
+    (listed_at (argument_of c.args.outermost (operand_at c.args.levels)) c.args.operators c.args.at c.args.texts.now) c.in-Some.ensures.value c.in_err-one.field-0.0 c.in_err-one.ensures.value c.loop-tail.invariant.value)
 
-pub listed_at-loop-behind-preserved : goal.listed_at-loop-behind-preserved
-listed_at-loop-behind-preserved t c =
+pub listed_at-loop-tail-preserved : goal.listed_at-loop-tail-preserved
+listed_at-loop-tail-preserved t c =
     record {
       value = rw c.in_ok-push-2.ensures.items
-          (list_goes_on (argument_of c.args.outermost (operand_at c.args.levels)) c.loop-behind.list.items c.loop-behind.operators c.loop-behind.next c.loop-behind.rest.now c.in-Some.behind.now
+          (list_goes_on (argument_of c.args.outermost (operand_at c.args.levels)) c.loop-tail.list.items c.loop-tail.operators c.loop-tail.next c.loop-tail.rest.now c.in-Some.tail.now
           (listed_at (argument_of c.args.outermost (operand_at c.args.levels)) c.args.operators c.args.at c.args.texts.now) c.in-Some.ensures.value c.in_ok-one.one.value.tree (front_view (counted_view expression_view) c.in_ok-one.one)
-          refl c.in_ok-one.ensures.value (omega (arith, c.in_ok-one.ensures.place, c.in-Some.ensures.place)) c.loop-behind.invariant.value);
+          refl c.in_ok-one.ensures.value (omega (arith, c.in_ok-one.ensures.place, c.in-Some.ensures.place)) c.loop-tail.invariant.value);
       place = (omega (arith, c.in_ok-one.ensures.place, c.in-Some.ensures.place), omega (arith, c.in_ok-one.ensures.place, c.in-Some.ensures.place));
     }
 
-pub listed_at-returns-in_err-behind-clause-value : goal.listed_at-returns-in_err-behind-clause-value
-listed_at-returns-in_err-behind-clause-value t c =
-    let p = err_from_is_err_and c.from_residual-in_err-behind.result c.from_residual-in_err-behind.ensures.1 in
+pub listed_at-returns-in_err-tail-clause-value : goal.listed_at-returns-in_err-tail-clause-value
+listed_at-returns-in_err-tail-clause-value t c =
+    let p = err_from_is_err_and c.from_residual-in_err-tail.result c.from_residual-in_err-tail.ensures.1 in
     rw (p.1, p.2)
-    (close_fails (argument_of c.args.outermost (operand_at c.args.levels)) c.loop-behind.list.items c.loop-behind.operators c.loop-behind.next c.loop-behind.rest.now
-    (listed_at (argument_of c.args.outermost (operand_at c.args.levels)) c.args.operators c.args.at c.args.texts.now) c.in_default.ensures.value c.in_err-behind.field-0.0 c.in_err-behind.ensures.value c.loop-behind.invariant.value)
+    (close_fails (argument_of c.args.outermost (operand_at c.args.levels)) c.loop-tail.list.items c.loop-tail.operators c.loop-tail.next c.loop-tail.rest.now
+    (listed_at (argument_of c.args.outermost (operand_at c.args.levels)) c.args.operators c.args.at c.args.texts.now) c.in_default.ensures.value c.in_err-tail.field-0.0 c.in_err-tail.ensures.value c.loop-tail.invariant.value)
 
 pub listed_at-returns-clause-value : goal.listed_at-returns-clause-value
 listed_at-returns-clause-value t c =
     rw c.front.ensures
-    (list_ends (argument_of c.args.outermost (operand_at c.args.levels)) c.loop-behind.list.items c.loop-behind.operators c.loop-behind.next c.loop-behind.rest.now
-    (listed_at (argument_of c.args.outermost (operand_at c.args.levels)) c.args.operators c.args.at c.args.texts.now) c.in_default.ensures.value c.in_ok-behind.behind.now c.in_ok-behind.ensures.value c.loop-behind.invariant.value)
+    (list_ends (argument_of c.args.outermost (operand_at c.args.levels)) c.loop-tail.list.items c.loop-tail.operators c.loop-tail.next c.loop-tail.rest.now
+    (listed_at (argument_of c.args.outermost (operand_at c.args.levels)) c.args.operators c.args.at c.args.texts.now) c.in_default.ensures.value c.in_ok-tail.tail.now c.in_ok-tail.ensures.value c.loop-tail.invariant.value)
 
 pub reference_of-returns-clause-value : goal.reference_of-returns-clause-value
 reference_of-returns-clause-value t c =

@@ -4,7 +4,7 @@ use Rattle.pli_parse_expression.specs.Reading.{infix_from, operand_at, inside, a
 use Rattle.pli_parse_expression.proofs.LoopLemmas.{OperatorsLeft, PartsLeft, ListLeft}
 use Rattle.pli_parse_expression.proofs.expression.+expression.Given as goal
 
--- Each call is on fewer tokens, or on the same with a lesser number behind the sum.
+-- Each call is on fewer tokens, or on the same with a lesser number after the sum.
 abbrev pub decreases-reference_of : goal.decreases-reference_of
 decreases-reference_of l = 10 * length l.texts.now
 
@@ -18,7 +18,7 @@ abbrev pub decreases-infix_from : goal.decreases-infix_from
 decreases-infix_from l = 10 * length l.texts.now
 
 abbrev pub decreases-right_of : goal.decreases-right_of
-decreases-right_of l = 10 * length l.behind.now + 2
+decreases-right_of l = 10 * length l.tail.now + 2
 
 abbrev pub decreases-operand_at : goal.decreases-operand_at
 decreases-operand_at l = 10 * length l.texts.now + 1
@@ -64,12 +64,12 @@ invariant-joined_from-loop-joining l =
 abbrev pub decreases-joined_from-loop-joining : goal.decreases-joined_from-loop-joining
 decreases-joined_from-loop-joining l = length l.rest
 
-abbrev pub invariant-listed_at-loop-behind : goal.invariant-listed_at-loop-behind
-invariant-listed_at-loop-behind l =
+abbrev pub invariant-listed_at-loop-tail : goal.invariant-listed_at-loop-tail
+invariant-listed_at-loop-tail l =
     record {
       value : ListLeft (argument_of l.outermost (operand_at l.levels)) l.list.items l.operators l.next l.rest (listed_at (argument_of l.outermost (operand_at l.levels)) l.fn.operators l.fn.at l.fn.texts);
       place : (l.fn.at < l.next) × (l.next + length l.rest ≡ l.fn.at + length l.fn.texts);
     }
 
-abbrev pub decreases-listed_at-loop-behind : goal.decreases-listed_at-loop-behind
-decreases-listed_at-loop-behind l = length l.rest
+abbrev pub decreases-listed_at-loop-tail : goal.decreases-listed_at-loop-tail
+decreases-listed_at-loop-tail l = length l.rest

@@ -2,7 +2,7 @@
 use Rattle.pli_parse_expression.proofs.WorkedExamples.{sign_and_sum, differences, all_levels, comparisons}
 use Rattle.pli_parse_expression.proofs.WorkedExamples.{alternatives, located_member, no_arguments}
 use Rattle.pli_parse_expression.proofs.WorkedExamples.{in_parentheses, two_lists, text_ends, no_operand}
-use Rattle.pli_parse_expression.proofs.WorkedExamples.{not_closed, no_list_there, nothing_behind_comma}
+use Rattle.pli_parse_expression.proofs.WorkedExamples.{not_closed, no_list_there, nothing_after_comma}
 use Rattle.pli_parse_expression.proofs.WorkedExamples.{no_member, nothing_located, deepest_list}
 use Rattle.pli_parse_expression.proofs.WorkedExamples.{too_deep_list, too_deep_sign, last_operator}
 use Rattle.pli_parse_expression.proofs.WorkedExamples.{too_many_operators, target}
@@ -24,7 +24,7 @@ returns c =
       no_operand = no_operand;
       not_closed = not_closed;
       no_list_there = no_list_there;
-      nothing_behind_comma = nothing_behind_comma;
+      nothing_after_comma = nothing_after_comma;
       no_member = no_member;
       nothing_located = nothing_located;
       deepest_list = deepest_list;

@@ -13,7 +13,7 @@ returns-in_err-read-clause-value c =
     let p = err_from_is_err_and c.from_residual.result c.from_residual.ensures.1 in
     rw (p.1, p.2) (fails (map option_view c.loop-word.options.items) c.loop-word.next c.loop-word.rest.now
     (options_from (length c.args.texts.now + 1) c.args.at c.args.texts.now)
-    (answers.option_view c.in-Some.word) c.in-Some.behind.now c.in_err-read.field-0.0 c.in-Some.ensures.value c.in_err-read.ensures.value c.loop-word.invariant.value)
+    (answers.option_view c.in-Some.word) c.in-Some.after.now c.in_err-read.field-0.0 c.in-Some.ensures.value c.in_err-read.ensures.value c.loop-word.invariant.value)
 
 pub loop-word-preserved : goal.loop-word-preserved
 loop-word-preserved c =
@@ -21,7 +21,7 @@ loop-word-preserved c =
     record {
       value = rw e (goes_on (map option_view c.loop-word.options.items) c.loop-word.next c.loop-word.rest.now
           (options_from (length c.args.texts.now + 1) c.args.at c.args.texts.now)
-          (answers.option_view c.in-Some.word) c.in-Some.behind.now (front_view option_view c.in_ok-read.read) c.in-Some.ensures.value c.in_ok-read.ensures.value
+          (answers.option_view c.in-Some.word) c.in-Some.after.now (front_view option_view c.in_ok-read.read) c.in-Some.ensures.value c.in_ok-read.ensures.value
           (omega (arith, c.in_ok-read.ensures.place, c.in-Some.ensures.place)) c.loop-word.invariant.value);
       place = (omega (arith, c.in_ok-read.ensures.place, c.in-Some.ensures.place), omega (arith, c.in_ok-read.ensures.place, c.in-Some.ensures.place));
     }

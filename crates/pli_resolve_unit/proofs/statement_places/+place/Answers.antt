@@ -43,8 +43,8 @@ place_region-returns t c =
     (c.len-region.ensures ∙ c.args.starts.now.ok.0) c.in_ok-push.ensures.items
     (then_place (record { number = c.args.end; region = c.len-region.result; label = None }) _ _ _ _ _ _ _ _ c.in_ok-push-2.ensures.items c.in_ok-place_statements.ensures)
 
-pub place_unit-returns : goal.place_unit-returns
-place_unit-returns t c =
+pub place_on_unit-returns : goal.place_on_unit-returns
+place_on_unit-returns t c =
     let s = statement_view c.args.statement.now in
     on_ok_weaker
     c.place_statement.result
@@ -113,7 +113,7 @@ pub place_body-returns-in-On : goal.place_body-returns-in-On
 place_body-returns-in-On t c =
     let b = c.in-On in
     on_ok_weaker
-    c.place_unit.result
+    c.place_on_unit.result
     (unit_put c.args.here c.args.number b.condition _ _ _ _ _ _
     (ap body_view b.is ∙ on_made b.condition b.unit ∙ ap (λ s. tree.On b.condition (statement_view s)) (sym c.deref-in-On.ensures)))
-    c.place_unit.ensures
+    c.place_on_unit.ensures

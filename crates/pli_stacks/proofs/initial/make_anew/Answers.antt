@@ -4,7 +4,7 @@ use Rattle.pli_map.specs.Values.{first_values}
 use Rattle.pli_map.specs.views.DescriptionView.{description_view}
 use Rattle.pli_store.specs.views.GenerationView.{made_view}
 use Rattle.pli_store.specs.views.StorageView.{place_view}
-use Rattle.pli_store.proofs.SameStorages.{answered_behind, unchanged_behind}
+use Rattle.pli_store.proofs.SameStorages.{answered_after, unchanged_after}
 use Rattle.pli_world.specs.World.{made_of}
 use Rattle.pli_type_tree.specs.Templates.{Template, with_initial, variable_of}
 use Rattle.pli_type_tree.specs.views.TemplateView.{initial_view}
@@ -30,10 +30,10 @@ returns-clause-answer c = λ w.
       description = description_view c.args.description.now;
       initial = map initial_view c.args.scalars.now;
     } in
-    answered_behind c.make.result c.args.storage.now c.first_bytes.new.storage c.make.new.self c.in_ok-initial.ensures.same
+    answered_after c.make.result c.args.storage.now c.first_bytes.new.storage c.make.new.self c.in_ok-initial.ensures.same
     place_view (made_of t.description (made_view c.args.made) (variable_of t).initial) w
     (c.make.ensures.answer w (variable_of t).initial (c.in_ok-initial.ensures.laid.values, initial_held t))
 
 pub returns-clause-err : goal.returns-clause-err
 returns-clause-err c =
-    unchanged_behind c.make.result c.args.storage.now c.first_bytes.new.storage c.make.new.self c.in_ok-initial.ensures.same c.make.ensures.err
+    unchanged_after c.make.result c.args.storage.now c.first_bytes.new.storage c.make.new.self c.in_ok-initial.ensures.same c.make.ensures.err

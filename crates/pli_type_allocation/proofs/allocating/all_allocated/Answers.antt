@@ -6,14 +6,14 @@ use Rattle.pli_type_expression.proofs.BindLemmas.{exits}
 use Rattle.pli_type_names.specs.UnitNaming.{naming_in}
 use Rattle.pli_type_tree.specs.views.TypedView.{allocated_view}
 use Rattle.pli_type_allocation.proofs.AllocatedInTurn.{item_stops, item_typed, items_typed}
-use Rattle.pli_type_allocation.proofs.InTurn.{behind, none_behind}
+use Rattle.pli_type_allocation.proofs.InTurn.{after, none_after}
 use Rattle.pli_type_allocation.proofs.allocating.all_allocated.Goals as goal
 
 pub loop-item-init : goal.loop-item-init
 loop-item-init c =
     let whole = all_allocated (naming_in c.args.naming.now) c.args.temporary (map allocation_view c.args.items.now) in
     record {
-      made = ap (λ xs. behind (map allocated_view xs) whole) c.new-made.ensures.items ∙ none_behind whole;
+      made = ap (λ xs. after (map allocated_view xs) whole) c.new-made.ensures.items ∙ none_after whole;
       few = omega arith;
     }
 

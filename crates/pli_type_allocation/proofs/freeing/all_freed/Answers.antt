@@ -5,13 +5,13 @@ use Rattle.pli_type.specs.AllocationTyping.{freed, in_turn}
 use Rattle.pli_type_expression.proofs.BindLemmas.{exits}
 use Rattle.pli_type_names.specs.UnitNaming.{naming_in}
 use Rattle.pli_type_tree.specs.views.TypedView.{freed_view}
-use Rattle.pli_type_allocation.proofs.InTurn.{behind, each_stops, each_typed, all_typed, none_behind}
+use Rattle.pli_type_allocation.proofs.InTurn.{after, each_stops, each_typed, all_typed, none_after}
 use Rattle.pli_type_allocation.proofs.freeing.all_freed.Goals as goal
 
 pub loop-reference-init : goal.loop-reference-init
 loop-reference-init c =
     let whole = in_turn (freed (naming_in c.args.naming.now)) (map reference_view c.args.references.now) in
-    ap (λ xs. behind (map freed_view xs) whole) c.new-made.ensures.items ∙ none_behind whole
+    ap (λ xs. after (map freed_view xs) whole) c.new-made.ensures.items ∙ none_after whole
 
 pub loop-reference-preserved : goal.loop-reference-preserved
 loop-reference-preserved c =

@@ -10,7 +10,7 @@ use Rattle.pli_type_expression.proofs.SizeLemmas.{expression_size, reference_siz
 use Rattle.pli_type_expression.proofs.WalkLemmas.{subscripts_with, arguments_with}
 use Rattle.pli_type_expression.proofs.expression.+typed.Given as goal
 
--- the last segment is that of what is left behind the segment so far
+-- the last segment is that of what is left after the segment so far
 abbrev pub invariant-continued-loop-part : goal.invariant-continued-loop-part
 invariant-continued-loop-part l =
     let n = naming_in l.naming in

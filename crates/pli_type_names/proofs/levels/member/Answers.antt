@@ -1,5 +1,5 @@
 use Rattle.std.proofs.Common.{◌≡◌, ◌≤◌, Some, length, option_map, ap, sym, ◌∙◌, arith}
-use Rattle.pli_map.specs.Parts.{member_behind}
+use Rattle.pli_map.specs.Parts.{member_after}
 use Rattle.pli_map.specs.Sizes.{size_of}
 use Rattle.pli_map.specs.views.DescriptionView.{description_view, members_view}
 use Rattle.pli_map.specs.views.PartView.{part_view as placed_view}
@@ -22,10 +22,10 @@ fits : (c : goal.After-next) → PlainMember (description_view c.args.level.now.
 fits c =
     let level = c.args.level.now in
     let now = c.up_to-level.result in
-    let is : Some (placed_view c.next.result) ≡ member_behind 0 (members_view level.passed.members.now.items) c.args.number =
+    let is : Some (placed_view c.next.result) ≡ member_after 0 (members_view level.passed.members.now.items) c.args.number =
     c.next.ensures
-    ∙ ap (λ v. member_behind 0 (members_view v.items) now.count) c.up_to-level.ensures.members
-    ∙ ap (member_behind 0 (members_view level.passed.members.now.items)) c.up_to-level.ensures.count in
+    ∙ ap (λ v. member_after 0 (members_view v.items) now.count) c.up_to-level.ensures.members
+    ∙ ap (member_after 0 (members_view level.passed.members.now.items)) c.up_to-level.ensures.count in
     member_fits (description_view level.element.description.now) (members_view level.passed.members.now.items) c.args.number (placed_view c.next.result)
     level.element.plain c.requires is
 

@@ -65,7 +65,7 @@ loop-number-preserved c =
     let more_globals = global_more ss n s c.loop-number-test.true in
     let g : ℕ → plain.Symbol → ℕ = λ number x. spec.global_at facts number in
     let numbered : next ≡ spec.global_at facts n = ap (λ k. get_or c.args.places.now k 0) l.invariant.globals in
-    let is = c.own_variable-variable.ensures.variable ∙ ap (λ k. spec.own_behind c.args.parameters.now a next l.free.based n k) same in
+    let is = c.own_variable-variable.ensures.variable ∙ ap (λ k. spec.own_after c.args.parameters.now a next l.free.based n k) same in
     record {
       slots = omega (arith, slots, more_slots, l.invariant.slots);
       globals = omega (arith, globals, more_globals, l.invariant.globals);

@@ -25,13 +25,13 @@ loop-dimension-preserved c =
     let element : ℕ → Stride = λ m.
     record { low = (get_or c.args.bounds.now l.dimension-index none).low; high = (get_or c.args.bounds.now l.dimension-index none).high; multiplier = m } in
     let first : stride_view c.stride.result ≡ element (count_of more * stride_of e) = c.stride.ensures ∙ ap element bytes in
-    let behind = strides_of more e in
+    let after = strides_of more e in
     record {
       elements = both.1;
       bytes = bytes;
-      strides = ap (λ xs. map stride_view xs ++ behind) c.in_ok-push.ensures.items
-          ∙ one_more stride_view l.strides.items c.stride.result behind
-          ∙ ap (λ s. map stride_view l.strides.items ++ (s ∷ behind)) first
+      strides = ap (λ xs. map stride_view xs ++ after) c.in_ok-push.ensures.items
+          ∙ one_more stride_view l.strides.items c.stride.result after
+          ∙ ap (λ s. map stride_view l.strides.items ++ (s ∷ after)) first
           ∙ ap (λ ss. map stride_view l.strides.items ++ ss) (sym strides)
           ∙ l.invariant.strides;
     }

@@ -30,10 +30,10 @@ loop-list-preserved c =
     subst (λ o. IfSome o (λ links. links < i + 1)) (sym goes)
     (next_few c.args.label x.block x.is_on_unit within x.labels.items l.outward l.lasting i l.invariant.few l.invariant.few_lasting) in
     record {
-      left = ap (λ o. searched c.args.label next o within (lists_view (drop (i + 1) ls))) c.kept_behind-lasting.ensures
+      left = ap (λ o. searched c.args.label next o within (lists_view (drop (i + 1) ls))) c.kept_after-lasting.ensures
           ∙ search_next c.args.label l.outward l.lasting next l.is_inside within ls i x c.list-item.is inside c.is_in_block-is_inside.ensures goes l.invariant.left;
       few = few;
-      few_lasting = subst (λ o. IfSome o (λ links. links < i + 1)) (sym c.kept_behind-lasting.ensures)
+      few_lasting = subst (λ o. IfSome o (λ links. links < i + 1)) (sym c.kept_after-lasting.ensures)
           (kept_few x.block next l.lasting i few l.invariant.few_lasting);
     }
 

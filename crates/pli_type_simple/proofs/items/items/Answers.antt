@@ -5,13 +5,13 @@ use Rattle.pli_type.specs.TypingSteps.{items}
 use Rattle.pli_type_expression.proofs.BindLemmas.{exits}
 use Rattle.pli_type_names.specs.UnitNaming.{naming_in}
 use Rattle.pli_type_tree.specs.views.TypedView.{expression_view}
-use Rattle.pli_type_simple.proofs.ItemLists.{behind, item_stops, item_typed, items_end, none_behind}
+use Rattle.pli_type_simple.proofs.ItemLists.{after, item_stops, item_typed, items_end, none_after}
 use Rattle.pli_type_simple.proofs.items.items.Goals as goal
 
 pub loop-expression-init : goal.loop-expression-init
 loop-expression-init c =
     let whole = items (naming_in c.args.naming.now) (map syntax.expression_view c.args.expressions.now) in
-    ap (λ xs. behind (map expression_view xs) whole) c.new-items.ensures.items ∙ none_behind whole
+    ap (λ xs. after (map expression_view xs) whole) c.new-items.ensures.items ∙ none_after whole
 
 pub loop-expression-preserved : goal.loop-expression-preserved
 loop-expression-preserved c =

@@ -6,7 +6,7 @@ use Rattle.pli_base.specs.views.StatementView as source
 use Rattle.pli_base.specs.views.SyntaxView as syntax
 use Rattle.pli_map.specs.views.DescriptionView.{description_view}
 use Rattle.pli_type.specs.StatementTyping as spec
-use Rattle.pli_type.specs.Temporaries.{behind}
+use Rattle.pli_type.specs.Temporaries.{next_after}
 use Rattle.pli_type_tree.specs.TypedTree as plain
 use Rattle.pli_type_tree.specs.declared.statement.TypedStatement.{TypedStatement}
 use Rattle.pli_type_tree.specs.views.TypedView.{form_view, statement_view, statements_view}
@@ -14,7 +14,7 @@ use Rattle.pli_type_walk.specs.NumbersTaken.{taken_among, taken_else, taken_in, 
 use Rattle.pli_type_walk.specs.Walking.{HasRoom, WalksBlock, WalksBody, WalksList, in_block, around, based_names, next_at, unit_at}
 use Rattle.pli_type_iteration.specs.views.HeaderView.{header_view}
 use Rattle.pli_type_walk.proofs.Blocks.{begin_walked, block_placed, block_walked, group_placed, group_walked, in_group_around, procedure_answer, returned_is, unit_answer}
-use Rattle.pli_type_walk.proofs.RoomLeft.{room_behind, room_controlled, room_else, room_first, room_header, room_if, room_inside, room_next, room_unit}
+use Rattle.pli_type_walk.proofs.RoomLeft.{room_after, room_controlled, room_else, room_first, room_header, room_if, room_inside, room_next, room_on_unit}
 use Rattle.pli_type_statement.proofs.SizeLemmas.{statement_size, body_size, list_size, alternative_size, item_size}
 use Rattle.pli_type_statement.proofs.TurnLemmas.{all_walked, do_walked, goes_on_first, goes_on_next, if_next_none, if_next_some, in_front, none_walked, simple_answer}
 use Rattle.pli_type_walk.proofs.WalkLemmas.{as_typed, if_walked, made_walked, back_then, moved, nothing_walked, same_based}
@@ -118,7 +118,7 @@ type_body-type_block-requires-in-On t c =
         c.requires.placed,
         (
           subst (λ ss. HasRoom (next_at c.args.walk.now) (4 + taken_among ss)) (sym list)
-              (room_unit (next_at c.args.walk.now) _ b.condition s is c.requires.room),
+              (room_on_unit (next_at c.args.walk.now) _ b.condition s is c.requires.room),
           omega arith,
         ),
       ),
@@ -133,11 +133,11 @@ type_body-returns-in_ok-block-in-On t c =
     let is : source.body_view c.args.body.now ≡ tree.On b.condition s =
     ap source.body_view b.is ∙ laws.on_made b.condition b.unit ∙ ap (λ s. tree.On b.condition (source.statement_view s)) (sym c.deref-in-On.ensures) in
     let list : source.statements_view c.from_ref-list.result.now ≡ spec.only s = ap source.statements_view c.from_ref-list.ensures.value in
-    subst (λ b. IfOk c.finish_unit.result (λ form. WalksBody w c.finish_unit.new.walk c.args.number c.args.at b (option_map form_view form))) (sym is)
-    (unit_answer form_view c.finish_unit.result w _ _ c.args.number c.args.at b.condition s made.head _
+    subst (λ b. IfOk c.finish_on_unit.result (λ form. WalksBody w c.finish_on_unit.new.walk c.args.number c.args.at b (option_map form_view form))) (sym is)
+    (unit_answer form_view c.finish_on_unit.result w _ _ c.args.number c.args.at b.condition s made.head _
     (subst (λ ss. WalksBlock w c.type_block-in-On.new.walk (in_block w true 0 None ss) c.args.number ss made.head
     (option_map (λ (list : Vec TypedStatement Global). statements_view list.items) made.list)) list c.in_ok-block-in-On.ensures)
-    c.finish_unit.ensures)
+    c.finish_on_unit.ensures)
 
 -- groups
 
@@ -276,7 +276,7 @@ type_statements-loop-statement-preserved t c =
           c.statement-item.is inside c.leaves_nothing-leaves_nothing.ensures c.in_ok-is_kept.ensures.kept both c.in_ok-is_kept.ensures.statements
           c.in_ok-kept.ensures l.invariant.goes;
       room = subst (λ x. HasRoom x (taken_among (source.statements_view (drop (i + 1) ss)))) (sym c.in_ok-kept.ensures.next)
-          (room_behind (based_names l.walk) (next_at l.walk) (source.statement_view s) _ (room_next (next_at l.walk) ss i s c.statement-item.is inside l.invariant.room));
+          (room_after (based_names l.walk) (next_at l.walk) (source.statement_view s) _ (room_next (next_at l.walk) ss i s c.statement-item.is inside l.invariant.room));
     }
 
 pub type_statements-returns : goal.type_statements-returns
@@ -332,7 +332,7 @@ type_body-returns-in_ok-other-in-Some-2 t c =
     (as_typed there new _ _ _ _ _ _ refl refl c.in_ok-other-in-Some-2.ensures (made_walked plain.Else there new _ _ _ other))
     (moved (λ u a x. spec.statement_typed u a x s') w mid _ tested.back tested.next
     ∙ ap (λ s. spec.statement_typed (unit_at w) (around w) (next_at w) (source.statement_view s)) c.deref.ensures)
-    (ap (spec.made plain.Else) (moved (λ u a x. spec.statement_typed u a x o') w there (behind (based_names w) (next_at w) s) (back_then w mid there tested.back done.back)
-    (done.next ∙ ap (λ f. behind f (next_at mid) s') (same_based w mid tested.back.naming)
-    ∙ ap (λ s. behind (based_names w) (next_at mid) (source.statement_view s)) c.deref.ensures ∙ ap (λ n. behind (based_names w) n s) tested.next)
-    ∙ ap (λ z. spec.statement_typed (unit_at w) (around w) (behind (based_names w) (next_at w) s) (source.statement_view z)) c.deref-in-Some.ensures))))
+    (ap (spec.made plain.Else) (moved (λ u a x. spec.statement_typed u a x o') w there (next_after (based_names w) (next_at w) s) (back_then w mid there tested.back done.back)
+    (done.next ∙ ap (λ f. next_after f (next_at mid) s') (same_based w mid tested.back.naming)
+    ∙ ap (λ s. next_after (based_names w) (next_at mid) (source.statement_view s)) c.deref.ensures ∙ ap (λ n. next_after (based_names w) n s) tested.next)
+    ∙ ap (λ z. spec.statement_typed (unit_at w) (around w) (next_after (based_names w) (next_at w) s) (source.statement_view z)) c.deref-in-Some.ensures))))

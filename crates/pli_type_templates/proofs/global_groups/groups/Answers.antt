@@ -13,9 +13,9 @@ loop-at-preserved c =
     let all = c.args.globals.now in
     let first = c.index-globals-at.result in
     let rest = drop (l.at + 1) all in
-    let n = c.alike_behind-count.result in
+    let n = c.alike_after-count.result in
     let is_rest : take (length all - (l.at + 1)) rest ≡ rest = take_all (length all - (l.at + 1)) rest (omega (arith, length-drop (l.at + 1) all)) in
-    let few : n ≤ length rest = subst (λ (xs : List PlacedGlobal). n ≤ length xs) is_rest c.alike_behind-count.ensures.within in
+    let few : n ≤ length rest = subst (λ (xs : List PlacedGlobal). n ≤ length xs) is_rest c.alike_after-count.ensures.within in
     let of = c.in_ok-group_of.ensures ∙ ap (λ xs. map global_view (first ∷ take n xs)) is_rest in
     record {
       within = omega (arith, c.loop-at-test.true, length-drop (l.at + 1) all, few);

@@ -16,13 +16,13 @@ loop-at-preserved c =
     let all = c.args.made.now in
     let first = c.index-made-at.result in
     let rest = drop (l.at + 1) all in
-    let n = c.alike_behind-count.result in
+    let n = c.alike_after-count.result in
     let is_rest : take (length all - (l.at + 1)) rest ≡ rest = take_all (length all - (l.at + 1)) rest (omega (arith, length-drop (l.at + 1) all)) in
-    let few : n ≤ length rest = subst (λ (xs : List MadeVariable). n ≤ length xs) is_rest c.alike_behind-count.ensures.within in
+    let few : n ≤ length rest = subst (λ (xs : List MadeVariable). n ≤ length xs) is_rest c.alike_after-count.ensures.within in
     let has = HasMadeItem (marks_of c.args.items.now) in
     let here = subst has (sym c.index-made-at.is) (All-get_or has all l.at first c.loop-at-test.true c.requires) in
     let all_has = All-same has (take (length all - (l.at + 1)) rest) rest is_rest (All-drop has (l.at + 1) all c.requires) in
-    let alike = subst (λ (xs : List MadeVariable). All (λ m. made_template m ≡ made_template first) (take n xs)) is_rest (c.alike_behind-count.ensures.alike here all_has) in
+    let alike = subst (λ (xs : List MadeVariable). All (λ m. made_template m ≡ made_template first) (take n xs)) is_rest (c.alike_after-count.ensures.alike here all_has) in
     let of = c.in_ok-variable_group.ensures ∙ run_alike made_template first (take n rest) (1 + n) (omega (arith, length-take n rest, few)) alike in
     record {
       within = omega (arith, c.loop-at-test.true, length-drop (l.at + 1) all, few);

@@ -1,7 +1,7 @@
 use Rattle.std.proofs.Common.{◌≡◌, ◌+◌, ◌*◌, ◌-◌, drop, map, refl, ap, sym, ◌∙◌, arith, rules}
 use Rattle.std.specs.Int.{next_multiple_of}
 use Rattle.std.proofs.lemmas.List.{drop_all, map_push}
-use Rattle.pli_map.specs.Sizes.{alignment_of, count_of, end_behind, size_of, stride_of}
+use Rattle.pli_map.specs.Sizes.{alignment_of, count_of, end_after, size_of, stride_of}
 use Rattle.pli_map.specs.views.DescriptionView.{description_view, members_view}
 use Rattle.pli_map.proofs.Members.{next_member}
 use Rattle.pli_bytes.proofs.LaidPlaces.{nodes_of_member}
@@ -97,7 +97,7 @@ members_from-loop-member-preserved t c =
           ∙ ap (λ n. before ones (PlanThen (plan_from (first + start) d) (plans_from first n rest))) ended
           ∙ ap (λ ds. before ones (plans_from first (l.end - first) ds)) (sym left)
           ∙ l.invariant.plans;
-      end = ap (λ n. end_behind n rest) ended ∙ ap (end_behind (l.end - first)) (sym left) ∙ l.invariant.end;
+      end = ap (λ n. end_after n rest) ended ∙ ap (end_after (l.end - first)) (sym left) ∙ l.invariant.end;
       from = omega (arith, c.in_ok-planned.ensures.1, at);
       plain = (member_plain c.args.members.now l.member-index c.member-item.result c.loop-member-test.true c.member-item.is l.invariant.plain).1;
     }
@@ -108,7 +108,7 @@ members_from-returns t c =
     let first = c.args.first in
     let none = drop_all l.member-index c.args.members.now c.loop-member-test.false in
     let plans = ap (λ ds. before (map plan_view l.plans.items) (plans_from first (l.end - first) (members_view ds))) none in
-    let ends = ap (λ ds. end_behind (l.end - first) (members_view ds)) none in (
+    let ends = ap (λ ds. end_after (l.end - first) (members_view ds)) none in (
       structure_view _ l.plans refl ∙ ap OfStructure (sym (before_none (map plan_view l.plans.items)) ∙ sym plans ∙ l.invariant.plans),
       omega (arith, ends, l.invariant.end, l.invariant.from),
     )

@@ -1,5 +1,5 @@
 use Rattle.std.proofs.Common.{◌≡◌, ◌≤◌, ◌+◌, ◌-◌, ◌*◌, drop, map, true}
-use Rattle.pli_map.specs.Sizes.{end_behind}
+use Rattle.pli_map.specs.Sizes.{end_after}
 use Rattle.pli_map.specs.views.DescriptionView.{description_view, members_view}
 use Rattle.pli_map.proofs.ScalarPlaces.{nodes, nodes_among}
 use Rattle.pli_type.specs.NamedUnits.{all_plain}
@@ -22,7 +22,7 @@ abbrev pub invariant-members_from-loop-member : goal.invariant-members_from-loop
 invariant-members_from-loop-member l = record {
   plans : before (map plan_view l.plans.items) (plans_from l.fn.first (l.end - l.fn.first) (members_view (drop l.member-index l.members)))
       ≡ plans_from l.fn.first 0 (members_view l.members);
-  end : end_behind (l.end - l.fn.first) (members_view (drop l.member-index l.members)) ≡ end_behind 0 (members_view l.members);
+  end : end_after (l.end - l.fn.first) (members_view (drop l.member-index l.members)) ≡ end_after 0 (members_view l.members);
   from : l.fn.first ≤ l.end;
   plain : all_plain 63 (members_view (drop l.member-index l.members)) ≡ true;
 }

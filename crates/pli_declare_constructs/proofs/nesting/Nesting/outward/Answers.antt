@@ -1,7 +1,7 @@
 use Rattle.std.proofs.Common.{◌≡◌, ◌<◌, ◌∷◌, None, length, subst, sym, ap, ◌∙◌, arith}
 use Rattle.std.proofs.lemmas.List.{get_or_default}
 use Rattle.pli_declare_constructs.specs.Regions.{innermost, blocks_from}
-use Rattle.pli_declare_constructs.proofs.BlocksAround.{Outwards, leads, within_it, next, next_before, next_behind, next_none}
+use Rattle.pli_declare_constructs.proofs.BlocksAround.{Outwards, leads, within_it, next, next_before, next_after, next_none}
 use Rattle.pli_declare_constructs.proofs.nesting.Nesting.outward.Goals as goal
 
 some : (c : goal.After-result-1) → Outwards c.args.self.now c.args.block c.index-in-Some.result.now
@@ -28,7 +28,7 @@ returns-in-Some-clause-before c = (some c).earlier
 pub returns-in_default-clause-blocks : goal.returns-in_default-clause-blocks
 returns-in_default-clause-blocks c =
     let leads : Outwards c.args.self.now c.args.block (next c.args.self.now c.args.block c.index.result.now.outer) = leads c.args.self.now c.self.inside.regions.items c.self.view_is c.args.block c.requires c.index.result.now c.index.ensures in
-    leads.blocks ∙ ap (λ r. c.args.block ∷ blocks_from c.args.self.now r) (next_behind c.args.self.now c.args.block c.index.result.now.outer c.in-Some.outer c.in-Some.is c.if-outer-block.false)
+    leads.blocks ∙ ap (λ r. c.args.block ∷ blocks_from c.args.self.now r) (next_after c.args.self.now c.args.block c.index.result.now.outer c.in-Some.outer c.in-Some.is c.if-outer-block.false)
 
 pub returns-in_default-2-clause-blocks : goal.returns-in_default-2-clause-blocks
 returns-in_default-2-clause-blocks c =

@@ -5,7 +5,7 @@ use Rattle.pli_declare_constructs.specs.Regions.{outside, round_of}
 use Rattle.pli_declare_constructs.specs.Reach.{is_group, reaches}
 use Rattle.pli_declare_constructs.specs.answers.ReachSteps.{reaches_through}
 use Rattle.pli_declare_constructs.proofs.BlocksAround.{read}
-use Rattle.pli_declare_constructs.proofs.ReachStepLemmas.{reach_past, reach_here, reach_none, reach_behind, reach_outer}
+use Rattle.pli_declare_constructs.proofs.ReachStepLemmas.{reach_past, reach_here, reach_none, reach_after, reach_outer}
 use Rattle.pli_declare_constructs.proofs.ReachLemmas.{walk_is_reach}
 use Rattle.pli_declare_constructs.proofs.nesting.Nesting.reaches.Goals as goal
 use Rattle.pli_declare_constructs.proofs.nesting.Nesting.reaches.Goals.{then-left, else-left}
@@ -29,7 +29,7 @@ loop-here-preserved c =
     let within : c.loop-here.here < length regions = search rules in
     let here : c.loop-here.here < length (regions_view regions) = omega (arith, length-map regions region_view, within) in
     let is : get_or (regions_view regions) c.loop-here.here outside ≡ region_view c.index-region.result.now = read regions c.loop-here.here c.index-region.result.now within c.index-region.ensures in
-    ap (λ left. reaches_through (regions_view regions) left (round_of (regions_view regions) c.in-Some.outer) c.args.label) c.left_unit-left.ensures
+    ap (λ left. reaches_through (regions_view regions) left (round_of (regions_view regions) c.in-Some.outer) c.args.label) c.left_on_unit-left.ensures
     ∙ sym (reach_outer (regions_view regions) c.loop-here.left c.loop-here.here c.args.label here (region_view c.index-region.result.now) is c.if-here-label.false c.in-Some.outer c.in-Some.is c.if-outer-here.true)
     ∙ c.loop-here.invariant
 
@@ -39,7 +39,7 @@ returns-in_default c =
     let within : c.loop-here.here < length regions = search rules in
     let here : c.loop-here.here < length (regions_view regions) = omega (arith, length-map regions region_view, within) in
     let is : get_or (regions_view regions) c.loop-here.here outside ≡ region_view c.index-region.result.now = read regions c.loop-here.here c.index-region.result.now within c.index-region.ensures in
-    sym (reach_behind (regions_view regions) c.loop-here.left c.loop-here.here c.args.label here (region_view c.index-region.result.now) is c.if-here-label.false c.in-Some.outer c.in-Some.is c.if-outer-here.false)
+    sym (reach_after (regions_view regions) c.loop-here.left c.loop-here.here c.args.label here (region_view c.index-region.result.now) is c.if-here-label.false c.in-Some.outer c.in-Some.is c.if-outer-here.false)
     ∙ c.loop-here.invariant ∙ walk_is_reach (regions_view regions) c.args.from c.args.label ∙ ap (λ rs. reaches rs c.args.from c.args.label) c.self.view_is
 
 pub returns-in_default-2 : goal.returns-in_default-2

@@ -26,7 +26,7 @@ loop-placed-init c =
 pub append_at-requires : goal.append_at-requires
 append_at-requires c =
     let o = outline_view c.args.self.now.scopes.outline.now in
-    let before = marks_view (take c.loop-placed.placed-index c.marks_behind-marks.result.now) in
+    let before = marks_view (take c.loop-placed.placed-index c.marks_after-marks.result.now) in
     omega (
       arith,
       c.block_of-block.ensures,
@@ -40,14 +40,14 @@ pub loop-placed-preserved : goal.loop-placed-preserved
 loop-placed-preserved c =
     let o = outline_view c.args.self.now.scopes.outline.now in
     let l = c.loop-placed in
-    let marks = c.marks_behind-marks.result.now in
+    let marks = c.marks_after-marks.result.now in
     let n = l.placed-index in
     let x = c.placed-item.result in
     let b = c.block_of-block.result in
     let count = length o.regions + 1 in
     let lt : n < length marks = c.loop-placed-test.true in
     let within : b < count = omega (arith, c.block_of-block.ensures, block_within o.regions x.region) in
-    let stands : Contains (inner_marks o.marks) (placed_view x) = mark_stands marks n x (inner_marks o.marks) lt c.placed-item.is c.marks_behind-marks.ensures in
+    let stands : Contains (inner_marks o.marks) (placed_view x) = mark_stands marks n x (inner_marks o.marks) lt c.placed-item.is c.marks_after-marks.ensures in
     let round : blocks_round o.regions b ≡ blocks_round o.regions x.region =
     ap (blocks_round o.regions) c.block_of-block.ensures ∙ c.args.self.now.scopes.placed (placed_view x) stands in
     let added = c.in_ok-append_at.ensures in

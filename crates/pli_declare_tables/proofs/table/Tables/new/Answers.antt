@@ -2,14 +2,14 @@ use Rattle.std.proofs.Common.{◌+◌, List, length, map, sym, ap, ◌∙◌, su
 use Rattle.pli_declare_outline.specs.views.OutlineView.{outline_view}
 use Rattle.pli_declare_scopes.specs.Repeats.{verdicts_of}
 use Rattle.pli_declare_tables.specs.Tables.{Entry, written, with_verdicts, numbers_from, table_with}
-use Rattle.pli_declare_tables.specs.answers.Answers.{AllBehindOwners}
-use Rattle.pli_declare_tables.proofs.TablesOfUnits.{all_behind, tables_in, unit_is}
+use Rattle.pli_declare_tables.specs.answers.Answers.{AllAfterOwners}
+use Rattle.pli_declare_tables.proofs.TablesOfUnits.{all_after, tables_in, unit_is}
 use Rattle.pli_declare_tables.proofs.table.Tables.new.Goals as goal
 
 pub tables_of-requires : goal.tables_of-requires
 tables_of-requires c =
     let o = outline_view c.args.outline.now in
-    subst (λ (bs : List (List Entry)). AllBehindOwners bs) (sym c.in_ok-declared_blocks.ensures) (all_behind o 0 (length o.regions + 1))
+    subst (λ (bs : List (List Entry)). AllAfterOwners bs) (sym c.in_ok-declared_blocks.ensures) (all_after o 0 (length o.regions + 1))
 
 pub returns : goal.returns
 returns c =

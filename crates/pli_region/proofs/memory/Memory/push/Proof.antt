@@ -53,7 +53,7 @@ push_spec 𝓤 𝓛 𝓜 𝓡 wired =
     rewrite ! 0 (λ (n : ℕ). ‵ (froom (block_of n) b (o + length xs))) more refl $
     use1 𝓛 (‵ (froom (ty_int w8) b (o + length xs)) ⊛ ‵ (froom (block_of left) b (o + length xs + 1))) (𝓛.laws.room_uncons (ty_int w8) left b (o + length xs)) $ split ! $
     rewrite ! 0 (λ (k : ℕ). ‵ (froom (ty_int w8) b k)) here refl $
-    -- [the place; the room behind it; the bytes; the pointer's cell]
+    -- [the place; the room after it; the bytes; the pointer's cell]
     first ! $ blocks ! $
     sets ! (of_opd ! (load ! (through ! refl (fld ! refl (stop !))) (look_in ! 3 (sub ! 0 refl (whole !))))) refl (tt, tt) $
     sets ! (bin ! (get ! refl) (get ! refl) tt) refl (tt, tt) $
@@ -62,8 +62,8 @@ push_spec 𝓤 𝓛 𝓜 𝓡 wired =
     use1 𝓛 (‵ (part_at u8 full_share byte b (at + o))) (uint_in 𝓛 full_share w8 byte b (at + o)) $
     rewrite ! 0 (λ (k : ℕ). ‵ (part_at u8 full_share byte b k)) (sym here) refl $ nothing ! $ move ! (1 ∷ 0 ∷ []) $ fjoin ! $
     move ! (2 ∷ 0 ∷ []) $ use2 𝓛 (‵ (bytes full_share (xs ++ byte ∷ []) b o)) (bytes_glue 𝓛 full_share xs (byte ∷ []) b o) $ move ! (1 ∷ []) $
-    let behind : o + length xs + 1 ≡ o + length (xs ++ byte ∷ []) = omega (arith, long) in
-    rewrite ! 0 (λ (k : ℕ). ‵ (froom (block_of left) b k)) behind refl $ move ! (1 ∷ 0 ∷ []) $
+    let beyond : o + length xs + 1 ≡ o + length (xs ++ byte ∷ []) = omega (arith, long) in
+    rewrite ! 0 (λ (k : ℕ). ‵ (froom (block_of left) b k)) beyond refl $ move ! (1 ∷ 0 ∷ []) $
     memory_closes ! tt new b o rb ro at_b (omega (arith, long, fit, more)) $
     returns ! (look_at ! 0 refl) $ free_all ! refl $
     suffices ! _ (ends_at 𝓛 f.ended stayed c y vunit tt (new, (tt, (tt, tt))) (tt, (tt, (tt, tt)))) $ says_three ! (refl, sym (omega (arith, more)), refl) $

@@ -8,7 +8,7 @@ use Rattle.pli_map.specs.views.DescriptionView.{description_view}
 use Rattle.pli_world.specs.World.{nothing}
 use Rattle.pli_store.specs.views.GenerationView.{generation_view}
 use Rattle.pli_store.specs.views.StorageView.{place_view, with_storage}
-use Rattle.pli_store.proofs.AreaAnswers.{area_dead, area_stands, behind_beginning, block_refused, in_a_block, no_area, other_area}
+use Rattle.pli_store.proofs.AreaAnswers.{area_dead, area_stands, after_beginning, block_refused, in_a_block, no_area, other_area}
 use Rattle.pli_store.proofs.PlaceLemmas.{within_store, stored_one}
 use Rattle.pli_store.proofs.Searches.{stands_in_view}
 use Rattle.pli_store.proofs.storage.Storage.area_at.Goals as goal
@@ -30,7 +30,7 @@ returns-in_default c = λ w. area_dead (place_view c.args.place) (with_storage c
 pub returns-then-place-ne0-2 : goal.returns-then-place-ne0-2
 returns-then-place-ne0-2 c = λ w.
     let s = c.in-Some.ensures in
-    behind_beginning (place_view c.args.place) (with_storage c.args.self.now w) s.generation s.found c.if-place-ne0.false c.if-place-ne0-2.true
+    after_beginning (place_view c.args.place) (with_storage c.args.self.now w) s.generation s.found c.if-place-ne0.false c.if-place-ne0-2.true
 
 pub returns-then-not-is_area : goal.returns-then-not-is_area
 returns-then-not-is_area c = λ w.

@@ -2,12 +2,12 @@ use Rattle.std.proofs.Common.{◌≡◌, nat_eq, false, get_or, length, sym, ap,
 use Rattle.std.specs.Int.{bit_at}
 use Rattle.std.proofs.lemmas.List.{get_or_read}
 use Rattle.std.proofs.lemmas.Nat.Bits.{shr_and_one}
-use Rattle.pli_value.proofs.PackingLaws.{bit_behind, bit_at_place}
+use Rattle.pli_value.proofs.PackingLaws.{bit_after, bit_at_place}
 use Rattle.pli_value.proofs.bit.Bits.at.Goals as goal
 
 pub returns-then-place-self : goal.returns-then-place-self
 returns-then-place-self c =
-    bit_behind c.self.inside.count c.self.inside.bytes.items c.args.place c.if-place-self.true ∙ ap (λ s. get_or s c.args.place false) c.self.view_is
+    bit_after c.self.inside.count c.self.inside.bytes.items c.args.place c.if-place-self.true ∙ ap (λ s. get_or s c.args.place false) c.self.view_is
 
 pub returns : goal.returns
 returns c =

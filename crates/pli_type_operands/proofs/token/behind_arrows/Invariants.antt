@@ -1,9 +1,0 @@
-use Rattle.std.proofs.Common.{◌≡◌, drop}
-use Rattle.pli_base.specs.views.SyntaxView.{joined_view}
-use Rattle.pli_type.specs.Typing.{behind_arrows}
-use Rattle.pli_type_operands.proofs.token.behind_arrows.Given as goal
-
--- the last name behind an arrow so far, with those of the parts that are left
-abbrev pub invariant-loop-part : goal.invariant-loop-part
-invariant-loop-part l =
-    behind_arrows l.last (joined_view (drop l.part-index l.joined)) ≡ behind_arrows l.fn.at (joined_view l.joined)
