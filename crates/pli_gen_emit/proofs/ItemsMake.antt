@@ -147,6 +147,11 @@ infixr 40 ◌⊳◌
 ◌⊳◌ : {p : ℕ} {xs ys : List Item} {is js : List op.Instruction} {ps qs : Places} → Codes p xs is ps → Codes (place_after is p) ys js qs → Codes p (xs ++ ys) (is ++ js) (ps ++ qs)
 f ⊳ g = made_both _ _ _ _ _ _ _ f g
 
+-- three parts, of which the first two are taken together
+regrouped : {p : ℕ} {ps : Places} (xs ys zs : List Item) (is js ks : List op.Instruction) → Codes p (xs ++ (ys ++ zs)) (is ++ (js ++ ks)) ps → Codes p ((xs ++ ys) ++ zs) ((is ++ js) ++ ks) ps
+regrouped {p} {ps} xs ys zs is js ks h =
+    subst (λ ls. Codes p ls ((is ++ js) ++ ks) ps) (sym (append_assoc xs ys zs)) (subst (λ ls. Codes p (xs ++ (ys ++ zs)) ls ps) (sym (append_assoc is js ks)) h)
+
 ended : {p : ℕ} {xs : List Item} {is : List op.Instruction} {ps : Places} → Codes p xs is (ps ++ []) → Codes p xs is ps
 ended {p} {xs} {is} {ps} h = subst (Codes p xs is) (append-nil ps) h
 
@@ -240,8 +245,8 @@ mutual
   value_codes (tree.Called callee arguments) p = arguments_codes arguments p ⊳ call_makes _ callee (argument_count arguments)
   value_codes (tree.Generations number) p = step (op.CountGenerations number) refl no_code
   value_codes (tree.Address variable) p = place_codes variable p ⊳ step op.AddressOf refl no_code
-  value_codes (tree.AsPointer area offset) p = value_codes offset p ⊳ place_codes area _ ⊳ step op.ToPointer refl no_code
-  value_codes (tree.AsOffset area pointer) p = value_codes pointer p ⊳ place_codes area _ ⊳ step op.ToOffset refl no_code
+  value_codes (tree.AsPointer area offset) p = (value_codes offset p ⊳ place_codes area _) ⊳ step op.ToPointer refl no_code
+  value_codes (tree.AsOffset area pointer) p = (value_codes pointer p ⊳ place_codes area _) ⊳ step op.ToOffset refl no_code
   value_codes (tree.Bounded which dimension variable) p = place_codes variable p ⊳ step (op.BoundOf which dimension) refl no_code
 
   root_codes : (r : Root) (p : ℕ) → Codes p (items.root_code r) (emitted.root_code r) []
@@ -346,9 +351,11 @@ module _ (p : ℕ) (t : List Item) (t' : List op.Instruction) (tested : Codes p 
       let l = h.long in
       let m = k.long in
       let r = suc (place_after (f first_place) first_place) in
-      tested
+      regrouped t (leading (Ahead (suc (size part))) coded.JumpUnless ∷ part) (leading (Ahead (size other)) coded.Jump ∷ other) t' (op.JumpUnless r ∷ f first_place)
+      (op.Jump (place_after (g r) r) ∷ g r)
+      (tested
       ⊳ more (jump_unless (place_after t' p) (suc (size part)) r (omega (arith, l)))
-      (h ⊳ more (jump_ahead (place_after (f first_place) first_place) (size other) (place_after (g r) r) (omega (arith, m))) k)
+      (h ⊳ more (jump_ahead (place_after (f first_place) first_place) (size other) (place_after (g r) r) (omega (arith, m))) k))
 
 turns_codes : (n p : ℕ) (t list : List Item) (t' : List op.Instruction) (f : ℕ → List op.Instruction) (ps : Places) → Codes (suc p) t t' []
     → (let q = suc (suc (place_after t' (suc p))) in Codes q list (f q) ps) → Codes p (items.turns_code n t list) (emitted.turns_code n t' f p) ps
@@ -362,9 +369,7 @@ turns_codes n p t list t' f ps tested h =
     let m = turn.long in
     let passed = size (plain (coded.Line n) ∷ t ++ leading (Ahead (suc (suc (size list)))) coded.JumpUnless ∷ plain (coded.Step n) ∷ list) in
     let back = jump_back (place_after (op.Line n ∷ t' ++ leave ∷ op.Step n ∷ f q) p) passed p (omega (arith, m)) in
-    ended
-    (subst (λ is. Codes p (items.turns_code n t list) (op.Line n ∷ is) (ps ++ [])) (append_assoc t' (leave ∷ op.Step n ∷ f q) (op.Jump p ∷ []))
-    (turn ⊳ more back no_code))
+    ended (turn ⊳ more back no_code)
 
 -- ---- iterations
 
@@ -477,9 +482,14 @@ iterate_codes n p i list f ps h =
     let listed : Codes (suc (place_after (emitted.tests_code i target) turn_at)) list (f q) ps = subst (λ k. Codes (suc k) list (f q) ps) same h in
     let turn = tests ⊳ step (op.Step n) refl listed in
     let back = back_codes n between between' advances iterated _ _ turn_at turn.long in
+    let turned = items.tests_code i passed ++ plain (coded.Step n) ∷ list in
+    let turned' = emitted.tests_code i target ++ op.Step n ∷ f q in
+    let start' = emitted.start_code i in
     ended
-    (subst (λ is. Codes p (items.iterate_code n i list) (emitted.start_code i ++ is) (ps ++ [])) (append_assoc (emitted.tests_code i target) (op.Step n ∷ f q) back')
-    (start_codes i p ⊳ turn ⊳ back))
+    (subst (λ is. Codes p (items.iterate_code n i list) is (ps ++ []))
+    (append_assoc start' turned' back' ∙ ap (λ is. start' ++ is) (append_assoc (emitted.tests_code i target) (op.Step n ∷ f q) back')
+    ∙ sym (append_assoc start' (emitted.tests_code i target) ((op.Step n ∷ f q) ++ back')))
+    (regrouped (items.start_code i) turned (items.back_code iterated n between (size turned)) start' turned' back' (start_codes i p ⊳ turn ⊳ back)))
 
 -- ---- statements
 
@@ -489,10 +499,10 @@ mutual
 
   form_codes : (n : ℕ) (form : Form) (p : ℕ) → Codes p (items.form_code n form) (emitted.form_code n form p) (emitted.places_in_form form p)
   form_codes n tree.Null p = no_code
-  form_codes n (tree.Assign target value) p = place_codes target p ⊳ value_codes value _ ⊳ step op.Store refl no_code
-  form_codes n (tree.AssignString target value) p = place_codes target p ⊳ value_codes value _ ⊳ step op.FitToPlace refl (step op.Store refl no_code)
-  form_codes n (tree.AssignAggregate target source) p = place_codes target p ⊳ place_codes source _ ⊳ step op.Copy refl no_code
-  form_codes n (tree.AssignArea target source) p = place_codes target p ⊳ place_codes source _ ⊳ step op.AssignArea refl no_code
+  form_codes n (tree.Assign target value) p = (place_codes target p ⊳ value_codes value _) ⊳ step op.Store refl no_code
+  form_codes n (tree.AssignString target value) p = (place_codes target p ⊳ value_codes value _) ⊳ step op.FitToPlace refl (step op.Store refl no_code)
+  form_codes n (tree.AssignAggregate target source) p = (place_codes target p ⊳ place_codes source _) ⊳ step op.Copy refl no_code
+  form_codes n (tree.AssignArea target source) p = (place_codes target p ⊳ place_codes source _) ⊳ step op.AssignArea refl no_code
   form_codes n (tree.EmptyArea target) p = place_codes target p ⊳ step op.EmptyArea refl no_code
   form_codes n (tree.Put skip printed) p = skip_codes skip p ⊳ printed_codes printed _
   form_codes n (tree.If condition consequence alternative) p =

@@ -1,6 +1,6 @@
 -- Descriptions, as definitions speak of them (own): without where they lie in memory. Names do not stand in
 -- them, so two descriptions are equal where types, bounds and structure agree.
-use Rattle.std.specs.Prelude.{ℕ, List}
+use Rattle.std.specs.Prelude.{ℕ, List, [], ◌∷◌}
 use Rattle.std.specs.Int.{next_multiple_of}
 use Rattle.pli_map.specs.declared.description.Bounds.{Bounds}
 

@@ -58,7 +58,7 @@ module _ (operand : Reader) (sound : IsSound operand) where
       (λ z s. more top z.value.count z.value.tree z.next z.rest (omega (arith, s.0, s.1)))
       in
       let whole : Stands 1 (p + 1) x.1 (right >>= after) =
-      stands_then 1 0 (p + 1) x.1 right rest_after right_stands (λ y s. more min y.value.count (Infix x.0 p left y.value.tree) y.next y.rest (omega (arith, s.0, s.1)))
+      stands_then 1 0 (p + 1) x.1 right after right_stands (λ y s. more min y.value.count (Infix x.0 p left y.value.tree) y.next y.rest (omega (arith, s.0, s.1)))
       in
       limited_stands 0 count p ts (right >>= after) (omega arith)
       (at_least 2 0 p ts (right >>= after) (omega arith) (stands_after 1 1 p (p + 1) ts x.1 (right >>= after) (passes_one p ts x.1 one) whole))
