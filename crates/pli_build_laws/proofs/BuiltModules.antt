@@ -22,7 +22,8 @@ use Rattle.pli_deck_write.proofs.BytesAlike.{deck_same}
 use Rattle.pli_link_laws.specs.LinkedModules.{IsSaidAlone}
 use Rattle.pli_link_laws.proofs.LinkedFrom.{of_faultless}
 use Rattle.pli_link_laws.proofs.ModulesSay.{linked_modules_are_spelled}
-use Rattle.pli_meaning.specs.Scratch.{Diagnostic, scratch, built, linked, Made, all_text, all_units, is_long, units_in, units_of, compiled_of}
+use Rattle.pli_meaning.specs.MemberParts.{all_text, all_units, units_in}
+use Rattle.pli_meaning.specs.Scratch.{Diagnostic, scratch, built, linked, Made, is_long, units_of, compiled_of}
 use Rattle.pli_meaning.proofs.UnitsOfTrees.{coded_tree, AreOfMembers, all_coded}
 use Rattle.pli_members.specs.Members.{Member}
 use Rattle.pli_members.specs.declared.kind.MemberKind.{MemberKind}

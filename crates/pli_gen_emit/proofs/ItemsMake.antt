@@ -29,6 +29,22 @@ use Rattle.pli_gen_emit.specs.Encoding as encoded
 use Rattle.pli_gen_emit.specs.Encoding.{descriptions_named, templates_named, values_named, instruction_code, tables_for, coded_blocks, coded_unit}
 use Rattle.pli_gen_emit.specs.CodingLaws.{CodesAlike}
 
+-- SKIP
+abbrev skip_items : Bool → List Item
+skip_items skip = if skip then plain coded.Skip ∷ [] else []
+
+-- what is printed
+abbrev printed_items : List TypedExpression → List Item
+printed_items es = flat_map (λ e. items.value_code e ++ plain coded.Put ∷ []) es
+
+-- a test, and the part where it holds
+abbrev one_way : (test part : List Item) → List Item
+one_way test part = test ++ leading (Ahead (size part)) coded.JumpUnless ∷ part
+
+-- and the other one
+abbrev two_ways : (test part other : List Item) → List Item
+two_ways test part other = test ++ leading (Ahead (suc (size part))) coded.JumpUnless ∷ part ++ leading (Ahead (size other)) coded.Jump ∷ other
+
 abbrev Places : Type 0
 Places = List (ℕ × ℕ)
 
@@ -281,20 +297,20 @@ mutual
       value_codes value p ⊳ more (dummy_makes _ d) (arguments_codes others _)
   arguments_codes (tree.ByString form value others) p = value_codes value p ⊳ step (op.MakeStringDummy form) refl (arguments_codes others _)
 
-call_codes : (c : Callee) (given : TypedArguments) (p : ℕ) → Codes p (items.call_code c given) (emitted.call_code c given) []
+call_codes : (c : Callee) (given : TypedArguments) (p : ℕ) → Codes p (items.value_code (tree.Called c given)) (emitted.call_code c given) []
 call_codes c given p = arguments_codes given p ⊳ call_makes _ c (argument_count given)
 
-skip_codes : (skip : Bool) (p : ℕ) → Codes p (items.skip_code skip) (emitted.skip_code skip) []
+skip_codes : (skip : Bool) (p : ℕ) → Codes p (skip_items skip) (emitted.skip_code skip) []
 skip_codes true p = step op.Skip refl no_code
 skip_codes false p = no_code
 
-printed_codes : (es : List TypedExpression) (p : ℕ) → Codes p (items.items_code es) (emitted.items_code es) []
+printed_codes : (es : List TypedExpression) (p : ℕ) → Codes p (printed_items es) (emitted.items_code es) []
 printed_codes [] p = no_code
 printed_codes (e ∷ es) p =
-    subst (λ is. Codes p (items.items_code (e ∷ es)) is []) (append_assoc (emitted.value_code e) (op.Put ∷ []) (emitted.items_code es))
+    subst (λ is. Codes p (printed_items (e ∷ es)) is []) (append_assoc (emitted.value_code e) (op.Put ∷ []) (emitted.items_code es))
     ((value_codes e p ⊳ step op.Put refl no_code) ⊳ printed_codes es _)
 
-operations_codes : (os : List TypedOperation) (p : ℕ) → Codes p (items.operations_code os) (emitted.operations_code os) []
+operations_codes : (os : List TypedOperation) (p : ℕ) → Codes p (map items.operation_code os) (emitted.operations_code os) []
 operations_codes [] p = no_code
 operations_codes (o ∷ os) p = operation_makes o (operations_codes os (suc p))
 
@@ -340,13 +356,13 @@ module _ (p : ℕ) (t : List Item) (t' : List op.Instruction) (tested : Codes p 
   abbrev first_place : ℕ
   first_place = suc (place_after t' p)
 
-  one_way_codes : (part : List Item) (f : ℕ → List op.Instruction) (ps : Places) → Codes first_place part (f first_place) ps → Codes p (items.one_way t part) (emitted.one_way t' f p) ps
+  one_way_codes : (part : List Item) (f : ℕ → List op.Instruction) (ps : Places) → Codes first_place part (f first_place) ps → Codes p (one_way t part) (emitted.one_way t' f p) ps
   one_way_codes part f ps h =
       let l = h.long in
       tested ⊳ more (jump_unless (place_after t' p) (size part) (place_after (f first_place) first_place) (omega (arith, l))) h
 
   two_ways_codes : (part other : List Item) (f g : ℕ → List op.Instruction) (ps qs : Places) → Codes first_place part (f first_place) ps
-      → (let r = suc (place_after (f first_place) first_place) in Codes r other (g r) qs) → Codes p (items.two_ways t part other) (emitted.two_ways t' f g p) (ps ++ qs)
+      → (let r = suc (place_after (f first_place) first_place) in Codes r other (g r) qs) → Codes p (two_ways t part other) (emitted.two_ways t' f g p) (ps ++ qs)
   two_ways_codes part other f g ps qs h k =
       let l = h.long in
       let m = k.long in
@@ -532,7 +548,7 @@ mutual
   if_codes tree.NoElse condition part part' places h p =
       let test' = emitted.value_code condition in
       let q = suc (place_after test' p) in
-      subst (Codes p (items.one_way (items.value_code condition) part) (emitted.one_way test' part' p)) (sym (append-nil (places q)))
+      subst (Codes p (one_way (items.value_code condition) part) (emitted.one_way test' part' p)) (sym (append-nil (places q)))
       (one_way_codes p (items.value_code condition) test' (value_codes condition p) part part' (places q) (h q))
   if_codes (tree.Else statement) condition part part' places h p =
       let test' = emitted.value_code condition in

@@ -1,7 +1,7 @@
 -- Translation: the code of each form of typed tree (own), as items: an instruction that leads somewhere says
 -- how many instructions it passes, or the statement to whose label it leads.
 use Rattle.std.specs.Prelude.{ℕ, suc, ◌+◌, Bool, true, false, Option, Some, None, option_map}
-use Rattle.std.specs.Prelude.{List, [], ◌∷◌, ◌++◌, map}
+use Rattle.std.specs.Prelude.{List, [], ◌∷◌, ◌++◌, map, if◌then◌else◌}
 use Rattle.std.specs.List.{flat_map}
 use Rattle.pli_run.specs.declared.ending.RunError.TheVariants.{NoReturnedValue}
 use Rattle.pli_operation.specs.declared.operation.Operation.TheVariants.{Add, Within}
@@ -101,31 +101,13 @@ abbrev mutual
   arguments_code (ByString form value more) =
       value_code value ++ plain (coded.MakeStringDummy form) ∷ arguments_code more
 
--- the code of a call, with its arguments
-abbrev pub call_code : Callee → TypedArguments → List Item
-call_code callee arguments =
-    arguments_code arguments ++ call_item callee (argument_count arguments) ∷ []
-
--- SKIP
-abbrev pub skip_code : Bool → List Item
-skip_code true = plain coded.Skip ∷ []
-skip_code false = []
-
--- items that are printed
-abbrev pub items_code : List TypedExpression → List Item
-items_code es = flat_map (λ e. value_code e ++ plain coded.Put ∷ []) es
-
--- one operation after the other
-abbrev pub operations_code : List TypedOperation → List Item
-operations_code operations = map operation_code operations
-
 -- a value becomes that of a variable that gets it, whose place is below it: by operations, by the place of an
 -- area, or by operations and the length of the string at the place
 abbrev pub conversion_code : Conversion → List Item
-conversion_code (ByOperations operations) = operations_code operations
+conversion_code (ByOperations operations) = map operation_code operations
 conversion_code (AsPointerIn area) = place_code area ++ plain coded.ToPointer ∷ []
 conversion_code (AsOffsetIn area) = place_code area ++ plain coded.ToOffset ∷ []
-conversion_code (ToPlace operations) = operations_code operations ++ plain coded.FitToPlace ∷ []
+conversion_code (ToPlace operations) = map operation_code operations ++ plain coded.FitToPlace ∷ []
 
 -- an item of ALLOCATE; the pointer to a BASED variable's generation or block is kept till its target's place
 -- is there. A block of an area is made after the area's place, and leads to where the item begins
@@ -147,16 +129,6 @@ abbrev pub freeing_code : FreedItem → List Item
 freeing_code (FreesControlled number) = plain (coded.FreeControlled number) ∷ []
 freeing_code (FreesBased locator description) =
     value_code locator ++ naming (OfDescription description) coded.FreeBased ∷ []
-
--- a test, a jump past the part that is executed where it holds, and that part
-abbrev pub one_way : (test part : List Item) → List Item
-one_way test part = test ++ leading (Ahead (size part)) coded.JumpUnless ∷ part
-
--- and with an ELSE part after it, past which a jump leads
-abbrev pub two_ways : (test part other : List Item) → List Item
-two_ways test part other =
-    test ++ leading (Ahead (suc (size part))) coded.JumpUnless
-    ∷ part ++ leading (Ahead (size other)) coded.Jump ∷ other
 
 -- turns of a loop: its statement, the test, a jump out of it, a step, the list, and the jump back
 abbrev pub turns_code : (number : ℕ) (test list : List Item) → List Item
@@ -249,7 +221,9 @@ abbrev mutual
   form_code number (AssignArea target source) =
       place_code target ++ place_code source ++ plain coded.AssignArea ∷ []
   form_code number (EmptyArea target) = place_code target ++ plain coded.EmptyArea ∷ []
-  form_code number (Put skip items) = skip_code skip ++ items_code items
+  form_code number (Put skip items) =
+      (if skip then plain coded.Skip ∷ [] else [])
+      ++ flat_map (λ e. value_code e ++ plain coded.Put ∷ []) items
   form_code number (If condition consequence alternative) =
       if_code (value_code condition) (statement_code consequence) alternative
   form_code number (Begin head statements) = plain (coded.Begin head.number) ∷ []
@@ -257,7 +231,7 @@ abbrev mutual
   form_code number (While condition statements) =
       turns_code number (value_code condition) (list_code statements)
   form_code number (Iterate iteration statements) = iterate_code number iteration (list_code statements)
-  form_code number (Call callee arguments) = call_code callee arguments
+  form_code number (Call callee arguments) = value_code (Called callee arguments)
   form_code number (Goto outward label) = leading (Labelled label) (coded.Goto outward) ∷ []
   form_code number (Return outward) = plain (coded.Return outward) ∷ []
   form_code number (ReturnValue outward value) = value_code value ++ plain (coded.ReturnValue outward) ∷ []
@@ -268,10 +242,14 @@ abbrev mutual
   form_code number (Allocate items) = flat_map allocation_code items
   form_code number (Free items) = flat_map freeing_code items
 
-  -- the test of an IF and its parts
+  -- the test of an IF, a jump past the part that is executed where it holds, and that part; and an ELSE part
+  -- after it, past which a jump leads
   pub if_code : (test part : List Item) → OtherWise → List Item
-  if_code test part NoElse = one_way test part
-  if_code test part (Else statement) = two_ways test part (statement_code statement)
+  if_code test part NoElse = test ++ leading (Ahead (size part)) coded.JumpUnless ∷ part
+  if_code test part (Else statement) =
+      let other = statement_code statement in
+      test ++ leading (Ahead (suc (size part))) coded.JumpUnless
+      ∷ part ++ leading (Ahead (size other)) coded.Jump ∷ other
 
   -- the code of statements, one after the other
   pub list_code : TypedStatements → List Item

@@ -19,7 +19,8 @@ use Rattle.pli_meaning.specs.Scratch.{sources}
 use Rattle.pli_ledger.specs.Fits.{Fits}
 use Rattle.pli_ledger.specs.Kept.{Kept, Ledger, Units, kept_of}
 use Rattle.pli_ledger.specs.Refused.{IsBetween, IsRefused, Rises, compiled_count, expanded_count}
-use Rattle.pli_ledger.specs.Work.{after, compiled_after, compiled_by, due_by, due_count, is_due, is_stale, kept_after, stale_by, stale_count, stale_kept}
+use Rattle.pli_ledger.specs.Work.{after, compiled_by, due_by, is_due, is_stale, kept_after, stale_by}
+use Rattle.pli_ledger.specs.WorkParts.{compiled_after, due_count, stale_count, stale_kept}
 use Rattle.pli_ledger.specs.answers.Aligning.{aligned}
 use Rattle.pli_ledger.specs.answers.Compiling.{IsRecalled, recompiled, refreshed, unit_is_due, unit_is_stale}
 use Rattle.pli_ledger.specs.answers.Passing.{PassedUpTo}

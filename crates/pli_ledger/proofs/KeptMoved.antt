@@ -10,7 +10,8 @@ use Rattle.std.proofs.lemmas.Map.Keys.{sorted_tail}
 use Rattle.pli_base.specs.Name.{Name}
 use Rattle.pli_base.specs.Words.{same_name}
 use Rattle.pli_members.specs.Members.{Member, is_named, name_order}
-use Rattle.pli_meaning.specs.Scratch.{source_in, sources}
+use Rattle.pli_meaning.specs.MemberParts.{source_in}
+use Rattle.pli_meaning.specs.Scratch.{sources}
 use Rattle.pli_ledger.specs.Kept.{Kept, Units, kept_of, nothing_kept}
 use Rattle.pli_ledger.specs.answers.Aligning.{aligned}
 use Rattle.pli_ledger.proofs.NamesApart.{kept_first, kept_later, named_itself, named_same, not_named, on_test}

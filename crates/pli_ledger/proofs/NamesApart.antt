@@ -9,7 +9,8 @@ use Rattle.std.proofs.lemmas.Map.Lookups.{exact_bytes}
 use Rattle.std.proofs.lemmas.Map.Views.{tells_apart}
 use Rattle.pli_base.specs.Name.{Name}
 use Rattle.pli_members.specs.Members.{is_named}
-use Rattle.pli_ledger.specs.Kept.{Kept, Units, nothing_kept, kept_of, or_nothing}
+use Rattle.pli_ledger.specs.Kept.{Kept, Units, nothing_kept, kept_of}
+use Rattle.pli_ledger.specs.WorkParts.{or_nothing}
 
 -- by a test
 pub on_test : {P : Type 0} (t : Bool) → (t ≡ true → P) → (t ≡ false → P) → P

@@ -12,7 +12,8 @@ use Rattle.pli_base.specs.Name.{Name}
 use Rattle.pli_members.specs.Members.{Member, is_named, name_order}
 use Rattle.pli_members.specs.declared.kind.MemberKind.{MemberKind}
 use Rattle.pli_members.specs.declared.kind.MemberKind.TheVariants.{Source, Include}
-use Rattle.pli_meaning.specs.Scratch.{source_in, sources}
+use Rattle.pli_meaning.specs.MemberParts.{source_in}
+use Rattle.pli_meaning.specs.Scratch.{sources}
 
 module _ {X : Type 0} where
   module _ (P Q : X → Type 0) where

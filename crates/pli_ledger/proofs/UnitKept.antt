@@ -9,7 +9,8 @@ use Rattle.pli_members.specs.Members.{Store}
 use Rattle.pli_ledger.specs.Kept.{Kept}
 use Rattle.pli_ledger.specs.Refused.{Rises}
 use Rattle.pli_ledger.specs.SameTexts.{same_texts}
-use Rattle.pli_ledger.specs.Work.{compiled_after, compiled_by, due_by, is_compiled, stale_by, stale_kept}
+use Rattle.pli_ledger.specs.Work.{compiled_by, due_by, is_compiled, stale_by}
+use Rattle.pli_ledger.specs.WorkParts.{compiled_after, stale_kept}
 use Rattle.pli_ledger.specs.answers.Compiling.{IsRecalled, one_if, recompiled, refreshed, unit_is_due, unit_is_stale}
 use Rattle.pli_ledger.specs.views.KeptView.{texts_of}
 use Rattle.pli_ledger.proofs.TextsSame.{texts_are, texts_themselves}

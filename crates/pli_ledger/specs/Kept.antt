@@ -1,6 +1,6 @@
 -- What is kept of units from one build to the next (own): for each SOURCE member its expansion, and the token
 -- texts of which there is a result.
-use Rattle.std.specs.Prelude.{ℕ, Option, None, Some, List, []}
+use Rattle.std.specs.Prelude.{ℕ, Option, None, List, [], unwrap_or}
 use Rattle.std.specs.Map.{lookup}
 use Rattle.pli_base.specs.Name.{Name}
 use Rattle.pli_base.specs.Words.{Tokens}
@@ -21,14 +21,9 @@ Units = List (Name × Kept)
 abbrev pub nothing_kept : Kept
 nothing_kept = record { expansion = None; compiled = None }
 
--- what is there, or nothing
-abbrev pub or_nothing : Option Kept → Kept
-or_nothing None = nothing_kept
-or_nothing (Some k) = k
-
--- what is kept of the unit of a name
+-- what is kept of the unit of a name, or nothing
 abbrev pub kept_of : Units → Name → Kept
-kept_of units name = or_nothing (lookup (is_named name) units)
+kept_of units name = unwrap_or (lookup (is_named name) units) nothing_kept
 
 -- a ledger: what is kept, and how many units the last build that was not refused has expanded and compiled
 pub record Ledger : Type 0 where

@@ -4,6 +4,7 @@ pub mod Refused
 pub mod SameTexts
 pub mod Told
 pub mod Work
+pub mod WorkParts
 pub mod answers
 pub mod laws
 pub mod views

@@ -1,7 +1,7 @@
 -- Which units a build has to expand and to compile, and what is kept after it (own). A unit is due where the
 -- members answer a name of its trace otherwise than they did; it is stale where its token texts have no
 -- result that is kept.
-use Rattle.std.specs.Prelude.{ℕ, Bool, true, false, not, Option, None, Some, map}
+use Rattle.std.specs.Prelude.{Bool, true, false, not, Option, None, Some, map}
 use Rattle.std.specs.List.{count_by}
 use Rattle.pli_base.specs.Name.{Name}
 use Rattle.pli_base.specs.Words.{Tokens}
@@ -32,48 +32,31 @@ abbrev pub stale_by : Option ExpansionFault → Tokens → Option Tokens → Boo
 stale_by (Some fault) texts compiled = false
 stale_by None texts compiled = not (is_compiled texts compiled)
 
--- the same of an expansion that is kept
-abbrev pub stale_kept : Option Expanded → Option Tokens → Bool
-stale_kept None compiled = false
-stale_kept (Some e) compiled = stale_by e.fault e.texts compiled
-
 -- the unit of a name is stale
 abbrev pub is_stale : Units → Store → Name → Bool
-is_stale units s name = stale_kept (Some (expansion_of s name)) (kept_of units name).compiled
+is_stale units s name =
+    let e = expansion_of s name in stale_by e.fault e.texts (kept_of units name).compiled
 
 -- what is compiled after a build: the texts; where the expansion has a fault what was before
 abbrev pub compiled_by : Option ExpansionFault → Tokens → Option Tokens → Option Tokens
 compiled_by (Some fault) texts before = before
 compiled_by None texts before = Some texts
 
--- the same of an expansion that is kept
-abbrev pub compiled_after : Option Expanded → Option Tokens → Option Tokens
-compiled_after None before = before
-compiled_after (Some e) before = compiled_by e.fault e.texts before
-
 -- what is kept of a unit of this expansion
 abbrev pub kept_after : Expanded → Kept → Kept
 kept_after e before =
-    record { expansion = Some e; compiled = compiled_after (Some e) before.compiled }
+    record { expansion = Some e; compiled = compiled_by e.fault e.texts before.compiled }
 
 -- what is kept after a build of the members: of each SOURCE member, and of nothing else
 abbrev pub after : Units → Store → Units
 after units s =
     map (λ name. (name, kept_after (expansion_of s name) (kept_of units name))) (sources s.entries)
 
--- how many units are due
-abbrev pub due_count : Units → Store → ℕ
-due_count units s = count_by (is_due units s) (sources s.entries)
-
--- how many are stale
-abbrev pub stale_count : Units → Store → ℕ
-stale_count units s = count_by (is_stale units s) (sources s.entries)
-
--- the ledger after a build of the members
+-- the ledger after a build of the members: how many units were due, and how many stale
 abbrev pub ledger_after : Ledger → Store → Ledger
 ledger_after l s =
     record {
       units = after l.units s;
-      expanded = due_count l.units s;
-      compiled = stale_count l.units s;
+      expanded = count_by (is_due l.units s) (sources s.entries);
+      compiled = count_by (is_stale l.units s) (sources s.entries);
     }

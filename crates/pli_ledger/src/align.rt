@@ -5,7 +5,8 @@ ghost use Rattle.std.specs.Option.{option_copied};
 ghost use Rattle.pli_base.specs.Name as base;
 ghost use Rattle.pli_ledger.specs.Kept.{kept_of};
 ghost use Rattle.pli_ledger.specs.answers.Aligning.{aligned, unit_name};
-ghost use Rattle.pli_meaning.specs.Scratch.{source_in, sources};
+ghost use Rattle.pli_meaning.specs.MemberParts.{source_in};
+ghost use Rattle.pli_meaning.specs.Scratch.{sources};
 
 use crate::kept::KeptUnit;
 use pli_base::Name;

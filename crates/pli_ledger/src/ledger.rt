@@ -3,7 +3,8 @@ ghost use Rattle.std.specs.Prelude.{◌≡◌, IfOk, OnErr, OnOk};
 ghost use Rattle.pli_ledger.specs.Fits.{Fits};
 ghost use Rattle.pli_ledger.specs.Kept.{empty_ledger};
 ghost use Rattle.pli_ledger.specs.Refused.{IsRefused, Rises, compiled_count, expanded_count};
-ghost use Rattle.pli_ledger.specs.Work.{due_count, ledger_after, stale_count};
+ghost use Rattle.pli_ledger.specs.Work.{ledger_after};
+ghost use Rattle.pli_ledger.specs.WorkParts.{due_count, stale_count};
 ghost use Rattle.pli_ledger.specs.answers.Built.{IsBuilt, IsStanding};
 
 use crate::align::align;

@@ -16,7 +16,8 @@ use Rattle.pli_gen_stands.specs.Linked.{IsModuleOf}
 use Rattle.pli_meaning_typed.specs.TypedPrograms.{HasMain, WellTyped}
 use Rattle.pli_type_tree.specs.TypedTree.{TypedUnit}
 use Rattle.pli_meaning.specs.Programs.{program_of_units, main_numbers}
-use Rattle.pli_meaning.specs.Scratch.{Made, built, linked, scratch, all_text, all_units, sources, trees_of}
+use Rattle.pli_meaning.specs.MemberParts.{all_text, all_units}
+use Rattle.pli_meaning.specs.Scratch.{Made, built, linked, scratch, sources, trees_of}
 use Rattle.pli_meaning.proofs.GlobalsFit.{all_fit, linked_where_fit, module_where_fit}
 use Rattle.pli_meaning.proofs.UnitsOfTrees.{coded_tree, IsOfMember, AreOfMembers, all_coded, all_typed, all_numbered}
 use Rattle.pli_meaning.proofs.VariablesMade.{few_bytes, few_variables}

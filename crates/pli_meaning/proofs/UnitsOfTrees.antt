@@ -35,7 +35,8 @@ use Rattle.pli_base.specs.Statements.{ExternalProcedure}
 use Rattle.pli_base.specs.Words.{Tokens}
 use Rattle.pli_declare.specs.Resolution.{resolution_faults}
 use Rattle.pli_meaning.specs.Programs.{of_member}
-use Rattle.pli_meaning.specs.Scratch.{Diagnostic, typed_unless, program_from, program_of, units_of, located, all_located, parsed_from, parsed_of, too_long, compiled_tree, is_long, short_deck, coded_from, compiled_texts, with_unit, compiled_from, compiled_of, diagnostics_in, diagnostic_line, all_text, all_units, text_in, units_in, sources, source_in, with_tree, trees_of}
+use Rattle.pli_meaning.specs.MemberParts.{all_text, all_units, text_in, units_in, source_in, with_tree}
+use Rattle.pli_meaning.specs.Scratch.{Diagnostic, typed_unless, program_from, program_of, units_of, located, all_located, parsed_from, parsed_of, too_long, compiled_tree, is_long, short_deck, coded_from, compiled_texts, with_unit, compiled_from, compiled_of, diagnostics_in, diagnostic_line, sources, trees_of}
 
 -- a list with an element is not empty
 filled : {A : Type 0} (xs ys : List A) (y : A) → xs ++ y ∷ ys ≡ [] → ⊥

@@ -7,14 +7,7 @@ use Rattle.pli_meaning_tree.specs.TreeMeaning.{TypedProgram}
 
 -- a unit has the name of its member, whatever its procedure is called
 abbrev pub of_member : (unit : Name) → TypedUnit → TypedUnit
-of_member unit u = record {
-  name = unit;
-  procedure = u.procedure;
-  is_main = u.is_main;
-  signature = u.signature;
-  globals = u.globals;
-  procedures = u.procedures;
-}
+of_member unit u = record u { name = unit }
 
 -- the program of units, with the one of this number as its main unit
 abbrev pub program_of_units : List TypedUnit → (main : ℕ) → TypedProgram

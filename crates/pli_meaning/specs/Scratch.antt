@@ -1,7 +1,9 @@
 -- A build from scratch: the diagnostics or the module that members give, and what their program means.
 use Rattle.std.specs.Prelude.{◌≡◌, ℕ, nat_lt, Bool, Option, Some, None, Result, Ok, Err, List, [], ◌∷◌, ◌++◌}
-use Rattle.std.specs.Prelude.{map, length, decimal, slice_get, if◌then◌else◌}
+use Rattle.std.specs.Prelude.{map, length, decimal, slice_get, option_map, if◌then◌else◌}
 use Rattle.std.specs.List.{flat_map}
+use Rattle.std.specs.Option.{option_and_then}
+use Rattle.std.specs.Result.{result_ok}
 use Rattle.pli_base.specs.Name.{Name}
 use Rattle.pli_base.specs.Codes.{code_label, code_text}
 use Rattle.pli_base.specs.Words.{Tokens}
@@ -129,15 +131,14 @@ compiled_from unit (Ok p) = all_located unit p.origins (with_unit unit (compiled
 unfoldable pub compiled_of : List (Name × Member) → Name → Result Compiled (List Diagnostic)
 compiled_of entries unit = compiled_from unit (outcome_of entries unit)
 
--- a name, where its member is a SOURCE
-abbrev pub source_in : Name → MemberKind → List Name
-source_in name Source = name ∷ []
-source_in name Include = []
+-- what a SOURCE member gives; an INCLUDE member is no unit
+abbrev pub if_source : {A : Type 0} → MemberKind → List A → List A
+if_source Source xs = xs
+if_source Include xs = []
 
 -- the units: the source members, in the order of their names
 abbrev pub sources : List (Name × Member) → List Name
-sources [] = []
-sources (e ∷ es) = source_in e.0 e.1.kind ++ sources es
+sources entries = flat_map (λ e. if_source e.1.kind (e.0 ∷ [])) entries
 
 -- the unit that was compiled, if it was
 abbrev pub units_of : Result Compiled (List Diagnostic) → List Compiled
@@ -187,41 +188,18 @@ abbrev pub built : (text : List ℕ) → List Compiled → Built
 built [] units = linked (link_of units)
 built (b ∷ text) units = Diagnosed (b ∷ text)
 
--- the diagnostics of a member among these: an INCLUDE member has none of its own
-abbrev pub text_in : List (Name × Member) → Name → MemberKind → List ℕ
-text_in entries name Source = diagnostics_in name (compiled_of entries name)
-text_in entries name Include = []
-
--- the unit that a member gives, if it has no diagnostics
-abbrev pub units_in : List (Name × Member) → Name → MemberKind → List Compiled
-units_in entries name Source = units_of (compiled_of entries name)
-units_in entries name Include = []
-
--- the lines of the diagnostics of all members
-abbrev pub all_text : (entries some : List (Name × Member)) → List ℕ
-all_text entries [] = []
-all_text entries (e ∷ es) = text_in entries e.0 e.1.kind ++ all_text entries es
-
--- the units that were compiled, of all members
-abbrev pub all_units : (entries some : List (Name × Member)) → List Compiled
-all_units entries [] = []
-all_units entries (e ∷ es) = units_in entries e.0 e.1.kind ++ all_units entries es
-
--- a build from scratch of the members
+-- a build from scratch of the members: the diagnostics of all units, and the units that were compiled
 unfoldable pub scratch : List (Name × Member) → Built
-scratch entries = built (all_text entries entries) (all_units entries entries)
-
--- the tree of one unit more, with the name of its member, if there is one
-abbrev pub with_tree : (unit : Name) → Result TypedUnit (List Diagnostic) → Option (List TypedUnit)
-    → Option (List TypedUnit)
-with_tree unit (Ok u) (Some us) = Some (of_member unit u ∷ us)
-with_tree unit (Ok u) None = None
-with_tree unit (Err diagnostics) us = None
+scratch entries =
+    built (flat_map (λ e. if_source e.1.kind (diagnostics_in e.0 (compiled_of entries e.0))) entries)
+    (flat_map (λ e. if_source e.1.kind (units_of (compiled_of entries e.0))) entries)
 
 -- the trees of units, each with the name of its member, if all have one
 abbrev pub trees_of : List (Name × Member) → List Name → Option (List TypedUnit)
 trees_of entries [] = Some []
-trees_of entries (unit ∷ units) = with_tree unit (parsed_of entries unit) (trees_of entries units)
+trees_of entries (unit ∷ units) =
+    option_and_then (λ u. option_map (λ us. of_member unit u ∷ us) (trees_of entries units))
+    (result_ok (parsed_of entries unit))
 
 -- what the members' program does with so many steps: each source member has a tree, just one of which is a
 -- main unit, and the whole run of their program has this meaning

@@ -10,7 +10,8 @@ use Rattle.pli_program.specs.Program.{Instruction, UnitCode, Program}
 use Rattle.pli_machine_step.specs.Machine as machine
 use Rattle.pli_machine_step.specs.Machine.{Operand, Locals, Frame, At, Goes, raises, act, resume}
 use Rattle.pli_meaning_tree.specs.Effects as effect
-use Rattle.pli_meaning_tree.specs.Effects.{Label, Gives, Doing, after_on_unit, resolved}
+use Rattle.pli_meaning_tree.specs.Effects.{Label, Gives, Doing, without_value}
+use Rattle.pli_meaning_tree.specs.Parts.{resolved}
 use Rattle.pli_meaning_simulation.specs.CodeStands.{Context, Is}
 use Rattle.pli_meaning_simulation.proofs.ReachesLemmas.{Fine, Kept, Target, stays, waiting, frame, resumes, Reaches, gives, then_reaches, bound, goes}
 
@@ -29,9 +30,9 @@ module _ (p : Program) (number : ℕ) (u : UnitCode) (at : Label → ℕ) where
         → Reaches p number u at c (resume (machine.erring p e k (waiting p number u b ops l again) fs w) left) l to fs (effect.erring raise after e k w left)
     erring_run b ops again after e None fine fs w left f = record { by = stays p _ }
     erring_run {c = c} b ops again {l} {to} after e (Some k) fine fs w left f =
-        bound p number u at {to = resumes p number u b ops again fs} {to2 = to} (raise k w left) (after_on_unit after) (raises_run k c b ops l again fs fine w left) later
+        bound p number u at {to = resumes p number u b ops again fs} {to2 = to} (raise k w left) (without_value after) (raises_run k c b ops l again fs fine w left) later
       where
-        later : (m : Locals) → Kept c l m → (x : Option Value) (w : World) (left : ℕ) → Reaches p number u at c (resumes p number u b ops again fs m x w left) m to fs (after_on_unit after x w left)
+        later : (m : Locals) → Kept c l m → (x : Option Value) (w : World) (left : ℕ) → Reaches p number u at c (resumes p number u b ops again fs m x w left) m to fs (without_value after x w left)
         later m kept None w left = f m kept.fine w left
         later m kept (Some v) w left = record { by = tt }
 

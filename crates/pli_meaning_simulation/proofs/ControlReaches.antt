@@ -12,8 +12,8 @@ use Rattle.pli_program.specs.Program.{UnitCode, Program}
 use Rattle.pli_machine_step.specs.Machine as machine
 use Rattle.pli_machine_step.specs.Machine.{Operand, OfValue, Locals, Frame, State, At, Move, Goes, Stops, Steps, given, calm, fresh, lands, jumps_at, counted, counted_jump, jumped, resume}
 use Rattle.pli_meaning_tree.specs.Effects as effect
-use Rattle.pli_meaning_tree.specs.Effects.{Label, Effect, Gives, Jumps, Fails, Spent, Lost, Short, Flow, Next, Doing, and_then, nothing_done, followed, answered, as_step, chosen, truth, turns, on_jump, caught, leaving}
-use Rattle.pli_meaning_tree.specs.TreeMeaning.{jumps_to}
+use Rattle.pli_meaning_tree.specs.Effects.{Label, Effect, Gives, Jumps, Fails, Spent, Lost, Short, Flow, Next, Doing, and_then, nothing_done, answered, as_step, truth, turns, on_jump, caught, leaving}
+use Rattle.pli_meaning_tree.specs.Parts.{followed, jumps_to, chosen}
 use Rattle.pli_meaning_simulation.specs.CodeStands.{Context, deeper, Nests, Is, Forward}
 use Rattle.pli_meaning_simulation.proofs.ReachesLemmas.{Fine, Kept, kept_out, kept_same, WithinContext, Target, Comes, stays, Arrives, arrives_from, waiting, frame, flows, tested, landed, Reaches, gives, then_reaches, keeping, bound, goes_on_in, goes}
 

@@ -10,8 +10,9 @@ use Rattle.pli_program.specs.Program.{UnitCode, Program}
 use Rattle.pli_machine_step.specs.Machine.{Operand, OfValue, AtPlace, Locals, Frame, At}
 use Rattle.pli_type_tree.specs.TypedOperations.{comes_to}
 use Rattle.pli_type_tree.specs.TypedTree.{TypedOperation, Conversion, ByOperations, AsPointerIn, AsOffsetIn, ToPlace}
-use Rattle.pli_meaning_tree.specs.Effects.{Label, resolved}
-use Rattle.pli_meaning_tree.specs.TreeMeaning.{Calls, place_of, operated_by, fitted_at, converted}
+use Rattle.pli_meaning_tree.specs.Effects.{Label}
+use Rattle.pli_meaning_tree.specs.TreeMeaning.{Calls, place_of, operated_by, converted}
+use Rattle.pli_meaning_tree.specs.Parts.{resolved, fitted_at}
 use Rattle.pli_program.specs.Program as op
 use Rattle.pli_meaning_simulation.specs.CodeStands.{Context, Is, OperationsStand, ConversionStands}
 use Rattle.pli_meaning_simulation.proofs.ReachesLemmas.{Fine, Comes, stays, frame, pushes, Reaches, gives, bound, answers}

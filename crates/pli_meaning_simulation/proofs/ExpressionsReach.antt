@@ -15,9 +15,10 @@ use Rattle.pli_program.specs.Program.{UnitCode, Program}
 use Rattle.pli_machine_step.specs.Machine.{Operand, OfValue, AtPlace, AtDummy, Locals, Frame, At, values_off, places_off, operated, act, resume}
 use Rattle.pli_type_tree.specs.TypedOperations.{comes_to}
 use Rattle.pli_type_tree.specs.TypedTree.{TypedOperation, Fit, Operate, Root, InSlot, OfProgram, NewestOf, Located, Callee, TypedExpression, Literal, Held, Calculated, Called, Generations, Address, AsPointer, AsOffset, Bounded, TypedReference, Whole, Part, ElementOf, Operands, NoOperand, OperandThen, Subscripts, NoSubscript, SubscriptThen, TypedArguments, NoArgument, ByPlace, ByDummy, ByString}
-use Rattle.pli_meaning_tree.specs.Effects.{Label, Doing, answered, resolved}
+use Rattle.pli_meaning_tree.specs.Effects.{Label, Doing, answered}
 use Rattle.pli_meaning_tree.specs.TreeMeaning as meaning
-use Rattle.pli_meaning_tree.specs.TreeMeaning.{Calls, a_value, in_order, root_place, element_of, dimension_of, value_of, place_of, element_at, element_by, called_with}
+use Rattle.pli_meaning_tree.specs.TreeMeaning.{Calls, in_order, root_place, value_of, place_of, element_at, element_by, called_with}
+use Rattle.pli_meaning_tree.specs.Parts.{resolved, a_value, element_of, dimension_of}
 use Rattle.pli_meaning_simulation.specs.CodeStands.{Then, Context, arguments_in, call_of, operation_code, Is, RootStands, ValueStands, OperandsStand, PlaceStands, SubscriptsStand, DimensionsStand, ArgumentsStand}
 use Rattle.pli_meaning_simulation.proofs.ReachesLemmas.{Fine, Comes, stays, frame, pushes, returns, Reaches, gives, then_reaches, bound, goes, answers}
 use Rattle.pli_meaning_simulation.proofs.ConditionsReach.{RaisesRun, resolved_run}

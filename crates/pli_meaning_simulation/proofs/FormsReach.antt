@@ -12,8 +12,9 @@ use Rattle.pli_program.specs.Program.{BeginBlock, Block, UnitCode, Program}
 use Rattle.pli_machine_step.specs.Machine as machine
 use Rattle.pli_machine_step.specs.Machine.{OfValue, AtPlace, Locals, Frame, State, At, Goes, given, faulty, calm, fresh, begun, enters, resume}
 use Rattle.pli_type_tree.specs.TypedTree.{Callee, TypedExpression, Called, TypedReference, TypedArguments, BlockHead, TypedStatements}
-use Rattle.pli_meaning_tree.specs.Effects.{Label, Effect, Gives, Jumps, Fails, Spent, Lost, Short, Flow, Next, Returned, Doing, and_then, nothing_done, answered, resolved, as_statement, back_at, truth, chosen, turns, leaving, block_end}
-use Rattle.pli_meaning_tree.specs.TreeMeaning.{Calls, no_value, printed_item, value_of, place_of, called_with, condition, assigns, fitted_at, assigns_string, assigns_aggregate, assigns_area, empties, puts, skips, does_call, signals, returns_value, establishes, labels_in, as_list, head_in, static_link, activation_of, in_block}
+use Rattle.pli_meaning_tree.specs.Effects.{Label, Effect, Gives, Jumps, Fails, Spent, Lost, Short, Flow, Next, Returned, Doing, and_then, nothing_done, answered, as_statement, back_at, truth, turns, leaving, block_end}
+use Rattle.pli_meaning_tree.specs.TreeMeaning.{Calls, printed_item, value_of, place_of, called_with, condition, assigns, assigns_string, labels_in, as_list, head_in, static_link, activation_of}
+use Rattle.pli_meaning_tree.specs.Parts.{resolved, fitted_at, assigns_aggregate, assigns_area, empties, puts, does_call, signals, returns_value, establishes, in_block, no_value, skips, chosen}
 use Rattle.pli_meaning_simulation.specs.CodeStands.{Span, Empty, Then, Context, deeper, Nests, arguments_in, block_of, Is, Guarded, Choice, Loop, BeginStands, OnStands, ValueStands, PlaceStands, ConditionStands, ItemsStand, SkipStands, StringStands}
 use Rattle.pli_meaning_simulation.proofs.ReachesLemmas.{Fine, Target, Comes, stays, from, frame, flows, tested, returns, Reaches, gives, passes, then_reaches, bound, goes_on, goes, begins, answers}
 use Rattle.pli_meaning_simulation.proofs.ConditionsReach.{resolved_run}

@@ -3,15 +3,17 @@ use Rattle.std.specs.Prelude.{◌≡◌, ℕ, pos, zero, suc, ◌+◌, ◌<◌, 
 use Rattle.std.proofs.Common.{ap, ◌∙◌, sym, subst, arith}
 use Rattle.pli_operation.specs.declared.operation.Operation.TheVariants.{Add, Within}
 use Rattle.pli_operation.specs.Operations.{calculated}
-use Rattle.pli_world.specs.World.{World, known, held, stored, calculation, at_statement}
+use Rattle.pli_world.specs.World.{World, held, stored, calculation, at_statement}
 use Rattle.pli_value.specs.Value.{Value, Number}
 use Rattle.pli_program.specs.Program as op
 use Rattle.pli_program.specs.Program.{UnitCode, Program}
 use Rattle.pli_machine_step.specs.Machine.{Operand, OfValue, AtPlace, Locals, Frame, At, calm}
 use Rattle.pli_type_tree.specs.Iterations.{kept_by, limit_number, step_number, is_iterated}
 use Rattle.pli_type_tree.specs.TypedTree.{Operate, TypedExpression, TypedRange, Once, ToBy, ByTo, Repeated, RepeatedString, Iteration}
-use Rattle.pli_meaning_tree.specs.Effects.{Label, Gives, Flow, Next, Doing, nothing_done, followed, answered, resolved, as_statement, back_at, truth, chosen}
-use Rattle.pli_meaning_tree.specs.TreeMeaning.{Calls, value_of, place_of, keeps, kept, converted, sets, advanced, within_limit, while_holds, may_turn, advances, turned, iterates}
+use Rattle.pli_meaning_tree.specs.Effects as effect
+use Rattle.pli_meaning_tree.specs.Effects.{Label, Gives, Flow, Next, Doing, nothing_done, answered, as_statement, back_at, truth}
+use Rattle.pli_meaning_tree.specs.TreeMeaning.{Calls, value_of, place_of, keeps, converted, sets, advanced, within_limit, while_holds, may_turn, advances, turned, iterates}
+use Rattle.pli_meaning_tree.specs.Parts.{followed, resolved, kept, chosen}
 use Rattle.pli_meaning_simulation.specs.CodeStands.{Span, Then, Context, using, deeper, Is, KeepsStand, SetsStand, AdvancedStands, LimitStands, WhileStands, TestStands, AdvancesStand, TurnsStand, IterateStands}
 use Rattle.pli_meaning_simulation.proofs.ReachesLemmas.{Fine, Kept, kept_on, calm_kept, Comes, stays, frame, pushes, flows, tested, Reaches, gives, passes, then_reaches, reach_out, bound, goes_on, goes, begins, answers}
 use Rattle.pli_meaning_simulation.proofs.ExpressionsReach.{CallsRun, operation_run, value_run, place_run}
@@ -57,7 +59,7 @@ module _ (p : Program) (number : ℕ) (u : UnitCode) (at : Label → ℕ) (there
   kept_run t k vs {a} {b} is {c} ops l fine h fs w left = by (slice_get vs k) refl
     where
       by : (o : Option Value) → slice_get vs k ≡ o
-          → Reaches p number u at c (At (frame p number u a ops l) fs w left) l (pushes p number u OfValue b ops fs) fs (answered (known o w) left)
+          → Reaches p number u at c (At (frame p number u a ops l) fs w left) l (pushes p number u OfValue b ops fs) fs (effect.there o w left)
       by None e = record { by = tt }
       by (Some v) e = gives p number u at v w left fine (taken_run p number u at there (t + k) v is ops l (holds_at t vs l h k v e) fs w left)
 

@@ -9,7 +9,8 @@ use Rattle.pli_program.specs.Program as op
 use Rattle.pli_program.specs.Program.{Instruction, UnitCode, Program}
 use Rattle.pli_machine_step.specs.Machine as machine
 use Rattle.pli_machine_step.specs.Machine.{Operand, OfValue, Locals, Frame, State, At, Over, Goes, given, calm, lands, returned, returned_with, act, act_in, resume, iterate}
-use Rattle.pli_meaning_tree.specs.Effects.{Label, Effect, Gives, Jumps, Fails, Spent, Lost, Short, Flow, Next, Returned, Doing, and_then, after_flow, followed, answered, as_statement}
+use Rattle.pli_meaning_tree.specs.Effects.{Label, Effect, Gives, Jumps, Fails, Spent, Lost, Short, Flow, Next, Returned, Doing, and_then, after_flow, answered, as_statement}
+use Rattle.pli_meaning_tree.specs.Parts.{followed}
 use Rattle.pli_meaning_simulation.specs.CodeStands.{Context, Is}
 
 -- a frame's temporaries are those of the block, and it has made no more backward jumps than may be

@@ -7,8 +7,9 @@ use Rattle.pli_world.specs.World.{World}
 use Rattle.pli_program.specs.Program.{UnitCode, Program}
 use Rattle.pli_machine_step.specs.Machine.{Locals, Frame, At, calm}
 use Rattle.pli_type_tree.specs.TypedTree.{TypedExpression, TypedStatement, Statement, Form, Null, Assign, AssignString, AssignAggregate, AssignArea, EmptyArea, Put, Allocate, Free, If, Begin, Group, While, Iterate, Call, Goto, Return, ReturnValue, Stop, On, Revert, Signal, OtherWise, NoElse, Else, TypedStatements, NoStatement, StatementThen}
-use Rattle.pli_meaning_tree.specs.Effects.{Label, Next, Returned, and_then, followed, chosen}
+use Rattle.pli_meaning_tree.specs.Effects.{Label, Next, Returned, and_then}
 use Rattle.pli_meaning_tree.specs.TreeMeaning.{Calls, condition, number_of, bears, as_list, does, does_form, does_else, does_from}
+use Rattle.pli_meaning_tree.specs.Parts.{followed, chosen}
 use Rattle.pli_meaning_simulation.specs.CodeStands.{Context, deeper, ConditionStands, StatementStands, FormStands, IfStands, ListStands}
 use Rattle.pli_meaning_simulation.proofs.ReachesLemmas.{Fine, calm_kept, frame, flows, Reaches, gives, passes, goes_on, goes, begins}
 use Rattle.pli_meaning_simulation.proofs.ExpressionsReach.{CallsRun}

@@ -11,7 +11,8 @@ use Rattle.pli_machine_step.specs.Machine.{OfValue, AtPlace, Locals, Frame, At, 
 use Rattle.pli_type_tree.specs.Templates.{Template, variable_of}
 use Rattle.pli_type_tree.specs.TypedTree.{TypedReference, Conversion, AllocatedItem, AllocatesControlled, AllocatesBased, AllocatesInArea, FreedItem, FreesControlled, FreesBased}
 use Rattle.pli_meaning_tree.specs.Effects.{Label, Gives, Flow, Next, Doing, and_then, answered, as_step}
-use Rattle.pli_meaning_tree.specs.TreeMeaning.{Calls, value_of, place_of, converted, block_allocated, allocates_item, allocates, frees_item, frees}
+use Rattle.pli_meaning_tree.specs.TreeMeaning.{Calls, value_of, place_of, converted, block_allocated, allocates_item, frees_item}
+use Rattle.pli_meaning_tree.specs.Parts.{allocates, frees}
 use Rattle.pli_meaning_simulation.specs.CodeStands.{Context, using, HasTemporary, Is, PlaceStands, AllocationStands, AllocationsStand, FreeingStands, FreeingsStand}
 use Rattle.pli_meaning_simulation.proofs.ReachesLemmas.{Fine, stays, frame, pushes, flows, Reaches, gives, passes, then_reaches, reach_out, bound, goes_on, answers}
 use Rattle.pli_meaning_simulation.proofs.ConditionsReach.{handled_run}

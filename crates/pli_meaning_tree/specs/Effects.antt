@@ -1,7 +1,7 @@
 -- What doing something comes to, and how one thing is done after another (X3.53). A level bounds the
 -- recursion of a definition; the steps left are what the language counts, and go from one thing to the next.
 use Rattle.std.specs.Prelude.{ℕ, zero, suc, nat_eq, nat_lt, Bool, true, false, ◌&&◌, Option, Some, None}
-use Rattle.std.specs.Prelude.{if◌then◌else◌}
+use Rattle.std.specs.Prelude.{List, [], ◌∷◌, if◌then◌else◌}
 use Rattle.pli_base.specs.declared.statement.Condition.{Condition}
 use Rattle.pli_run.specs.declared.ending.RunError.{RunError}
 use Rattle.pli_run.specs.declared.ending.RunError.TheVariants.{NoReturnedValue, TooManyActivations}
@@ -61,19 +61,29 @@ gives x w left = Gives x w left
 abbrev pub nothing_done : Doing Flow
 nothing_done w left = Gives Next w left
 
+-- what is there; to nothing there is no meaning
+abbrev pub there : {A : Type 0} → Option A → Doing A
+there None w left = Lost
+there (Some x) w left = Gives x w left
+
+-- only where this holds; elsewhere there is no meaning
+abbrev pub provided : {A : Type 0} → Bool → Doing A → Doing A
+provided holds go w left = if holds then go w left else Lost
+
 -- goes on with the next statement, unless the procedure is being left
 abbrev pub after_flow : Doing Flow → Flow → Doing Flow
 after_flow go Next w left = go w left
 after_flow go (Returned outward v) w left = Gives (Returned outward v) w left
 
--- one thing is done, and then the next, unless the procedure is being left
-abbrev pub followed : Effect Flow → Doing Flow → Effect Flow
-followed o go = and_then o (after_flow go)
-
 infixl 10 ◌>>◌
--- the same
+-- one thing is done, and then the next, unless the procedure is being left
 abbrev pub ◌>>◌ : Doing Flow → Doing Flow → Doing Flow
-go >> next = λ w left. followed (go w left) next
+go >> next = go >>= after_flow next
+
+-- this is done with one thing after the other
+abbrev pub each : {X : Type 0} → (X → Doing Flow) → List X → Doing Flow
+each go [] = nothing_done
+each go (x ∷ xs) = go x >> each go xs
 
 -- what an operation gives that raises no condition; to what is wrong the language gives no meaning
 abbrev pub answered : {A : Type 0} → Answer A → (left : ℕ) → Effect A
@@ -91,16 +101,16 @@ just operation = performed operation >>= λ _. nothing_done
 
 -- conditions
 
--- an ON-unit gives no value; after its return this is done
-abbrev pub after_on_unit : {A : Type 0} → (after : Doing A) → Option Value → Doing A
-after_on_unit after None w left = after w left
-after_on_unit after (Some v) w left = Lost
+-- an ON-unit gives no value, nor does a procedure that is no function; after its return this is done
+abbrev pub without_value : {A : Type 0} → (after : Doing A) → Option Value → Doing A
+without_value after None w left = after w left
+without_value after (Some v) w left = Lost
 
 -- an error ends the run, unless it is a condition, which is raised so; and after that this is done
 abbrev pub erring : {A : Type 0} → (raise : Condition → Doing (Option Value)) → (after : Doing A) → RunError
     → Option Condition → Doing A
 erring raise after e None w left = Fails (error_at e w) w
-erring raise after e (Some c) w left = and_then (raise c w left) (after_on_unit after)
+erring raise after e (Some c) w left = and_then (raise c w left) (without_value after)
 
 -- what an operation gives that may raise a condition, after which this is done
 abbrev pub handled : {A : Type 0} → (raise : Condition → Doing (Option Value)) → (after : Doing A) → Answer A
@@ -108,11 +118,6 @@ abbrev pub handled : {A : Type 0} → (raise : Condition → Doing (Option Value
 handled raise after (Yields x w) left = Gives x w left
 handled raise after (Raises e w) left = erring raise after e (condition_of e) w left
 handled raise after Wrong left = Lost
-
--- the same, where after a condition this result stands
-abbrev pub resolved : {A : Type 0} → (raise : Condition → Doing (Option Value)) → (result : A) → Answer A
-    → (left : ℕ) → Effect A
-resolved raise x o left = handled raise (λ w left. Gives x w left) o left
 
 -- takes a step, if one is left
 abbrev pub as_step : {A : Type 0} → Doing A → Doing A
@@ -132,27 +137,18 @@ abbrev pub truth : Value → Doing Bool
 truth (Bits bits) w left = Gives (is_true bits) w left
 truth v w left = Lost
 
--- one of two
-abbrev pub chosen : {A : Type 0} → Bool → (if_true if_false : Doing A) → Doing A
-chosen true if_true if_false w left = if_true w left
-chosen false if_true if_false w left = if_false w left
-
 -- a group's turns: the test; while it holds, the list, then what comes between two turns, and the test again
 abbrev pub turns : (level : ℕ) → (test : Doing Bool) → (list between : Doing Flow) → Doing Flow
 turns zero test list between w left = Short
 turns (suc level) test list between w left =
-    (test >>= λ b. chosen b (list >> (between >> turns level test list between)) nothing_done) w left
+    (test >>= λ b. if b then list >> (between >> turns level test list between) else nothing_done) w left
 
 -- a jump to a label of the newest activation that a list holds goes on there; the calls that the activation
 -- prepares are given up. Any other goes on out
 abbrev pub on_jump : (held : Label → Bool) → Effect Flow → (Label → Doing Flow) → Effect Flow
-on_jump held (Gives x w left) go = Gives x w left
 on_jump held (Jumps h k w left) go =
     if nat_eq h (height w) && held k then go k (cleared w) left else Jumps h k w left
-on_jump held (Fails e w) go = Fails e w
-on_jump held (Spent w) go = Spent w
-on_jump held Lost go = Lost
-on_jump held Short go = Short
+on_jump held other go = other
 
 -- a list runs from its front or from a label, and again from a label as often as a jump leads to one that it
 -- holds

@@ -1,3 +1,4 @@
 pub mod Effects
+pub mod Parts
 pub mod TreeMeaning
 pub mod examples

@@ -38,8 +38,9 @@ use Rattle.pli_type_tree.specs.ValueTypes.{OfCharacters, OfBits, ValueType, Numb
 use Rattle.pli_type_tree.specs.WellTyped.{BlockAround, KnownProcedure, TypingContext, slot_of, parameters_in, BeginsWhole, IsUnlocated, LeadTo, IsCallee, IsTyped, IsRooted, IsAddressed, IsAreaReference, IsPlaced, AreTyped}
 use Rattle.pli_map.specs.Scalars.{scalars_of}
 use Rattle.pli_type_tree.specs.WellTyped.{operand_count, AreSubscripts, AreNumbers, ArePassed}
-use Rattle.pli_meaning_tree.specs.Effects.{Effect, Gives as Results, Doing, and_then, answered, after_on_unit, erring, handled, resolved}
-use Rattle.pli_meaning_tree.specs.TreeMeaning.{Calls, a_value, in_order, root_place, element_of, dimension_of, value_of, operated, place_of, element_at, element_by, called_with, fitted_at}
+use Rattle.pli_meaning_tree.specs.Effects.{Effect, Gives as Results, Doing, and_then, answered, without_value, erring, handled}
+use Rattle.pli_meaning_tree.specs.TreeMeaning.{Calls, in_order, root_place, value_of, operated, place_of, element_at, element_by, called_with}
+use Rattle.pli_meaning_tree.specs.Parts.{resolved, a_value, fitted_at, element_of, dimension_of}
 use Rattle.pli_meaning_typed.specs.SoundWorlds.{IsPartAt, IsNear, HasPart, IsGood, IsWhole, IsOwn, IsVariable, Takes, IsPassed, AreGood, Known, Shape, Stand, IsSound, IsLater, Answers}
 use Rattle.pli_meaning_typed.proofs.AreaLaws.{offset_answers, within_answers}
 use Rattle.pli_meaning_typed.proofs.MeansLemmas.{Means, means_as, then_means, answer_means, lower_means}
@@ -365,7 +366,7 @@ module _ (units : List TypedUnit) (greatest level : ℕ) (call : Calls) (unit : 
 
   -- an operation that may raise a condition, and what is done after it
   after_means : {A : Type 0} (P : A → World → Type 0) (n left : ℕ) (after : Doing A) (v : Option Value) (w : World) → IsReturned None v
-      → Means units n left known (x ∷ ss) w P (after w left) → Means units n left known (x ∷ ss) w P (after_on_unit after v w left)
+      → Means units n left known (x ∷ ss) w P (after w left) → Means units n left known (x ∷ ss) w P (without_value after v w left)
   after_means P n left after None w is h = h
   after_means P n left after (Some v) w is h = absurd is
 
@@ -380,7 +381,7 @@ module _ (units : List TypedUnit) (greatest level : ℕ) (call : Calls) (unit : 
       by : (o : Option Condition) → Means units n left known (x ∷ ss) w P (erring call.condition after e o w left)
       by None = error_named units x ss w e sound
       by (Some c) =
-          then_means units (Gives None) P n left known (x ∷ ss) w (call.condition c w left) (after_on_unit after)
+          then_means units (Gives None) P n left known (x ∷ ss) w (call.condition c w left) (without_value after)
           (lower_means units (Gives None) level n left known (x ∷ ss) w (call.condition c w left) le (calls.condition c known x ss outlasts w left sound))
           (λ v u l le is sound later. after_means P n l after v u is (f u l sound))
   handled_means P n left le after w Wrong sound is same f = absurd is

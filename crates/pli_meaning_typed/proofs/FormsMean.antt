@@ -26,9 +26,10 @@ use Rattle.pli_type_tree.specs.TypedOperations.{comes_to}
 use Rattle.pli_type_tree.specs.ValueTypes.{StringKind, OfCharacters, OfBits, ValueType, Strings, Pointers, Offsets, kind_of_form, IsOf, IsHeldBy}
 use Rattle.pli_type_tree.specs.WellTyped.{BlockAround, TypingContext, IsTyped, IsPlaced, IsAreaReference, IsString, IsMade, AreItems, Convert, ConvertToKind, ConvertsTo, ConvertsToKind, IsConversion, IsAllocated, AreAllocated, IsFreed, AreFreed}
 use Rattle.pli_type_tree.specs.WellTyped.{knows_label, IsOnUnitHere, IsTypedForm}
-use Rattle.pli_meaning_tree.specs.Effects.{Effect, Gives, Jumps, Flow, Next, Returned, Doing, and_then, answered, resolved, as_step, truth}
-use Rattle.pli_meaning_tree.specs.TreeMeaning.{Calls, no_value, printed_item, value_of, place_of, called_with, condition, assigns, fitted_at, assigns_string, assigns_aggregate, assigns_area, empties, puts, skips}
-use Rattle.pli_meaning_tree.specs.TreeMeaning.{operated_by, converted, block_allocated, allocates_item, allocates, frees_item, frees, signals, establishes, does_call, returns_value, jumps_to}
+use Rattle.pli_meaning_tree.specs.Effects.{Effect, Gives, Jumps, Flow, Next, Returned, Doing, and_then, answered, as_step, truth}
+use Rattle.pli_meaning_tree.specs.TreeMeaning.{Calls, printed_item, value_of, place_of, called_with, condition, assigns, assigns_string}
+use Rattle.pli_meaning_tree.specs.TreeMeaning.{operated_by, converted, block_allocated, allocates_item, frees_item}
+use Rattle.pli_meaning_tree.specs.Parts.{resolved, fitted_at, assigns_aggregate, assigns_area, empties, puts, allocates, frees, signals, establishes, does_call, returns_value, jumps_to, no_value, skips}
 use Rattle.pli_meaning_typed.specs.SoundWorlds.{IsGood, Takes, Known, Shape, Stand, IsSound, IsLater, Answers}
 use Rattle.pli_meaning_typed.proofs.AreaLaws.{emptied_answers, assigned_answers, offset_answers, within_answers, block_answers}
 use Rattle.pli_meaning_typed.proofs.MeansLemmas.{Means, Anything, means_as, means_from, then_means, answer_means, answer_kept, kept_answers}

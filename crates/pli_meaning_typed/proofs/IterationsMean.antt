@@ -7,16 +7,18 @@ use Rattle.pli_map.specs.ParameterTypes.{ParameterType, Stated, AnyString}
 use Rattle.pli_map.specs.declared.parameter.StringForm.{StringForm}
 use Rattle.pli_operation.specs.declared.operation.Operation.TheVariants.{Add, Within}
 use Rattle.pli_operation.specs.Operations.{calculated}
-use Rattle.pli_world.specs.World.{World, known as looked_up, held, stored, calculation, at_statement}
+use Rattle.pli_world.specs.World.{World, held, stored, calculation, at_statement}
 use Rattle.pli_value.specs.Value.{Value, Number}
 use Rattle.pli_type_tree.specs.Iterations.{kept_by, limit_number, step_number, is_iterated}
 use Rattle.pli_type_tree.specs.TypedOperations.{comes_to}
 use Rattle.pli_type_tree.specs.TypedTree.{TypedOperation, Operate, TypedUnit, TypedExpression, Conversion, TypedRange, Once, ToBy, ByTo, Repeated, RepeatedString, Iteration}
 use Rattle.pli_type_tree.specs.ValueTypes.{ValueType, Numbers, Strings, OfBits, kind_of_form, type_held, IsOf, AreOf, Operates}
 use Rattle.pli_type_tree.specs.WellTyped.{TypingContext, IsTyped, IsPlaced, IsValueFor, IsString, IsConversion, Counts, IsRange, IsOpenRange, IsRangeFor, IsPossibleCondition, IsIteration}
-use Rattle.pli_meaning_tree.specs.Effects.{Effect, Gives, Flow, Doing, and_then, nothing_done, answered, resolved, as_statement, back_at, truth}
-use Rattle.pli_meaning_tree.specs.TreeMeaning.{Calls, value_of, place_of, keeps, kept, converted, sets, advanced, within_limit, while_holds, may_turn}
+use Rattle.pli_meaning_tree.specs.Effects as effect
+use Rattle.pli_meaning_tree.specs.Effects.{Effect, Gives, Flow, Doing, and_then, nothing_done, answered, as_statement, back_at, truth}
+use Rattle.pli_meaning_tree.specs.TreeMeaning.{Calls, value_of, place_of, keeps, converted, sets, advanced, within_limit, while_holds, may_turn}
 use Rattle.pli_meaning_tree.specs.TreeMeaning.{advances, turned, iterates}
+use Rattle.pli_meaning_tree.specs.Parts.{resolved, kept}
 use Rattle.pli_meaning_typed.specs.SoundWorlds.{Known, Shape, IsSound, IsLater}
 use Rattle.pli_meaning_typed.proofs.MeansLemmas.{Means, Anything, means_from, answer_kept, statement_means, chosen_means, followed_means, turns_means}
 use Rattle.pli_meaning_typed.proofs.ExpressionsMean.{OfType, AtPlace, HeldBy, TakenPlace, CallsMean, calculated_means, held_means}
@@ -150,7 +152,7 @@ module _ (units : List TypedUnit) (greatest level : ℕ) (call : Calls) (unit : 
       → Does (OfType t) (kept greatest call vs k)
   kept_means ts vs are k t e w left sound =
       let found = of_number ts vs are k t e in
-      subst (λ o. Here left w (OfType t) (answered (looked_up o w) left)) (sym found.1) (omega arith, found.2, sound, later_same w)
+      subst (λ o. Here left w (OfType t) (effect.there o w left)) (sym found.1) (omega arith, found.2, sound, later_same w)
 
   -- the control variable gets a value
   sets_means : (i : Iteration) (type : ParameterType) → IsPlaced greatest s i.control type → (t : ValueType) → IsConversion greatest s i.conversion t type

@@ -8,8 +8,9 @@ use Rattle.pli_world.specs.Activations.{activation_limit}
 use Rattle.pli_world.specs.World.{World, Answer, Yields, Raises, Wrong, height, stepped, at_statement, left_by, cleared, error_at}
 use Rattle.pli_type_tree.specs.TypedTree.{TypedUnit}
 use Rattle.pli_meaning_tree.specs.Effects.{Label, Effect, Gives, Jumps, Fails, Spent, Lost, Short, Flow, Next, Returned, Doing, and_then}
-use Rattle.pli_meaning_tree.specs.Effects.{after_flow, followed, answered, as_step, as_statement, chosen, turns, on_jump, caught}
+use Rattle.pli_meaning_tree.specs.Effects.{after_flow, answered, as_step, as_statement, turns, on_jump, caught}
 use Rattle.pli_meaning_tree.specs.Effects.{unless_full, leaving, nothing_done}
+use Rattle.pli_meaning_tree.specs.Parts.{followed, chosen}
 use Rattle.pli_meaning_typed.specs.SoundWorlds.{Known, Shape, IsSound, IsLater, IsTold, Answers}
 use Rattle.pli_meaning_typed.proofs.ContextLaws.{shaped_length}
 use Rattle.pli_meaning_typed.proofs.WorldLaws.{later_same, later_then, error_named, statement_sound, stepped_sound, cleared_sound, cleared_later, left_sound, left_later}

@@ -18,11 +18,12 @@ use Rattle.pli_type_tree.specs.TypedTree.{TypedStatements, NoStatement, Statemen
 use Rattle.pli_type_tree.specs.ValueTypes.{OfBits}
 use Rattle.pli_type_tree.specs.WellTyped.{AreMade, BlockAround, KnownProcedure, TypingContext, blocks_from, IsString, labels_of, with_labels}
 use Rattle.pli_type_tree.specs.WellTyped.{in_group, block_of, in_begin, IsTypedStatement, IsTypedForm, IsTypedElse, AreTypedStatements}
-use Rattle.pli_meaning_tree.specs.Effects.{Label, Effect, Gives, Flow, Next, Returned, Doing, and_then, nothing_done, followed, answered, back_at}
+use Rattle.pli_meaning_tree.specs.Effects.{Label, Effect, Gives, Flow, Next, Returned, Doing, and_then, nothing_done, answered, back_at}
 use Rattle.pli_meaning_tree.specs.Effects.{leaving, block_end}
-use Rattle.pli_meaning_tree.specs.TreeMeaning.{Calls, condition, assigns, assigns_string, assigns_aggregate, assigns_area, empties, puts, skips, allocates, frees, signals, establishes}
-use Rattle.pli_meaning_tree.specs.TreeMeaning.{does_call, returns_value, bears, labels_in, head_in, static_link, activation_of, in_block, does, does_form, does_else}
+use Rattle.pli_meaning_tree.specs.TreeMeaning.{Calls, condition, assigns, assigns_string}
+use Rattle.pli_meaning_tree.specs.TreeMeaning.{bears, labels_in, head_in, static_link, activation_of, does, does_form, does_else}
 use Rattle.pli_meaning_tree.specs.TreeMeaning.{does_list, does_from}
+use Rattle.pli_meaning_tree.specs.Parts.{followed, assigns_aggregate, assigns_area, empties, puts, allocates, frees, signals, establishes, does_call, returns_value, in_block, skips}
 use Rattle.pli_meaning_typed.specs.SoundWorlds.{AreGood, Known, AreKnown, Shape, Stand, IsSound, IsLater, Answers}
 use Rattle.pli_meaning_typed.proofs.OnUnits.{also_wide, IsOfTyped, Holds, holds_more, holds_entered}
 use Rattle.pli_meaning_typed.proofs.MeansLemmas.{IsBelow, also, Means, Anything, means_from, then_means, statement_means, chosen_means}

@@ -35,7 +35,7 @@ use Rattle.pli_type_tree.specs.TypedTree.{TypedUnit}
 use Rattle.pli_type_tree.specs.WellTyped.{AreHeld, AreMade, KnownProcedure}
 use Rattle.pli_meaning_typed.specs.SoundWorlds.{IsPartAt, IsNear, HasPart, IsGood, IsWhole, IsOwn, IsVariable, IsPassed, AreGood, IsOwnSlot, AreSlots, AreSoundBlocks, IsHolding, HoldsValues, Known, Shape, AreShaped, HaveOnUnits, AreOfUnits, EachGood, AreStacksGood, StandsGood, AreStatics}
 use Rattle.pli_meaning_typed.specs.SoundWorlds.{IsSound, IsLater, IsTold, Answers}
-use Rattle.pli_meaning_tree.specs.TreeMeaning.{unit_names}
+use Rattle.pli_meaning_tree.specs.Parts.{unit_names}
 use Rattle.pli_meaning_typed.proofs.BlockLemmas.{block_found, values_put}
 use Rattle.pli_meaning_typed.proofs.Parts.{part_held, part_stored}
 use Rattle.pli_meaning_typed.proofs.PartsWithin.{scalar_first}

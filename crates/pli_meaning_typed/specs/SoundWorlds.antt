@@ -20,7 +20,7 @@ use Rattle.pli_type_tree.specs.Globals.{described_as}
 use Rattle.pli_type_tree.specs.TypedTree.{Global, TypedUnit}
 use Rattle.pli_type_tree.specs.WellTyped.{AreHeld, BlockAround, IsMade, IsNarrow, KnownProcedure}
 use Rattle.pli_meaning_tree.specs.Effects.{Label}
-use Rattle.pli_meaning_tree.specs.TreeMeaning.{unit_names}
+use Rattle.pli_meaning_tree.specs.Parts.{unit_names}
 
 -- each part of one description is a part of another, so many bytes further
 abbrev pub IsPartAt : (whole : Description) → (offset : ℕ) → (part : Description) → Type 0

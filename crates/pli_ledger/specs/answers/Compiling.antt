@@ -7,7 +7,8 @@ use Rattle.pli_include.specs.Expanded.{Expanded, expansion_of}
 use Rattle.pli_include.specs.Expanded.{holds}
 use Rattle.pli_members.specs.Members.{Store}
 use Rattle.pli_ledger.specs.Kept.{Kept}
-use Rattle.pli_ledger.specs.Work.{due_by, stale_kept, compiled_after}
+use Rattle.pli_ledger.specs.Work.{due_by}
+use Rattle.pli_ledger.specs.WorkParts.{stale_kept, compiled_after}
 use Rattle.pli_ledger.specs.views.KeptView.{HaveResult}
 
 -- 1 where something was done
