@@ -18,6 +18,7 @@ use Rattle.pli_type.specs.NamedUnits as old
 use Rattle.pli_type.specs.NamedUnits.{checked_unit}
 use Rattle.pli_type.specs.Checked.{checked}
 use Rattle.pli_type_unit.proofs.SymbolsAlike.{IsAlike, AreAlike, AreStored, IsGiven}
+use Rattle.pli_type_unit.proofs.StatementsAlike.{typed_alike}
 use Rattle.pli_type_unit.proofs.UnitsAlike.{unit_alike}
 use Rattle.pli_type_unit.specs.UnitNames.{has_area, have_area, typed_unit}
 use Rattle.pli_type_unit.specs.laws.UnitLaws.{UnitsAreChecked}
@@ -150,4 +151,5 @@ pub units_are_checked : UnitsAreChecked
 unfolding typed_unit checked_unit
 units_are_checked u none =
     let all : AllByRecursion AreAlike (all_symbols (resolved_unit_of u)) = blocks_alike (all_symbols (resolved_unit_of u)) (symbols_are_limited u none) in
-    ap checked (sym (unit_alike (resolved_unit_of u) (λ block. one_block (all_symbols (resolved_unit_of u)) block all) all))
+    typed_alike (resolved_unit_of u)
+    ∙ ap checked (sym (unit_alike (resolved_unit_of u) (λ block. one_block (all_symbols (resolved_unit_of u)) block all) all))

@@ -1,3 +1,10 @@
+pub mod Actions
+pub mod BuiltIns
+pub mod Expressions
+pub mod Found
+pub mod Statements
 pub mod UnitNames
+pub mod Values
+pub mod Variables
 pub mod examples
 pub mod laws

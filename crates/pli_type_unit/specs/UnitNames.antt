@@ -2,7 +2,8 @@
 -- made from. A name is looked at from where it is used: what the blocks around are says how many static links
 -- outward a variable is. What has a number has that of its place: it says how many others stand before it.
 use Rattle.std.specs.Prelude.{ℕ, suc, ◌+◌, nat_eq, nat_le, Bool, true, false, not, ◌&&◌, ◌||◌}
-use Rattle.std.specs.Prelude.{Option, Some, None, option_map, option_and_then, List, [], ◌∷◌, ◌++◌, map, filter}
+use Rattle.std.specs.Prelude.{Option, Some, None, option_map, List, [], ◌∷◌, ◌++◌, map}
+use Rattle.std.specs.Prelude.{filter}
 use Rattle.std.specs.Prelude.{length, get_or, slice_get, Result, if◌then◌else◌}
 use Rattle.std.specs.List.{flat_map, list_any}
 use Rattle.std.specs.Option.{unwrap_or}
@@ -31,7 +32,6 @@ use Rattle.pli_resolve.specs.declared.symbol.StorageClass.TheVariants as classes
 use Rattle.pli_resolve.specs.declared.symbol.SymbolKey.{SymbolKey}
 use Rattle.pli_sort.specs.Sorting.{in_order}
 use Rattle.pli_type.specs.Beginnings.{area_meant}
-use Rattle.pli_type.specs.Checked.{checked}
 use Rattle.pli_type.specs.InitialScalars.{InitialItem, template_of}
 use Rattle.pli_type.specs.Names.{NamedAs, AVariable, AFunction, AProcedure, ALabel, Untyped}
 use Rattle.pli_type.specs.Names.{NamedUnit, NamedStorage, Begins, IsBased, LocatorVariable}
@@ -39,16 +39,10 @@ use Rattle.pli_type.specs.References.{part_on, locator_at, reference_to, whole_p
 use Rattle.pli_type.specs.declared.beginning.Beginning.{Beginning}
 use Rattle.pli_type_tree.specs.Templates.{Template}
 use Rattle.pli_type_tree.specs.TypedTree.{Callee, OfBlock, OfEntry, Global, OwnVariable, ExternalVariable}
-use Rattle.pli_type_tree.specs.TypedTree.{EntryPoint, Root, InSlot, OfProgram, NewestOf, TypedReference, TypedUnit}
-
-infixl 10 ◌>>=◌
--- what is found from what was found, if both are there
-abbrev pub ◌>>=◌ : {A B : Type 0} → Option A → (A → Option B) → Option B
-found >>= next = option_and_then next found
-
--- a thing, where this holds
-abbrev pub where_holds : {A : Type 0} → Bool → A → Option A
-where_holds holds x = if holds then Some x else None
+use Rattle.pli_type_tree.specs.TypedTree.{EntryPoint, Root, InSlot, OfProgram, NewestOf, TypedReference}
+use Rattle.pli_type_tree.specs.TypedTree.{TypedUnit}
+pub use Rattle.pli_type_unit.specs.Found.{◌>>=◌, where_holds}
+use Rattle.pli_type_unit.specs.Statements.{unit_typed}
 
 -- symbols
 
@@ -411,4 +405,4 @@ unit_named r = record {
 
 -- the typed unit, or its faults of types
 unfoldable pub typed_unit : ResolvedUnit → Result TypedUnit (List Fault)
-typed_unit r = checked (unit_named r)
+typed_unit r = unit_typed (unit_named r)

@@ -1,4 +1,4 @@
-//! Laws and worked examples of what the names of units mean to types.
+//! Laws and worked examples of how units are typed, and of what their names mean to types.
 ghost use Rattle.pli_type_unit.specs.examples.NameExamples.{GlobalsOfUnit, NamesOfUnit};
 ghost use Rattle.pli_type_unit.specs.laws.UnitLaws.{UnitsAreChecked};
 

@@ -1,5 +1,5 @@
-//! Units as types see them: where their variables begin and what their names mean, and the law that this is what the
-//! type checker finds.
+//! Units as types see them: where their variables begin, what their names mean, and how their expressions and
+//! statements are typed; and the law that this is what the type checker finds.
 #![tactic(auto)]
 
 mod laws;
