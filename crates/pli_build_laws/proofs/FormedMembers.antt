@@ -6,6 +6,8 @@ use Rattle.pli_base.specs.Statements.{ExternalProcedure}
 use Rattle.pli_base.specs.Words.{Tokens}
 use Rattle.pli_base.specs.declared.token.Fault.{Fault}
 use Rattle.pli_base.specs.declared.token.Origin.{Origin}
+use Rattle.pli_declarations.specs.Units as declarations
+use Rattle.pli_declarations.proofs.UnitsAlike.{faults_alike}
 use Rattle.pli_declare.specs.Resolution.{resolution_faults}
 use Rattle.pli_deck_laws.specs.WellFormed.{IsWellFormed}
 use Rattle.pli_include.specs.Expanded.{look_in, outcome_of}
@@ -17,19 +19,19 @@ use Rattle.pli_members.specs.Members.{Member}
 use Rattle.pli_parse_statement.specs.StatementReading.{unit_of}
 use Rattle.pli_type_tree.specs.TypedTree.{TypedUnit}
 use Rattle.pli_type_bounds.proofs.UnitsFit.{typed_units_are_well_formed}
-use Rattle.pli_type_unit.proofs.LimitsAlike.{units_are_checked}
+use Rattle.pli_meaning.proofs.DeclaredUnits.{declared_units}
 
 -- what was read of so many tokens
 module _ (texts : Tokens) (few : length texts ≤ 200000) (t : TypedUnit) where
   unless_formed : (u : ExternalProcedure) → unit_of texts ≡ Ok u → (faults : List Fault) → resolution_faults u ≡ faults → typed_unless faults u ≡ Ok t → IsWellFormed t
-  unless_formed u read [] none typed = typed_units_are_well_formed texts u t few read none (sym (units_are_checked u none) ∙ typed)
+  unless_formed u read [] none typed = typed_units_are_well_formed texts u t few read none (sym (declared_units u none) ∙ typed)
   unless_formed u read (f ∷ fs) some typed = let bad : ⊥ = cc in absurd bad
 
   program_formed : program_of texts ≡ Ok t → IsWellFormed t
   program_formed h = by (unit_of texts) refl h
     where
       by : (r : Result ExternalProcedure Fault) → unit_of texts ≡ r → program_from r ≡ Ok t → IsWellFormed t
-      by (Ok u) read h = unless_formed u read (resolution_faults u) refl h
+      by (Ok u) read h = unless_formed u read (declarations.resolution_faults u) (sym (faults_alike u)) h
       by (Err f) read h = let bad : ⊥ = cc in absurd bad
 
 located_ok : (name : Name) (origins : List Origin) (r : Result TypedUnit (List Fault)) (t : TypedUnit) → all_located name origins r ≡ Ok t → r ≡ Ok t

@@ -6,6 +6,7 @@ use Rattle.pli_base.specs.Statements.{ExternalProcedure}
 use Rattle.pli_base.specs.Words.{Tokens}
 use Rattle.pli_code.specs.CodeTables.{Code}
 use Rattle.pli_code.specs.Versions.{written}
+use Rattle.pli_declarations.proofs.UnitsAlike.{faults_alike}
 use Rattle.pli_declare.specs.Resolution.{resolution_faults}
 use Rattle.pli_gen.specs.Limits.{is_too_long}
 use Rattle.pli_gen_emit.specs.Encoding.{code_of}
@@ -13,17 +14,17 @@ use Rattle.pli_gen_emit.proofs.ItemsMake.{code_same}
 use Rattle.pli_parse_statement.specs.StatementReading.{unit_of}
 use Rattle.pli_resolve.specs.ResolvedUnits.{resolved_unit_of}
 use Rattle.pli_type.specs.NamedUnits.{checked_unit}
-use Rattle.pli_type_unit.proofs.LimitsAlike.{units_are_checked}
+use Rattle.pli_meaning.proofs.DeclaredUnits.{declared_units}
 use Rattle.pli_type_tree.specs.TypedTree.{TypedUnit}
 use Rattle.pli_meaning.specs.Scratch.{typed_unless, program_from, too_long, compiled_tree, short_deck, coded, coded_from, compiled_texts}
 
 -- where reading has no fault, the tree that was read decides
 pub tree_decides : (texts : Tokens) (u : ExternalProcedure) → unit_of texts ≡ Ok u → compiled_texts texts ≡ coded_from (typed_unless (resolution_faults u) u)
-tree_decides texts u read = ap (λ r. coded_from (program_from r)) read
+tree_decides texts u read = ap (λ r. coded_from (program_from r)) read ∙ ap (λ fs. coded_from (typed_unless fs u)) (faults_alike u)
 
 -- and where the declarations have none, types
 pub types_decide : (u v : ExternalProcedure) → resolution_faults u ≡ [] → v ≡ u → coded_from (typed_unless (resolution_faults u) u) ≡ coded_from (checked_unit (resolved_unit_of v))
-types_decide u v none same = ap (λ fs. coded_from (typed_unless fs u)) none ∙ ap coded_from (units_are_checked u none) ∙ ap (λ x. coded_from (checked_unit (resolved_unit_of x))) (sym same)
+types_decide u v none same = ap (λ fs. coded_from (typed_unless fs u)) none ∙ ap coded_from (declared_units u none) ∙ ap (λ x. coded_from (checked_unit (resolved_unit_of x))) (sym same)
 
 -- code that is emitted and too long is a fault
 pub long_decides : (u : TypedUnit) → is_too_long (code_of u) ≡ true → coded u ≡ Err (too_long ∷ [])

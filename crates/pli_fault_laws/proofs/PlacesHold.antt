@@ -8,6 +8,8 @@ use Rattle.pli_base.specs.Words.{Tokens}
 use Rattle.pli_base.specs.FaultPlaces.{StandsAtToken}
 use Rattle.pli_base.specs.declared.token.Fault.{Fault}
 use Rattle.pli_base.specs.declared.token.Origin.{Origin}
+use Rattle.pli_declarations.specs.Units as declarations
+use Rattle.pli_declarations.proofs.UnitsAlike.{faults_alike}
 use Rattle.pli_declare.specs.Resolution.{resolution_faults}
 use Rattle.pli_gen_emit.specs.Coding.{code_of}
 use Rattle.pli_gen.specs.Limits.{is_too_long}
@@ -20,7 +22,7 @@ use Rattle.pli_parse_statement.specs.StatementReading.{unit_of}
 use Rattle.pli_resolve.specs.ResolvedUnits.{resolved_unit_of}
 use Rattle.pli_type.specs.NamedUnits.{named_unit, checked_unit}
 use Rattle.pli_type_tree.specs.TypedTree.{TypedUnit}
-use Rattle.pli_type_unit.proofs.LimitsAlike.{units_are_checked}
+use Rattle.pli_meaning.proofs.DeclaredUnits.{declared_units}
 use Rattle.pli_code.specs.CodeTables.{Deck}
 use Rattle.pli_fault_laws.specs.FaultOrder.{fault_tokens}
 use Rattle.pli_fault_laws.specs.TypeFaultPlaces.{AllStand}
@@ -43,13 +45,14 @@ unfolding checked_unit
 types_stand ts u fs read e = type_faults_stand_at_tokens ts (named_unit 63 (resolved_unit_of u)) fs read e
 
 unless_stand : (ts : Tokens) (u : ExternalProcedure) (gs fs : List Fault) → unit_of ts ≡ Ok u → resolution_faults u ≡ gs → AllStand ts gs → typed_unless gs u ≡ Err fs → AllStand ts fs
-unless_stand ts u [] fs read none h e = types_stand ts u fs read (sym (units_are_checked u none) ∙ e)
+unless_stand ts u [] fs read none h e = types_stand ts u fs read (sym (declared_units u none) ∙ e)
 unless_stand ts u (g ∷ gs) fs read some h e = subst (AllStand ts) (ap faults_in e) h
 
 read_stand : (ts : Tokens) (r : Result ExternalProcedure Fault) (fs : List Fault) → unit_of ts ≡ r → program_from r ≡ Err fs → AllStand ts fs
 read_stand ts (Ok u) fs read e =
-    unless_stand ts u (resolution_faults u) fs read refl
-    (below_stand ts (resolution_faults u) (rising_below (fault_tokens (resolution_faults u)) 0 (length ts) (declaration_faults_rise ts u read))) e
+    unless_stand ts u (declarations.resolution_faults u) fs read (sym (faults_alike u))
+    (subst (AllStand ts) (sym (faults_alike u))
+    (below_stand ts (resolution_faults u) (rising_below (fault_tokens (resolution_faults u)) 0 (length ts) (declaration_faults_rise ts u read)))) e
 read_stand ts (Err f) fs read e = subst (AllStand ts) (ap faults_in e) (unit_fault_stands ts f read, tt)
 
 program_stands : (ts : Tokens) (fs : List Fault) → program_of ts ≡ Err fs → AllStand ts fs

@@ -1,3 +1,4 @@
+pub mod DeclaredUnits
 pub mod GlobalsFit
 pub mod MembersDoAsMeant
 pub mod MembersHaveOneProgram

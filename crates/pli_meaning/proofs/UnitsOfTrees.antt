@@ -26,13 +26,15 @@ use Rattle.pli_type.specs.laws.Laws.{IsFault, IsToldOfTypes}
 use Rattle.pli_type.proofs.FaultCodes.{faults_are_of_types}
 use Rattle.pli_type_laws.specs.TypedUnits.{MainTakesNothing}
 use Rattle.pli_type_laws.proofs.CheckedUnits.{checked_is_typed}
-use Rattle.pli_type_unit.proofs.LimitsAlike.{units_are_checked}
+use Rattle.pli_meaning.proofs.DeclaredUnits.{declared_units}
 use Rattle.pli_type_tree.specs.TypedTree.{TypedUnit}
 use Rattle.pli_code.specs.Decks.{Code, Deck}
 use Rattle.pli_code.specs.Versions.{written}
 use Rattle.pli_parse_statement.specs.StatementReading.{unit_of}
 use Rattle.pli_base.specs.Statements.{ExternalProcedure}
 use Rattle.pli_base.specs.Words.{Tokens}
+use Rattle.pli_declarations.specs.Units as declarations
+use Rattle.pli_declarations.proofs.UnitsAlike.{faults_alike}
 use Rattle.pli_declare.specs.Resolution.{resolution_faults}
 use Rattle.pli_meaning.specs.Programs.{of_member}
 use Rattle.pli_meaning.specs.MemberParts.{all_text, all_units, text_in, units_in, source_in, with_tree}
@@ -68,7 +70,7 @@ checked_told r = faults_are_of_types (named_unit 63 r)
 
 typed_read : (texts : Tokens) (unit : ExternalProcedure) → unit_of texts ≡ Ok unit → (faults : List Fault) → resolution_faults unit ≡ faults → IsRead (typed_unless faults unit)
 typed_read texts unit read [] none =
-    subst IsRead (sym (units_are_checked unit none))
+    subst IsRead (sym (declared_units unit none))
     (told_read (checked_unit (resolved_unit_of unit)) (checked_told (resolved_unit_of unit)) (checked_is_typed texts unit read))
 typed_read texts unit read (fault ∷ faults) some = tt
 
@@ -76,7 +78,7 @@ program_read : (texts : Tokens) → IsRead (program_of texts)
 program_read texts = by (unit_of texts) refl
   where
     by : (r : Result ExternalProcedure Fault) → unit_of texts ≡ r → IsRead (program_from r)
-    by (Ok unit) read = typed_read texts unit read (resolution_faults unit) refl
+    by (Ok unit) read = typed_read texts unit read (declarations.resolution_faults unit) (sym (faults_alike unit))
     by (Err fault) read = tt
 
 -- so what is compiled is a deck, or has a fault at least

@@ -18,13 +18,12 @@ use Rattle.pli_members.specs.declared.kind.MemberKind.{MemberKind}
 use Rattle.pli_members.specs.declared.kind.MemberKind.TheVariants.{Source, Include}
 use Rattle.pli_parse_statement.specs.StatementReading.{unit_of}
 use Rattle.pli_base.specs.Statements.{ExternalProcedure}
-use Rattle.pli_declare.specs.Resolution.{resolution_faults}
+use Rattle.pli_declarations.specs.Units.{resolution_faults, resolved_unit_of}
 use Rattle.pli_link.specs.Link.{link_of}
 use Rattle.pli_link.specs.Units.{Compiled, as_unit}
 use Rattle.pli_link.specs.declared.linking.LinkFault.{LinkFault}
 use Rattle.pli_link.specs.declared.linking.LinkFault.TheVariants as faults
 use Rattle.pli_link.specs.declared.units.LinkedName.{LinkedName}
-use Rattle.pli_resolve.specs.ResolvedUnits.{resolved_unit_of}
 use Rattle.pli_type_unit.specs.UnitNames.{typed_unit}
 use Rattle.pli_type_tree.specs.TypedTree.{TypedUnit}
 use Rattle.pli_machine_step.specs.Outcomes.{Outcome}

@@ -1,0 +1,2 @@
+pub mod UnitsAlike
+pub mod WalkAlike
