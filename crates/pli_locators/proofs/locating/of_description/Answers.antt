@@ -7,16 +7,16 @@ use Rattle.pli_store.specs.views.StorageView.{target_view}
 use Rattle.pli_locators.proofs.TargetsFound.{unless_other_same, unless_other_differs}
 use Rattle.pli_locators.proofs.locating.of_description.Goals as goal
 
-pub returns-then-equals : goal.returns-then-equals
-returns-then-equals c = λ w.
+pub returns-then-is_same : goal.returns-then-is_same
+returns-then-is_same c = λ w.
     let d = description_view c.args.living.place.description.now in
     let e = description_view c.args.description.now in
-    let told = same_from_decides c.equals.result (same d e) c.equals.ensures (same_decides d e) in
-    unless_other_same e (target_view c.args.living) w (sym told ∙ c.if-equals.true)
+    let told = same_from_decides c.is_same.result (same d e) c.is_same.ensures (same_decides d e) in
+    unless_other_same e (target_view c.args.living) w (sym told ∙ c.if-is_same.true)
 
-pub returns-else-equals : goal.returns-else-equals
-returns-else-equals c = λ w.
+pub returns-else-is_same : goal.returns-else-is_same
+returns-else-is_same c = λ w.
     let d = description_view c.args.living.place.description.now in
     let e = description_view c.args.description.now in
-    let told = same_from_decides c.equals.result (same d e) c.equals.ensures (same_decides d e) in
-    unless_other_differs e (target_view c.args.living) w (sym told ∙ c.if-equals.false)
+    let told = same_from_decides c.is_same.result (same d e) c.is_same.ensures (same_decides d e) in
+    unless_other_differs e (target_view c.args.living) w (sym told ∙ c.if-is_same.false)
