@@ -10,6 +10,7 @@ use Rattle.pli_declarations.specs.Units as declarations
 use Rattle.pli_declarations.proofs.UnitsAlike.{faults_alike}
 use Rattle.pli_declare.specs.Resolution.{resolution_faults}
 use Rattle.pli_deck_laws.specs.WellFormed.{IsWellFormed}
+use Rattle.pli_grammar.proofs.UnitsAlike.{unit_same}
 use Rattle.pli_include.specs.Expanded.{look_in, outcome_of}
 use Rattle.pli_include.specs.Expansion.{Outcome, token_limit}
 use Rattle.pli_include.proofs.StepsKeep.{texts_have_origins}
@@ -28,7 +29,7 @@ module _ (texts : Tokens) (few : length texts ≤ 200000) (t : TypedUnit) where
   unless_formed u read (f ∷ fs) some typed = let bad : ⊥ = cc in absurd bad
 
   program_formed : program_of texts ≡ Ok t → IsWellFormed t
-  program_formed h = by (unit_of texts) refl h
+  program_formed h = by (unit_of texts) refl (sym (ap program_from (unit_same texts)) ∙ h)
     where
       by : (r : Result ExternalProcedure Fault) → unit_of texts ≡ r → program_from r ≡ Ok t → IsWellFormed t
       by (Ok u) read h = unless_formed u read (declarations.resolution_faults u) (sym (faults_alike u)) h

@@ -11,6 +11,7 @@ use Rattle.pli_declare.specs.Resolution.{resolution_faults}
 use Rattle.pli_gen.specs.Limits.{is_too_long}
 use Rattle.pli_gen_emit.specs.Encoding.{code_of}
 use Rattle.pli_gen_emit.proofs.ItemsMake.{code_same}
+use Rattle.pli_grammar.proofs.UnitsAlike.{unit_same}
 use Rattle.pli_parse_statement.specs.StatementReading.{unit_of}
 use Rattle.pli_resolve.specs.ResolvedUnits.{resolved_unit_of}
 use Rattle.pli_type.specs.NamedUnits.{checked_unit}
@@ -20,7 +21,7 @@ use Rattle.pli_meaning.specs.Scratch.{typed_unless, program_from, too_long, comp
 
 -- where reading has no fault, the tree that was read decides
 pub tree_decides : (texts : Tokens) (u : ExternalProcedure) → unit_of texts ≡ Ok u → compiled_texts texts ≡ coded_from (typed_unless (resolution_faults u) u)
-tree_decides texts u read = ap (λ r. coded_from (program_from r)) read ∙ ap (λ fs. coded_from (typed_unless fs u)) (faults_alike u)
+tree_decides texts u read = ap (λ r. coded_from (program_from r)) (unit_same texts ∙ read) ∙ ap (λ fs. coded_from (typed_unless fs u)) (faults_alike u)
 
 -- and where the declarations have none, types
 pub types_decide : (u v : ExternalProcedure) → resolution_faults u ≡ [] → v ≡ u → coded_from (typed_unless (resolution_faults u) u) ≡ coded_from (checked_unit (resolved_unit_of v))

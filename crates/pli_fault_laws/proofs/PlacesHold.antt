@@ -17,6 +17,7 @@ use Rattle.pli_include.specs.Expanded.{look_in}
 use Rattle.pli_include.specs.Expansion.{token_limit}
 use Rattle.pli_include.proofs.StepsKeep.{texts_have_origins}
 use Rattle.pli_meaning.specs.Scratch.{Diagnostic, origin_of, located, typed_unless, program_from, program_of, all_located, too_long, compiled_tree, is_long, short_deck, coded_from, compiled_texts, with_unit, compiled_from, compiled_of}
+use Rattle.pli_grammar.proofs.UnitsAlike.{unit_same}
 use Rattle.pli_parse.proofs.StatementFaultPlaces.{unit_fault_stands}
 use Rattle.pli_parse_statement.specs.StatementReading.{unit_of}
 use Rattle.pli_resolve.specs.ResolvedUnits.{resolved_unit_of}
@@ -56,7 +57,7 @@ read_stand ts (Ok u) fs read e =
 read_stand ts (Err f) fs read e = subst (AllStand ts) (ap faults_in e) (unit_fault_stands ts f read, tt)
 
 program_stands : (ts : Tokens) (fs : List Fault) → program_of ts ≡ Err fs → AllStand ts fs
-program_stands ts fs e = read_stand ts (unit_of ts) fs refl e
+program_stands ts fs e = read_stand ts (unit_of ts) fs refl (sym (ap program_from (unit_same ts)) ∙ e)
 
 first_stands : (ts : Tokens) → StandsAtToken ts too_long
 first_stands [] = refl

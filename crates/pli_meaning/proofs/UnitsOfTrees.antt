@@ -31,6 +31,7 @@ use Rattle.pli_type_tree.specs.TypedTree.{TypedUnit}
 use Rattle.pli_code.specs.Decks.{Code, Deck}
 use Rattle.pli_code.specs.Versions.{written}
 use Rattle.pli_parse_statement.specs.StatementReading.{unit_of}
+use Rattle.pli_grammar.proofs.UnitsAlike.{unit_same}
 use Rattle.pli_base.specs.Statements.{ExternalProcedure}
 use Rattle.pli_base.specs.Words.{Tokens}
 use Rattle.pli_declarations.specs.Units as declarations
@@ -75,7 +76,7 @@ typed_read texts unit read [] none =
 typed_read texts unit read (fault ∷ faults) some = tt
 
 program_read : (texts : Tokens) → IsRead (program_of texts)
-program_read texts = by (unit_of texts) refl
+program_read texts = subst (λ (r : Result ExternalProcedure Fault). IsRead (program_from r)) (sym (unit_same texts)) (by (unit_of texts) refl)
   where
     by : (r : Result ExternalProcedure Fault) → unit_of texts ≡ r → IsRead (program_from r)
     by (Ok unit) read = typed_read texts unit read (declarations.resolution_faults unit) (sym (faults_alike unit))

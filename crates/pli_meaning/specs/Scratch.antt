@@ -16,7 +16,7 @@ use Rattle.pli_include.specs.Expansion.{Outcome as Expansion}
 use Rattle.pli_members.specs.Members.{Member}
 use Rattle.pli_members.specs.declared.kind.MemberKind.{MemberKind}
 use Rattle.pli_members.specs.declared.kind.MemberKind.TheVariants.{Source, Include}
-use Rattle.pli_parse_statement.specs.StatementReading.{unit_of}
+use Rattle.pli_grammar.specs.UnitReading.{unit_of}
 use Rattle.pli_base.specs.Statements.{ExternalProcedure}
 use Rattle.pli_declarations.specs.Units.{resolution_faults, resolved_unit_of}
 use Rattle.pli_link.specs.Link.{link_of}

@@ -346,10 +346,10 @@ module _ (greatest : ℕ) (call : Calls) where
       does_form block number (If e consequence alternative) =
           condition e >>= λ b. if b then does block consequence else does_else block alternative
       does_form block number (Begin head statements) = do
-          link ← λ w. there (static_link unit (Some block) w) w
-          unless_full
-              (activation_of (head_in unit head) link []
-              (as_list level unit statements (does_from head.number statements)) block_end)
+        link ← λ w. there (static_link unit (Some block) w) w
+        unless_full
+            (activation_of (head_in unit head) link []
+            (as_list level unit statements (does_from head.number statements)) block_end)
       does_form block number (Group statements) = as_list level unit statements (does_from block statements)
       does_form block number (While e statements) =
           turns level (back_at number (condition e))

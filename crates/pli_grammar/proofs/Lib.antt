@@ -1,0 +1,4 @@
+mod ListsAlike
+mod PartsAlike
+mod ReadersAlike
+pub mod UnitsAlike

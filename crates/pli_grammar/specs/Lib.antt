@@ -1,0 +1,4 @@
+pub mod GrammarLaws
+pub mod Readers
+pub mod StatementParts
+pub mod UnitReading
