@@ -122,7 +122,6 @@ impl Bench {
     }
 
     /// Law: the bytes that DUMP shows where a module stands spell the module of the members, and no other.
-    #[tactic(auto, using(crate::proofs::DumpsObeyed::shows))]
     pub fn shows_its_module(&self)
         ensures { ShowsModule self.now }
     {

@@ -1,14 +1,24 @@
 -- Where reading and the declarations have no fault, types decide what a unit is compiled to; where types have none and
 -- code is not too long, its deck decides.
-use Rattle.std.specs.Prelude.{◌≡◌, true, false, Ok, Err, [], ◌∷◌, if◌then◌else◌}
-use Rattle.std.proofs.Common.{ap, sym, ◌∙◌}
+use Rattle.std.specs.Prelude.{◌≡◌, true, false, Result, Ok, Err, [], ◌∷◌, if◌then◌else◌}
+use Rattle.std.proofs.Common.{ap, sym, subst, ◌∙◌}
 use Rattle.pli_base.specs.Statements.{ExternalProcedure}
+use Rattle.pli_base.specs.answers.FailureAnswers.{Fails}
+use Rattle.pli_base.specs.declared.failure.Failure.{Failure}
+use Rattle.pli_base.specs.declared.failure.Failure.TheVariants as failures
+use Rattle.pli_base.specs.declared.token.Fault.{Fault}
 use Rattle.pli_base.specs.Words.{Tokens}
 use Rattle.pli_code.specs.CodeTables.{Code}
 use Rattle.pli_code.specs.Versions.{written}
+use Rattle.pli_code.specs.declared.code.Deck.{Deck}
+use Rattle.pli_deck.specs.answers.Outcomes.{Compiles, of_fault, of_generating}
+use Rattle.pli_deck.specs.declared.passes.CompileError.{CompileError}
 use Rattle.pli_declarations.proofs.UnitsAlike.{faults_alike}
 use Rattle.pli_declare.specs.Resolution.{resolution_faults}
 use Rattle.pli_gen.specs.Limits.{is_too_long}
+use Rattle.pli_gen.specs.answers.Answers.{Generates}
+use Rattle.pli_gen.specs.declared.generating.GenerateError.{GenerateError}
+use Rattle.pli_gen.specs.declared.generating.GenerateError.TheVariants as generating
 use Rattle.pli_gen_emit.specs.Encoding.{code_of}
 use Rattle.pli_gen_emit.proofs.ItemsMake.{code_same}
 use Rattle.pli_grammar.proofs.UnitsAlike.{unit_same}
@@ -36,3 +46,14 @@ pub deck_decides : (u : TypedUnit) (c : Code) → is_too_long (code_of u) ≡ fa
 deck_decides u c fits same =
     ap (λ (x : Code). short_deck (record { version = written; name = u.procedure; is_main = u.is_main; code = x })) (same ∙ sym (code_same u))
     ∙ sym (ap (λ b. if b then Err (too_long ∷ []) else short_deck (compiled_tree u)) (ap is_too_long (code_same u) ∙ fits))
+
+-- what code has told is what compiling tells
+pub code_refused : (u : TypedUnit) (r : Result Deck CompileError) (y : CompileError) (e : GenerateError) → r ≡ Err y → y ≡ of_generating e → Generates (Err e) (code_of u) → Compiles r (coded u)
+code_refused u r y generating.TooLong is given long = subst (λ r. Compiles r (coded u)) (sym (is ∙ ap Err given)) (long_decides u long)
+code_refused u r y generating.OutOfMemory is given long = subst (λ r. Compiles r (coded u)) (sym (is ∙ ap Err given)) tt
+
+-- and what reading has told
+pub reading_refused : (texts : Tokens) (r : Result Deck CompileError) (y : CompileError) (e : Failure Fault) → r ≡ Err y → y ≡ of_fault e → Fails e (unit_of texts) → Compiles r (compiled_texts texts)
+reading_refused texts r y (failures.Fault f) is given told =
+    subst (λ r. Compiles r (compiled_texts texts)) (sym (is ∙ ap Err given)) (ap (λ u. coded_from (program_from u)) (unit_same texts ∙ told))
+reading_refused texts r y failures.OutOfMemory is given told = subst (λ r. Compiles r (compiled_texts texts)) (sym (is ∙ ap Err given)) tt
