@@ -1,5 +1,5 @@
 -- Options that are there or are not, and results.
-use Rattle.std.proofs.Common.{◌≡◌, true, false, true≢false, Option, Some, None, Result, Ok, Err, OnOk, OnErr, option_map, is_some, refl, sym}
+use Rattle.std.proofs.Common.{◌≡◌, true, false, true≢false, Option, Some, None, Result, Ok, Err, OnOk, OnErr, option_map, refl, sym}
 use Rattle.std.specs.Result.{is_err}
 use Rattle.std.proofs.lemmas.Option.{same_Some, none-some}
 
@@ -17,10 +17,6 @@ module _ {T E : Type 0} {P : Type 0} where
   said_of_err (Err x) p = p
 
 module _ {X Y : Type 0} (f : X → Y) where
-  pub some_unmapped : (o : Option X) → is_some (option_map f o) ≡ true → is_some o ≡ true
-  some_unmapped None e = e
-  some_unmapped (Some x) e = refl
-
   pub unmapped_nothing : (o : Option X) → None ≡ option_map f o → o ≡ None
   unmapped_nothing None e = refl
   unmapped_nothing (Some x) e = absurd (none-some (f x) e)

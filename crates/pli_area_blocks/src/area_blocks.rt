@@ -1,5 +1,5 @@
 //! The blocks of an area.
-ghost use Rattle.std.specs.Prelude.{◌≡◌, ◌≤◌, ◌%◌, ℕ, true, None, [], length, IsSome, IfOk, OnErr};
+ghost use Rattle.std.specs.Prelude.{◌≡◌, ◌≤◌, ◌%◌, ℕ, true, None, [], length, IfOk, OnErr};
 ghost use Rattle.std.specs.Option.{option_map};
 ghost use Rattle.pli_area_blocks.specs.answers.Known.{AreKnown};
 ghost use Rattle.pli_area_blocks.specs.answers.Parts.{AssignsBlocks, PartHolds, PartPut, PartStands, placed};
@@ -83,9 +83,8 @@ impl<'m> AreaBlocks<'m> {
         Ok(place_block(&mut self.area, number, bytes).ok())
     }
 
-    /// The block at a position ends.
+    /// The block at a position ends; where none is there, nothing changes.
     pub fn take(&mut self, position: u32)
-        requires { IsSome (block_at (blocks_view self.old) position) }
         ensures blocks { blocks_view self.new ≡ without_block (blocks_view self.old) position }
         ensures capacity { capacity_of self.new ≡ capacity_of self.old }
     {

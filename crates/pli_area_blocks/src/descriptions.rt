@@ -14,7 +14,7 @@ fn index_of(descriptions: &[&Description], description: &Description) -> Option<
         ≡ description_view description.now) }
 {
     for number in 0..descriptions.len() {
-        if descriptions[number].equals(description) {
+        if descriptions[number].is_same(description) {
             return Some(number);
         }
     }

@@ -1,7 +1,7 @@
 //! Blocks placed in an area, by the numbers of their descriptions, and taken away.
-ghost use Rattle.std.specs.Prelude.{◌≡◌, length, IsSome, IfOk, OnErr};
+ghost use Rattle.std.specs.Prelude.{◌≡◌, length, IfOk, OnErr};
 ghost use Rattle.std.specs.Result.{result_ok};
-ghost use Rattle.pli_area.specs.Areas.{block_at, first_fit, with_block, without_block};
+ghost use Rattle.pli_area.specs.Areas.{first_fit, with_block, without_block};
 
 use pli_area::{Area, Full};
 
@@ -23,9 +23,8 @@ pub(crate) fn place_block(area: &mut Area, number: u32, bytes: &[u8]) -> Result<
     Ok(position)
 }
 
-/// Takes the block at a position away.
+/// Takes the block at a position away; where none is there, nothing changes.
 pub(crate) fn take_block(area: &mut Area, position: u32)
-    requires { IsSome (block_at area.old.blocks position) }
     ensures blocks { area.new.blocks ≡ without_block area.old.blocks position }
     ensures capacity { area.new.capacity ≡ area.old.capacity }
 {

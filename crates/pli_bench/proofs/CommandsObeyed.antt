@@ -31,9 +31,11 @@ use Rattle.pli_meaning.specs.Members.{HasMeaning}
 use Rattle.pli_bench.specs.answers.Answering.{Writes}
 use Rattle.pli_machine.specs.answers.Runs.{RanTo, StoppedWithin}
 use Rattle.pli_bench.specs.answers.Obeying.{Does, as_edit, edit_answer, end_answer, gone, standing_after}
-use Rattle.pli_bench.specs.Commands.{Command, command_of}
+use Rattle.pli_bench.specs.CommandLines.{command_of}
+use Rattle.pli_bench.specs.Commands.{Command}
 use Rattle.pli_bench.specs.Exchanges.{exchange, span}
-use Rattle.pli_bench.specs.Runs.{AnsweredOne, next_after}
+use Rattle.pli_bench.specs.Runs.{AnsweredOne}
+use Rattle.pli_bench.proofs.LinesAnswered.{next_after}
 use Rattle.pli_bench.specs.declared.serving.AfterCommand.{AfterCommand}
 use Rattle.pli_bench.specs.declared.serving.WriteFailed.{WriteFailed}
 use Rattle.pli_machine_step.proofs.OutcomesAreOne.{one_outcome}

@@ -1,4 +1,5 @@
 pub mod BytesWaiting
+pub mod CommandsAlike
 pub mod CommandsObeyed
 pub mod DumpsObeyed
 pub mod FirstWordFound

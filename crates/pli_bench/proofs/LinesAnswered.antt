@@ -1,6 +1,6 @@
 -- Laws of answered lines: some after others, and a line that was cut.
 use Rattle.std.proofs.Common.{◌≡◌, ℕ, zero, suc, ◌<◌, ◌≤◌, ◌⊎◌, inl, inr, Bool, true, false, List, [], ◌∷◌, ◌++◌, length, take, Option, Some, None, Result, Ok, Err, refl, sym, ap, subst, ◌∙◌, append_assoc, append-nil, arith, unwrap_or, take_all, length-take, length-append}
-use Rattle.std.specs.Prelude.{All}
+use Rattle.std.specs.Prelude.{All, if◌then◌else◌}
 use Rattle.std.proofs.lemmas.List.Elements.{All-nil, All-cons, All-append}
 use Rattle.std.proofs.lemmas.Bool.{cases_lt}
 use Rattle.std.specs.Io.KnownBytes.{Appends, Consumes, IsAtEnd}
@@ -10,7 +10,7 @@ use Rattle.pli_bench.specs.Commands.{line_limit}
 use Rattle.pli_bench.specs.answers.Kept.{kept_limit}
 use Rattle.pli_bench.specs.Lines.{is_line_feed, without_return, complete_from, pending_from, complete_lines, pending_line, last_line, input_lines}
 use Rattle.pli_bench.specs.Exchanges.{Exchange, exchange, span}
-use Rattle.pli_bench.specs.Runs.{Answers, nothing, quitting, going, Broken, Answered, QuitsWithin, Stops, next_after, IsInput}
+use Rattle.pli_bench.specs.Runs.{Answers, nothing, quitting, going, Broken, Answered, QuitsWithin, Stops, IsInput}
 use Rattle.pli_bench.specs.answers.Going.{Going}
 use Rattle.pli_bench.specs.declared.serving.AfterCommand.{AfterCommand}
 use Rattle.pli_bench.specs.declared.serving.AfterCommand.TheVariants.{Go, Quit, End}
@@ -319,6 +319,10 @@ pub end_from : (next : AfterCommand) → (next ≡ Quit → ⊥) → (◌≡◌ 
 end_from Go quit go = absurd (go refl)
 end_from Quit quit go = absurd (quit refl)
 end_from End quit go = refl
+
+-- what follows a line
+abbrev pub next_after : Bool → AfterCommand
+next_after is_last = if is_last then Quit else Go
 
 -- what the answer to a command tells of its line
 pub quits_from : (is_last : Bool) → Quit ≡ next_after is_last → is_last ≡ true

@@ -5,7 +5,11 @@ use Rattle.std.proofs.Common.{sym, ap, ◌∙◌, append_assoc}
 use Rattle.std.proofs.lemmas.List.{drop_more}
 use Rattle.pli_base.specs.Name.{Name}
 use Rattle.pli_members.specs.Members.{Member}
-use Rattle.pli_bench.specs.Session.{numbered_line, numbered_lines, kind_word, member_line}
+use Rattle.pli_bench.specs.Session.{line, numbered_lines, kind_word, member_line}
+
+-- a line of a member, after its number
+abbrev pub numbered_line : ℕ → List ℕ → List ℕ
+numbered_line number text = line (decimal number ++ 32 ∷ text)
 
 -- the lines from one on
 pub lines_from : (lines : List (List ℕ)) (i : ℕ) (d : List ℕ) → i < length lines

@@ -1,3 +1,4 @@
+pub mod CommandLines
 pub mod Commands
 pub mod Dumps
 pub mod Exchanges

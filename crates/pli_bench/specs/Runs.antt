@@ -52,17 +52,13 @@ Answered Step quits lines state writer (Ok next) =
     × Appends writer.before writer.after answers
 Answered Step quits lines state writer (Err e) = Broken Step quits lines state writer
 
--- what follows a line
-abbrev pub next_after : Bool → AfterCommand
-next_after is_last = if is_last then Quit else Go
-
 -- a line was answered, and it is told whether it quits; or the writer failed after some first bytes of the
 -- answer
 abbrev pub AnsweredOne : {S : Type 0} → (Step : List ℕ → Exchange S → Type 0) → (quits : List ℕ → Bool)
     → (line : List ℕ) → (state : Span S) → (writer : Span Bytes) → Result AfterCommand WriteFailed → Type 0
 AnsweredOne Step quits line state writer (Ok next) =
     (answer : List ℕ) × Step line (exchange state.before answer state.after)
-    × Appends writer.before writer.after answer × (next ≡ next_after (quits line))
+    × Appends writer.before writer.after answer × (next ≡ (if quits line then Quit else Go))
 AnsweredOne Step quits line state writer (Err e) =
     (answer : List ℕ) × Step line (exchange state.before answer state.after)
     × AppendsPrefix writer.before writer.after answer

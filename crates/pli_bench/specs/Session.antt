@@ -3,10 +3,11 @@ use Rattle.std.specs.Prelude.{◌≡◌, ℕ, ◌+◌, Bool, true, false, nat_eq
 use Rattle.std.specs.Prelude.{◌++◌, length, codes, decimal, unwrap_or, if◌then◌else◌}
 use Rattle.std.specs.List.{flat_map}
 use Rattle.pli_base.specs.Name.{Name}
-use Rattle.pli_members.specs.Members.{Store, Member, empty_store, lines_of, added, deleted, with_line}
-use Rattle.pli_members.specs.Members.{with_line_replaced, without_lines}
-use Rattle.pli_members.specs.Refusals.{refusal_of_add, refusal_of_delete, refusal_of_insert}
-use Rattle.pli_members.specs.Refusals.{refusal_of_replace, refusal_of_remove, refusal_label, refusal_text}
+use Rattle.pli_members.specs.Members.{Store, Member, Change, empty_store, lines_of, added, deleted}
+use Rattle.pli_members.specs.Members.{with_change}
+use Rattle.pli_members.specs.Members as lines
+use Rattle.pli_members.specs.Refusals.{refusal_of_add, refusal_of_delete, refusal_of_change}
+use Rattle.pli_members.specs.Refusals.{refusal_label, refusal_text}
 use Rattle.pli_members.specs.declared.refusal.Refusal.{Refusal}
 use Rattle.pli_members.specs.declared.refusal.Refusal.TheVariants.{NoSuchMember}
 use Rattle.pli_members.specs.declared.kind.MemberKind.{MemberKind}
@@ -22,7 +23,8 @@ use Rattle.pli_meaning.specs.Scratch.{Built, Diagnosed, Made, scratch, Means}
 use Rattle.pli_code.specs.ModuleParts.{Module}
 use Rattle.pli_bench.specs.Exchanges.{Exchange}
 use Rattle.pli_bench.specs.Commands.{Command, Add, Delete, Insert, Replace, Remove, ListLines, ListMembers}
-use Rattle.pli_bench.specs.Commands.{Build, ListWork, Dump, Run, Quit, command_of}
+use Rattle.pli_bench.specs.Commands.{Build, ListWork, Dump, Run, Quit}
+use Rattle.pli_bench.specs.CommandLines.{command_of}
 use Rattle.pli_bench.specs.Dumps.{hex_from}
 use Rattle.pli_deck_write.specs.ModuleBytes.{module_written}
 
@@ -85,11 +87,11 @@ Says words e = (e.answer ≡ words) × (e.after ≡ e.before)
 
 -- the members were edited, and no module of them stands
 abbrev pub edited : State → Store → State
-edited s store = record { store = store; ledger = s.ledger; stands = false; steps = s.steps }
+edited s store = record s { store = store; stands = false }
 
 -- no module of the members stands, and this is kept of their units
 abbrev pub without_module : State → Ledger → State
-without_module s ledger = record { store = s.store; ledger = ledger; stands = false; steps = s.steps }
+without_module s ledger = record s { ledger = ledger; stands = false }
 
 -- an edit is refused, and nothing changes, or is made
 abbrev pub Edits : Option Refusal → Store → Exchange State → Type 0
@@ -101,11 +103,15 @@ abbrev pub EditsInMemory : Option Refusal → Store → Exchange State → Type 
 EditsInMemory (Some r) store e = Says (refused r) e
 EditsInMemory None store e = Edits None store e ⊎ Says no_memory e
 
+-- the lines of a member change, which takes memory
+abbrev pub ChangesInMemory : Name → Change → Exchange State → Type 0
+ChangesInMemory name change e =
+    EditsInMemory (refusal_of_change e.before.store name change) (with_change e.before.store name change) e
+
 -- what a build leaves: of each unit its expansion and its result are kept, and a module stands where it gave
 -- one
 abbrev pub left_by : Built → State → State
-left_by b s =
-    record { store = s.store; ledger = ledger_after s.ledger s.store; stands = is_made b; steps = s.steps }
+left_by b s = record s { ledger = ledger_after s.ledger s.store; stands = is_made b }
 
 -- a build answers what a build from scratch of the members gives; where memory is refused, the members stay,
 -- no module stands, and each thing that is kept is as before or as after the build
@@ -141,14 +147,11 @@ Runs true n e =
     (o : Outcome) × Means e.before.store.entries n o × ((e.answer ≡ run_answer o) ⊎ Breaks o.output e.answer)
     × (e.after ≡ e.before)
 
--- a line of a member, after its number
-abbrev pub numbered_line : ℕ → List ℕ → List ℕ
-numbered_line number text = line (decimal number ++ 32 ∷ text)
-
 -- lines after their numbers, the first of which is given
 abbrev pub numbered_lines : ℕ → List (List ℕ) → List ℕ
 numbered_lines number [] = []
-numbered_lines number (text ∷ lines) = numbered_line number text ++ numbered_lines (number + 1) lines
+numbered_lines number (text ∷ lines) =
+    line (decimal number ++ 32 ∷ text) ++ numbered_lines (number + 1) lines
 
 -- the lines of a member, if there is one, are listed from 1 on
 abbrev pub Lists : Option (List (List ℕ)) → Exchange State → Type 0
@@ -174,16 +177,13 @@ Obeys (Some (Add name kind)) e =
 -- DELETE takes a member away
 Obeys (Some (Delete name)) e = Edits (refusal_of_delete e.before.store name) (deleted e.before.store name) e
 -- INSERT puts a line after another
-Obeys (Some (Insert name after text)) e =
-    EditsInMemory (refusal_of_insert e.before.store name after text)
-    (with_line e.before.store name after text) e
+Obeys (Some (Insert name after text)) e = ChangesInMemory name (lines.Insert after text) e
 -- REPLACE gives a line another text
-Obeys (Some (Replace name number text)) e =
-    EditsInMemory (refusal_of_replace e.before.store name number text)
-    (with_line_replaced e.before.store name number text) e
+Obeys (Some (Replace name number text)) e = ChangesInMemory name (lines.Replace number text) e
 -- REMOVE takes lines away
 Obeys (Some (Remove name first last)) e =
-    Edits (refusal_of_remove e.before.store name first last) (without_lines e.before.store name first last) e
+    Edits (refusal_of_change e.before.store name (lines.Remove first last))
+    (with_change e.before.store name (lines.Remove first last)) e
 -- LIST shows the lines of a member
 Obeys (Some (ListLines name)) e = Lists (lines_of e.before.store name) e
 -- MEMBERS shows what members there are

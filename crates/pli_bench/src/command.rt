@@ -5,7 +5,9 @@ ghost use Rattle.std.specs.List.{list_all, position};
 ghost use Rattle.pli_base.specs.Name.{is_digit};
 ghost use Rattle.pli_bench.specs.Commands.{is_blank, first_word, after_blank, is_word, number_of, kind_of_word};
 ghost use Rattle.pli_bench.specs.Commands.{numbered_text, numbered_of, add_of, insert_of, replace_of, remove_of};
-ghost use Rattle.pli_bench.specs.Commands.{run_of, command_of};
+ghost use Rattle.pli_bench.specs.Commands.{run_of};
+ghost use Rattle.pli_bench.specs.Commands as read;
+ghost use Rattle.pli_bench.specs.CommandLines.{command_of};
 ghost use Rattle.pli_bench.specs.views.CommandView.{command_view};
 
 use pli_base::{Name, decimal_value, is_digit};
@@ -74,6 +76,13 @@ pub enum Command<'a> {
 /// is of a wrong form; or a word is missing or too many (own).
 pub fn read_command(line: &[u8]) -> Option<Command<'_>>
     ensures { option_map command_view result ≡ command_of line.now }
+{
+    read_words(line)
+}
+
+/// The same, word by word.
+fn read_words(line: &[u8]) -> Option<Command<'_>>
+    ensures { option_map command_view result ≡ read.command_of line.now }
 {
     if line.len() > LINE_LIMIT {
         return None;

@@ -10,7 +10,8 @@ use Rattle.pli_deck_laws.specs.WellFormed.{IsWellFormed}
 use Rattle.pli_deck_laws.specs.UnitTypes.{IsTypedUnit}
 use Rattle.pli_deck_laws.proofs.DecksSay.{units_are_said}
 use Rattle.pli_deck_laws.proofs.FieldsFit.{fits_name}
-use Rattle.pli_link.specs.Link.{link_faults, link_of}
+use Rattle.pli_link.specs.Link.{link_faults}
+use Rattle.pli_link.specs.LinkedModule.{link_of}
 use Rattle.pli_link.specs.Links.{linked_unit, module_of}
 use Rattle.pli_link.specs.Names.{externals, procedures}
 use Rattle.pli_link.specs.Units.{Compiled, AreWritten}
@@ -19,11 +20,12 @@ use Rattle.pli_deck_write.specs.DeckBytes.{deck_written}
 use Rattle.pli_deck_write.specs.DeckFields.{any_version}
 use Rattle.pli_deck_write.specs.Spelling.{deck_bytes}
 use Rattle.pli_deck_write.proofs.BytesAlike.{deck_same}
+use Rattle.pli_link.proofs.LinkAlike.{links_alike}
 use Rattle.pli_link_laws.specs.LinkedModules.{IsSaidAlone}
 use Rattle.pli_link_laws.proofs.LinkedFrom.{of_faultless}
 use Rattle.pli_link_laws.proofs.ModulesSay.{linked_modules_are_spelled}
-use Rattle.pli_meaning.specs.MemberParts.{all_text, all_units, units_in}
-use Rattle.pli_meaning.specs.Scratch.{Diagnostic, scratch, built, linked, Made, is_long, units_of, compiled_of}
+use Rattle.pli_meaning.specs.MemberParts.{all_text, all_units, units_in, units_of}
+use Rattle.pli_meaning.specs.Scratch.{Diagnostic, scratch, built, linked, Made, is_long, compiled_of}
 use Rattle.pli_meaning.proofs.UnitsOfTrees.{coded_tree, AreOfMembers, all_coded}
 use Rattle.pli_members.specs.Members.{Member}
 use Rattle.pli_members.specs.declared.kind.MemberKind.{MemberKind}
@@ -103,7 +105,7 @@ built_modules_are_spelled entries m few is typed =
     let made = made_of (all_text entries entries) cs m is in
     let trees = all_coded entries entries made.none in
     let coded = map coded_tree trees.trees in
-    let o = of_faultless (link_faults cs) (position (λ (c : Compiled). c.deck.is_main) cs) cs m made.of in
+    let o = of_faultless (link_faults cs) (position (λ (c : Compiled). c.deck.is_main) cs) cs m (sym (links_alike cs) ∙ made.of) in
     let same : module_of coded o.main ≡ m = ap (λ xs. module_of xs o.main) (sym trees.coded) ∙ o.is in
     let said = subst (λ (n : Module). AllByRecursion IsTypedUnit n.units → AllByRecursion IsSaidAlone n.units) same
     (all_said entries (keys_of (externals coded)) (procedures coded) trees.trees trees.good) in

@@ -15,7 +15,8 @@ use Rattle.pli_include.specs.Expanded.{look_in, outcome_of}
 use Rattle.pli_include.specs.Expansion.{Outcome, token_limit}
 use Rattle.pli_include.proofs.StepsKeep.{texts_have_origins}
 use Rattle.pli_meaning.specs.Programs.{of_member}
-use Rattle.pli_meaning.specs.Scratch.{typed_unless, program_from, program_of, all_located, parsed_from, parsed_of}
+use Rattle.pli_meaning.specs.Scratch.{typed_unless, program_of, parsed_from, parsed_of}
+use Rattle.pli_meaning.specs.MemberParts.{program_from, all_located}
 use Rattle.pli_members.specs.Members.{Member}
 use Rattle.pli_parse_statement.specs.StatementReading.{unit_of}
 use Rattle.pli_type_tree.specs.TypedTree.{TypedUnit}

@@ -5,7 +5,7 @@ use borrow.Rule.Slice.PartMut.{put_mid}
 use Rattle.pli_map.specs.Description.{Description, Varying}
 use Rattle.pli_map.specs.Sizes.{size_of}
 use Rattle.pli_value.specs.Value.{Value, Characters}
-use Rattle.pli_bytes.specs.Changes.{IsPut, PutOrSame, AppendedOrSame}
+use Rattle.pli_bytes.specs.Changes.{IsPut, PutOrSame, AppendedOrSame, IsTooLong}
 use Rattle.pli_bytes.specs.Contents.{value_of, with_bytes_at}
 
 -- all bytes from an offset on, and what they are once others have come back in their place
@@ -86,3 +86,9 @@ appended_after true greatest offset more room bytes back a = record {
   fits = a.fits;
 }
 appended_after false greatest offset more room bytes back same = same_after offset bytes back same
+
+-- both are as long after an offset as at no offset of all bytes from that one on
+pub too_long_after : (greatest offset : ℕ) (more : List ℕ) (room : ℕ) (bytes : List ℕ) → IsTooLong greatest 0 more room (rest_from offset bytes)
+    → IsTooLong greatest offset more room bytes
+too_long_after greatest offset more room bytes long = λ text holds fits.
+    long text (ap (λ rest. value_of (Varying greatest) (take (2 + greatest) rest)) (rest_from_is offset bytes) ∙ holds) fits

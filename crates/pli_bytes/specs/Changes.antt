@@ -1,5 +1,5 @@
 -- What changes where a value is put into bytes.
-use Rattle.std.specs.Prelude.{◌≡◌, ◌≤◌, ℕ, Bool, true, false, List, ◌++◌, length}
+use Rattle.std.specs.Prelude.{◌≡◌, ◌≤◌, ◌<◌, ℕ, Bool, true, false, List, ◌++◌, length}
 use Rattle.pli_map.specs.Description.{Description, Varying}
 use Rattle.pli_map.specs.Sizes.{size_of}
 use Rattle.pli_value.specs.Value.{Value, Characters}
@@ -29,3 +29,11 @@ abbrev pub AppendedOrSame : Bool → (greatest offset : ℕ) → (more : List �
     → Type 0
 AppendedOrSame true greatest offset more room old new = IsAppended greatest offset more room old new
 AppendedOrSame false greatest offset more room old new = new ≡ old
+
+-- characters and those of a string of CHARACTER VARYING before them are more than it may hold, or than so
+-- many
+abbrev pub IsTooLong : (greatest offset : ℕ) → (more : List ℕ) → (room : ℕ) → (bytes : List ℕ) → Type 0
+IsTooLong greatest offset more room bytes =
+    (text : List ℕ) →
+    value_in bytes (record { offset = offset; description = Varying greatest }) ≡ Characters text →
+    length (text ++ more) ≤ greatest → room < length (text ++ more)

@@ -1,6 +1,6 @@
 //! Values put into bytes, where a scalar lies.
-ghost use Rattle.std.specs.Prelude.{◌≡◌, ◌≤◌, ◌+◌, ◌++◌, length, drop, true, IsTrue};
-ghost use Rattle.pli_bytes.specs.Changes.{IsPut, PutOrSame, AppendedOrSame};
+ghost use Rattle.std.specs.Prelude.{◌≡◌, ◌≤◌, ◌+◌, ◌++◌, length, drop, true, IsTrue, IsFalse};
+ghost use Rattle.pli_bytes.specs.Changes.{IsPut, PutOrSame, AppendedOrSame, IsTooLong};
 ghost use Rattle.pli_map.specs.Description as tree;
 ghost use Rattle.pli_map.specs.Sizes.{number_bytes, size_of};
 ghost use Rattle.pli_map.specs.StoredValues.{is_storable};
@@ -56,10 +56,13 @@ fn store_first(bytes: &mut [u8], size: usize, description: &Description, value: 
 }
 
 /// A number put where a scalar of FIXED BINARY of this precision lies; where the bytes end before it does, or it has no
-/// room for the number, nothing changes. There is room for numbers of some more digits than the precision.
+/// room for the number, nothing changes. There is room for each number of as many digits as the precision, and for some
+/// of more.
 #[inline(always)]
 pub fn put_number_at(bytes: &mut [u8], offset: usize, precision: u8, number: i64) -> bool
-    ensures { PutOrSame result (tree.FixedBinary precision) (Number number) offset bytes.old bytes.new }
+    ensures put { PutOrSame result (tree.FixedBinary precision) (Number number) offset bytes.old bytes.new }
+    ensures room { IsTrue (has_digits precision number) → offset + number_bytes precision ≤ length bytes.old
+        → IsTrue result }
 {
     if offset > bytes.len() {
         return false;
@@ -111,7 +114,9 @@ fn write_front(bytes: &mut [u8], front: &[u8])
 /// length and the new characters are written.
 #[inline]
 pub fn append_at(bytes: &mut [u8], offset: usize, greatest: u16, more: &[u8], room: usize) -> bool
-    ensures { AppendedOrSame result greatest offset more.now room bytes.old bytes.new }
+    ensures put { AppendedOrSame result greatest offset more.now room bytes.old bytes.new }
+    ensures refused { IsFalse result → offset + (2 + greatest) ≤ length bytes.old
+        → IsTooLong greatest offset more.now room bytes.old }
 {
     if offset > bytes.len() {
         return false;
@@ -122,7 +127,9 @@ pub fn append_at(bytes: &mut [u8], offset: usize, greatest: u16, more: &[u8], ro
 /// The same of the scalar with which the bytes begin.
 #[inline]
 fn append_first(bytes: &mut [u8], greatest: u16, more: &[u8], room: usize) -> bool
-    ensures { AppendedOrSame result greatest 0 more.now room bytes.old bytes.new }
+    ensures put { AppendedOrSame result greatest 0 more.now room bytes.old bytes.new }
+    ensures refused { IsFalse result → 2 + greatest ≤ length bytes.old
+        → IsTooLong greatest 0 more.now room bytes.old }
 {
     let greatest = usize::from(greatest);
     if bytes.len() < 2 + greatest {

@@ -1,5 +1,5 @@
 //! What bytes hold where a scalar lies.
-ghost use Rattle.std.specs.Prelude.{◌≡◌, ◌≤◌, ◌<◌, ◌+◌, ◌*◌, length, take, drop, true, IfOk, IfSome, MatchOption};
+ghost use Rattle.std.specs.Prelude.{◌≡◌, ◌≢◌, ℕ, ◌≤◌, ◌<◌, ◌+◌, ◌*◌, List, length, take, drop, true, IfOk, MatchOption};
 ghost use Rattle.byteorder.specs.Endian.{big_number};
 ghost use Rattle.pli_bytes.specs.Contents.{value_in, value_of};
 ghost use Rattle.pli_map.specs.Description as tree;
@@ -81,7 +81,8 @@ fn bits(alloc: Global, packed: &[u8], count: u16) -> Result<Value, AllocError>
 /// they end before it does.
 #[inline(always)]
 pub fn number_at(bytes: &[u8], offset: usize, precision: u8) -> Option<i64>
-    ensures { IfSome result (λ x. value_in bytes.now
+    ensures { MatchOption result (length bytes.now < offset + number_bytes precision)
+        (λ x. value_in bytes.now
         (record { offset = offset; description = tree.FixedBinary precision }) ≡ Number x) }
 {
     if offset > bytes.len() {
@@ -120,7 +121,10 @@ fn known_number(bytes: &[u8], precision: u8) -> i64
 /// for any other description, and where the bytes end before it does.
 #[inline]
 pub fn text_at<'b>(bytes: &'b [u8], offset: usize, description: &Description) -> Option<&'b [u8]>
-    ensures { IfSome result (λ text. value_in bytes.now
+    ensures { MatchOption result (offset + size_of (description_view description.now) ≤ length bytes.now
+        → (text : List ℕ) → value_in bytes.now
+        (record { offset = offset; description = description_view description.now }) ≢ Characters text)
+        (λ text. value_in bytes.now
         (record { offset = offset; description = description_view description.now }) ≡ Characters text.now) }
 {
     if offset > bytes.len() {

@@ -1,5 +1,5 @@
 //! Strings of few bits in bytes, where a scalar lies.
-ghost use Rattle.std.specs.Prelude.{◌≡◌, ◌≤◌, length, IfSome};
+ghost use Rattle.std.specs.Prelude.{◌≡◌, ◌↔◌, ◌≤◌, ◌<◌, ◌+◌, length, IsTrue, MatchOption};
 ghost use Rattle.std.specs.Int.{div_ceil};
 ghost use Rattle.pli_bytes.specs.Changes.{IsPut, PutOrSame};
 ghost use Rattle.pli_bytes.specs.Contents.{value_in};
@@ -33,7 +33,7 @@ fn short_of(bytes: &[u8], count: usize) -> ShortBits
 /// A string of bits as one of few; `None` where it has more.
 #[inline]
 pub fn short_bits(bits: &Bits) -> Option<ShortBits>
-    ensures { IfSome result (λ s. bits.now ≡ short_view s) }
+    ensures { MatchOption result (63 < length bits.now) (λ s. bits.now ≡ short_view s) }
 {
     let count = bits.length();
     if count > SHORT_LIMIT {
@@ -47,7 +47,7 @@ pub fn short_bits(bits: &Bits) -> Option<ShortBits>
 #[inline]
 pub fn short_at(bytes: &[u8], offset: usize, count: usize) -> Option<ShortBits>
     requires { count ≤ 63 }
-    ensures { IfSome result (λ s. value_in bytes.now
+    ensures { MatchOption result (length bytes.now < offset + div_ceil count 8) (λ s. value_in bytes.now
         (record { offset = offset; description = tree.Bit count }) ≡ plain.Bits (short_view s)) }
 {
     if offset > bytes.len() {
@@ -64,7 +64,8 @@ pub fn short_at(bytes: &[u8], offset: usize, count: usize) -> Option<ShortBits>
 /// Bits put where a scalar of BIT of as many bits lies; where the bytes end before it does, nothing changes.
 #[inline]
 pub fn put_short_at(bytes: &mut [u8], offset: usize, bits: ShortBits) -> bool
-    ensures { PutOrSame result (tree.Bit bits.count) (plain.Bits (short_view bits)) offset bytes.old bytes.new }
+    ensures put { PutOrSame result (tree.Bit bits.count) (plain.Bits (short_view bits)) offset bytes.old bytes.new }
+    ensures room { IsTrue result ↔ (offset + div_ceil bits.count 8 ≤ length bytes.old) }
 {
     if offset > bytes.len() {
         return false;
@@ -75,7 +76,8 @@ pub fn put_short_at(bytes: &mut [u8], offset: usize, bits: ShortBits) -> bool
 /// The same of the scalar with which the bytes begin.
 #[inline(always)]
 fn put_first_short(bytes: &mut [u8], bits: ShortBits) -> bool
-    ensures { PutOrSame result (tree.Bit bits.count) (plain.Bits (short_view bits)) 0 bytes.old bytes.new }
+    ensures put { PutOrSame result (tree.Bit bits.count) (plain.Bits (short_view bits)) 0 bytes.old bytes.new }
+    ensures room { IsTrue result ↔ (div_ceil bits.count 8 ≤ length bytes.old) }
 {
     if bytes.len() < bits.count.div_ceil(8) {
         return false;

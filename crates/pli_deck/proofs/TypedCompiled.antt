@@ -19,6 +19,7 @@ use Rattle.pli_gen.specs.Limits.{is_too_long}
 use Rattle.pli_gen.specs.answers.Answers.{Generates}
 use Rattle.pli_gen.specs.declared.generating.GenerateError.{GenerateError}
 use Rattle.pli_gen.specs.declared.generating.GenerateError.TheVariants as generating
+use Rattle.pli_gen_emit.specs.Coding as by_items
 use Rattle.pli_gen_emit.specs.Encoding.{code_of}
 use Rattle.pli_gen_emit.proofs.ItemsMake.{code_same}
 use Rattle.pli_grammar.proofs.UnitsAlike.{unit_same}
@@ -26,8 +27,10 @@ use Rattle.pli_parse_statement.specs.StatementReading.{unit_of}
 use Rattle.pli_resolve.specs.ResolvedUnits.{resolved_unit_of}
 use Rattle.pli_type.specs.NamedUnits.{checked_unit}
 use Rattle.pli_meaning.proofs.DeclaredUnits.{declared_units}
+use Rattle.pli_meaning.proofs.LimitsAlike.{limits_alike}
 use Rattle.pli_type_tree.specs.TypedTree.{TypedUnit}
-use Rattle.pli_meaning.specs.Scratch.{typed_unless, program_from, too_long, compiled_tree, short_deck, coded, coded_from, compiled_texts}
+use Rattle.pli_meaning.specs.Scratch.{typed_unless, too_long, compiled_tree, short_deck, coded, compiled_texts}
+use Rattle.pli_meaning.specs.MemberParts.{program_from, coded_from}
 
 -- where reading has no fault, the tree that was read decides
 pub tree_decides : (texts : Tokens) (u : ExternalProcedure) → unit_of texts ≡ Ok u → compiled_texts texts ≡ coded_from (typed_unless (resolution_faults u) u)
@@ -39,13 +42,13 @@ types_decide u v none same = ap (λ fs. coded_from (typed_unless fs u)) none ∙
 
 -- code that is emitted and too long is a fault
 pub long_decides : (u : TypedUnit) → is_too_long (code_of u) ≡ true → coded u ≡ Err (too_long ∷ [])
-long_decides u long = ap (λ b. if b then Err (too_long ∷ []) else short_deck (compiled_tree u)) (ap is_too_long (code_same u) ∙ long)
+long_decides u long = ap (λ b. if b then Err (too_long ∷ []) else short_deck (compiled_tree u)) (limits_alike (by_items.code_of u) ∙ ap is_too_long (code_same u) ∙ long)
 
 -- and where it is not too long, its deck decides
 pub deck_decides : (u : TypedUnit) (c : Code) → is_too_long (code_of u) ≡ false → c ≡ code_of u → short_deck (record { version = written; name = u.procedure; is_main = u.is_main; code = c }) ≡ coded u
 deck_decides u c fits same =
     ap (λ (x : Code). short_deck (record { version = written; name = u.procedure; is_main = u.is_main; code = x })) (same ∙ sym (code_same u))
-    ∙ sym (ap (λ b. if b then Err (too_long ∷ []) else short_deck (compiled_tree u)) (ap is_too_long (code_same u) ∙ fits))
+    ∙ sym (ap (λ b. if b then Err (too_long ∷ []) else short_deck (compiled_tree u)) (limits_alike (by_items.code_of u) ∙ ap is_too_long (code_same u) ∙ fits))
 
 -- what code has told is what compiling tells
 pub code_refused : (u : TypedUnit) (r : Result Deck CompileError) (y : CompileError) (e : GenerateError) → r ≡ Err y → y ≡ of_generating e → Generates (Err e) (code_of u) → Compiles r (coded u)

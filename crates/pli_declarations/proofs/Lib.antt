@@ -1,2 +1,11 @@
+pub mod AttributesAlike
+pub mod BlocksAlike
+pub mod FaultsAlike
+pub mod ItemsAlike
+pub mod NamesAlike
+pub mod RegionsAlike
+pub mod ScopesAlike
+pub mod TablesAlike
 pub mod UnitsAlike
+pub mod VariablesAlike
 pub mod WalkAlike

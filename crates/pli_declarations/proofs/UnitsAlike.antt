@@ -14,16 +14,14 @@ use Rattle.pli_declare_attributes.specs.Completed.{OfVariable, OfEntry, OfBuiltI
 use Rattle.pli_declare_tables.specs.Tables.{inner_marks}
 use Rattle.pli_declare_variables.specs.Declarations.{Declaration, DeclaredKind, OfItem, OfLabel, OfProcedure}
 use Rattle.pli_declare.specs.Resolution as faults
-use Rattle.pli_declare.specs.Resolution.{outline_faults}
 use Rattle.pli_declare.specs.Resolved as declare
-use Rattle.pli_declare.specs.Resolved.{BlockDeclarations, Resolved, resolution_of}
+use Rattle.pli_declare.specs.Resolved.{BlockDeclarations}
 use Rattle.pli_declare.specs.declared.block.Use.{Use}
 use Rattle.pli_declare.specs.declared.block.Target.{Target}
 use Rattle.pli_declare.specs.declared.block.Target.TheVariants.{Name as AName, Function as AFunction}
 use Rattle.pli_map.specs.Description as described
 use Rattle.pli_map.specs.ParameterTypes.{ParameterType}
 use Rattle.pli_resolve.specs.BuiltIns as built_ins
-use Rattle.pli_resolve.specs.BlockNumbers.{block_regions, block_numbers}
 use Rattle.pli_resolve.specs.ResolvedUnits as old
 use Rattle.pli_resolve.specs.StatementPlaces as places
 use Rattle.pli_resolve.specs.Symbols as symbols
@@ -33,13 +31,20 @@ use Rattle.pli_resolve.specs.declared.built_in.BuiltInFunction.{BuiltInFunction}
 use Rattle.pli_resolve.specs.declared.statement_places.StatementPlace.{StatementPlace}
 use Rattle.pli_resolve.specs.declared.symbol.NameMeaning.TheVariants as meanings
 use Rattle.pli_resolve.specs.declared.symbol.SymbolKey.{SymbolKey}
+use Rattle.pli_declarations.specs.Blocks.{block_regions, block_numbers}
+use Rattle.pli_declarations.specs.Names.{blocks_of, outermost_of, use_at, areas_at, locators_at, all_uses}
+use Rattle.pli_declarations.specs.Tables.{last_where}
 use Rattle.pli_declarations.specs.Walk.{PlacedStatement, statements_of, outline_of}
-use Rattle.pli_declarations.specs.Units.{resolution_faults, last_where, last_under, target_at, function_named, resolved_of, block_number, outermost_number, key_in, key_of, declared_by, area_of, locator_of, label_statement, symbol_kind, symbol_of, region_entered, procedures_in, procedures_of, number_declared, block_of, function_at, kind_meaning, target_meaning, meaning_of, block_of_statement, resolved_unit_of}
+use Rattle.pli_declarations.specs.Units.{resolution_faults, last_under, target_at, function_named, block_number, outermost_number, key_in, key_of, declared_by, area_of, locator_of, label_statement, symbol_kind, symbol_of, region_entered, procedures_in, procedures_of, number_declared, block_of, function_at, kind_meaning, target_meaning, meaning_of, block_of_statement, resolved_unit_of}
+use Rattle.pli_declarations.proofs.BlocksAlike as blocks
+use Rattle.pli_declarations.proofs.FaultsAlike.{outline_alike}
+use Rattle.pli_declarations.proofs.NamesAlike as names
+use Rattle.pli_declarations.proofs.NamesAlike.{singles}
 use Rattle.pli_declarations.proofs.WalkAlike.{place_of, outlines_alike, starts_alike, places_alike}
 
 pub faults_alike : (u : ExternalProcedure) → resolution_faults u ≡ faults.resolution_faults u
 unfolding resolution_faults faults.resolution_faults
-faults_alike u = λ i. outline_faults (outlines_alike u i) (outlines_alike u i).marks
+faults_alike u = λ i. outline_alike (outlines_alike u i) (outlines_alike u i).marks i
 
 -- ---- what is under a number
 
@@ -74,16 +79,6 @@ standing n found (p ∷ ps) =
 mapped_twice : {A B C : Type 0} (g : B → C) (f : A → B) (o : Option A) → option_map (λ x. g (f x)) o ≡ option_map g (option_map f o)
 mapped_twice g f None = refl
 mapped_twice g f (Some x) = refl
-
--- ---- lists of one or none
-
-singles : {A B : Type 0} (h : A → List B) (g : A → Option B) → ((x : A) → h x ≡ cons_option (g x) []) → (xs : List A) → flat_map h xs ≡ filter_map g xs
-singles {A} {B} h g e [] = refl
-singles {A} {B} h g e (x ∷ xs) = ap₂ (λ a b. a ++ b) (e x) (singles h g e xs) ∙ one (g x) (filter_map g xs)
-  where
-    one : (o : Option B) (ys : List B) → cons_option o [] ++ ys ≡ cons_option o ys
-    one None ys = refl
-    one (Some y) ys = refl
 
 -- ---- built-in functions
 
@@ -120,17 +115,33 @@ functions_alike ps = sym (singles (λ p. old.functions_at p.mark) function_at ea
 
 -- ---- what a unit declares
 
-resolved_alike : (u : ExternalProcedure) → resolved_of u ≡ declare.resolved_of u
+blocks_found : (u : ExternalProcedure) → blocks_of (outline_of u) ≡ (declare.resolved_of u).blocks
 unfolding declare.resolved_of
-resolved_alike u = λ i. resolution_of (outlines_alike u i)
+blocks_found u = λ i. names.blocks_alike (outlines_alike u i) i
+
+outermost_found : (u : ExternalProcedure) → outermost_of (outline_of u) ≡ (declare.resolved_of u).outermost
+unfolding declare.resolved_of
+outermost_found u = λ i. names.outermost_alike (outlines_alike u i) i
+
+uses_found : (u : ExternalProcedure) → filter_map (λ p. use_at (outline_of u) p.region p.mark) (inner_marks (outline_of u).marks) ≡ (declare.resolved_of u).uses
+unfolding declare.resolved_of
+uses_found u = λ i. names.uses_alike (outlines_alike u i) i
+
+areas_found : (u : ExternalProcedure) → all_uses areas_at (outline_of u) ≡ (declare.resolved_of u).areas
+unfolding declare.resolved_of
+areas_found u = λ i. names.areas_alike (outlines_alike u i) i
+
+locators_found : (u : ExternalProcedure) → all_uses locators_at (outline_of u) ≡ (declare.resolved_of u).locators
+unfolding declare.resolved_of
+locators_found u = λ i. names.locators_alike (outlines_alike u i) i
 
 numbers_alike : (u : ExternalProcedure) → block_numbers (outline_of u).regions ≡ old.numbers_of u
 unfolding declare.resolved_of
-numbers_alike u = λ i. block_numbers (outlines_alike u i).regions
+numbers_alike u = λ i. blocks.numbers_alike (outlines_alike u i).regions i
 
 regions_alike : (u : ExternalProcedure) → block_regions (outline_of u).regions ≡ old.block_regions_of u
 unfolding declare.resolved_of
-regions_alike u = λ i. block_regions (outlines_alike u i).regions
+regions_alike u = λ i. blocks.blocks_alike (outlines_alike u i).regions i
 
 marks_alike : (u : ExternalProcedure) → inner_marks (outline_of u).marks ≡ inner_marks (outlines.outline_of u).marks
 marks_alike u = λ i. inner_marks (outlines_alike u i).marks
@@ -145,14 +156,11 @@ meant_key u None = refl
 meant_key u (Some AFunction) = refl
 meant_key u (Some (AName region number)) = ap Some (key_alike u region number)
 
-uses_alike : (u : ExternalProcedure) (uses : Resolved → List Use) (at : ℕ) → target_at (uses (resolved_of u)) at ≡ declare.meaning_at (uses (declare.resolved_of u)) at
-uses_alike u uses at = λ i. targets_alike (uses (resolved_alike u i)) at i
-
 area_alike : (u : ExternalProcedure) (at : ℕ) → area_of u at ≡ symbols.area_of (old.facts_of u) at
-area_alike u at = λ i. meant_key u (uses_alike u (λ r. r.areas) at i) i
+area_alike u at = λ i. meant_key u (targets_alike (areas_found u i) at i) i
 
 locator_alike : (u : ExternalProcedure) (at : ℕ) → locator_of u at ≡ symbols.locator_of (old.facts_of u) at
-locator_alike u at = λ i. meant_key u (uses_alike u (λ r. r.locators) at i) i
+locator_alike u at = λ i. meant_key u (targets_alike (locators_found u i) at i) i
 
 labels_alike : (u : ExternalProcedure) → filter_map (λ p. option_map (λ l. (l.at, p.number)) p.label) (statements_of u) ≡ flat_map old.label_statement (places.unit_places u)
 labels_alike u =
@@ -231,11 +239,11 @@ inner_alike u n (b ∷ bs) = λ i. entered_alike (get_or (numbers_alike u i) n 0
 
 procedures_alike : (u : ExternalProcedure) → procedures_of u ≡ old.procedures_in u
 procedures_alike u =
-    λ i. entered_alike (length (regions_alike u i)) 0 (resolved_alike u i).outermost i ++ inner_alike u 0 (resolved_alike u i).blocks i
+    λ i. entered_alike (length (regions_alike u i)) 0 (outermost_found u i) i ++ inner_alike u 0 (blocks_found u i) i
 
 block_alike : (u : ExternalProcedure) (b : BlockRegion) → block_of u b ≡ old.block_of u b
 block_alike u b =
-    λ i. let declared = get_or (resolved_alike u i).blocks b.region old.no_block in
+    λ i. let declared = get_or (blocks_found u i) b.region old.no_block in
     record {
       kind = b.kind;
       outer = option_map (λ outer. get_or (numbers_alike u i) outer 0) b.outer;
@@ -259,8 +267,8 @@ declared_meant key None = refl
 declared_meant key (Some d) = kind_meant key d.identifier.name d.kind
 
 declared_alike : (u : ExternalProcedure) (region : Option ℕ) → declared_by u region ≡ old.declared_by (declare.resolved_of u) region
-declared_alike u None = λ i. (resolved_alike u i).outermost
-declared_alike u (Some region) = λ i. (get_or (resolved_alike u i).blocks region old.no_block).declarations
+declared_alike u None = λ i. (outermost_found u i)
+declared_alike u (Some region) = λ i. (get_or (blocks_found u i) region old.no_block).declarations
 
 target_meant : (u : ExternalProcedure) (function : Option BuiltInFunction) (t : Target) → target_meaning u function t ≡ old.target_meaning u function t
 target_meant u function AFunction = refl
@@ -268,7 +276,7 @@ target_meant u function (AName region number) = λ i. declared_meant (key_alike 
 
 meaning_alike : (u : ExternalProcedure) (at : ℕ) → meaning_of u at ≡ old.meaning_of u at
 meaning_alike u at =
-    λ i. option_and_then (λ t. target_meant u (found_alike (functions_alike (marks_alike u i) i) at i) t i) (uses_alike u (λ r. r.uses) at i)
+    λ i. option_and_then (λ t. target_meant u (found_alike (functions_alike (marks_alike u i) i) at i) t i) (targets_alike (uses_found u i) at i)
 
 statement_alike : (u : ExternalProcedure) (n : ℕ) → block_of_statement u n ≡ old.statement_block_of u n
 statement_alike u n =
@@ -282,7 +290,7 @@ units_alike u =
     λ i. record {
       tree = u;
       blocks = map (λ b. block_alike u b i) (regions_alike u i);
-      outermost = with_alike u [] (ways_of (resolved_alike u i).outermost) (resolved_alike u i).outermost i;
+      outermost = with_alike u [] (ways_of (outermost_found u i)) (outermost_found u i) i;
       meaning = λ at. meaning_alike u at i;
       statement_block = λ n. statement_alike u n i;
     }

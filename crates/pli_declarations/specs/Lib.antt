@@ -1,3 +1,13 @@
+pub mod Attributes
+pub mod Blocks
+pub mod Faults
+pub mod Items
+pub mod Names
+pub mod Regions
+pub mod Scopes
+pub mod Tables
+pub mod Types
 pub mod Units
+pub mod Variables
 pub mod Walk
 pub mod laws

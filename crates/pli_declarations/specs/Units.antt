@@ -12,15 +12,13 @@ use Rattle.pli_declare_outline.specs.Outlines.{PlacedMark, Mark, Used}
 use Rattle.pli_declare_attributes.specs.Completed.{OfVariable, OfEntry, OfBuiltIn}
 use Rattle.pli_declare_tables.specs.Tables.{inner_marks}
 use Rattle.pli_declare_variables.specs.Declarations.{Declaration, DeclaredKind, OfItem, OfLabel, OfProcedure}
-use Rattle.pli_declare.specs.Resolution.{outline_faults}
-use Rattle.pli_declare.specs.Resolved.{BlockDeclarations, Resolved, resolution_of}
+use Rattle.pli_declare.specs.Resolved.{BlockDeclarations}
 use Rattle.pli_declare.specs.declared.block.Use.{Use}
 use Rattle.pli_declare.specs.declared.block.Target.{Target}
 use Rattle.pli_declare.specs.declared.block.Target.TheVariants.{Name as AName, Function as AFunction}
 use Rattle.pli_base.specs.declared.token.Fault.{Fault}
 use Rattle.pli_map.specs.Description as described
 use Rattle.pli_resolve.specs.BuiltIns.{built_in_functions}
-use Rattle.pli_resolve.specs.BlockNumbers.{block_regions, block_numbers}
 use Rattle.pli_resolve.specs.ResolvedUnits.{ResolvedUnit, ResolvedBlock}
 use Rattle.pli_resolve.specs.Symbols.{Symbol, SymbolKind, Variable, OpenParameter, Member, Label, Procedure}
 use Rattle.pli_resolve.specs.Symbols.{Entry, BuiltIn, Way, ways_of, class_of}
@@ -29,6 +27,10 @@ use Rattle.pli_resolve.specs.declared.built_in.BuiltInFunction.{BuiltInFunction}
 use Rattle.pli_resolve.specs.declared.symbol.NameMeaning.{NameMeaning}
 use Rattle.pli_resolve.specs.declared.symbol.NameMeaning.TheVariants as meanings
 use Rattle.pli_resolve.specs.declared.symbol.SymbolKey.{SymbolKey}
+use Rattle.pli_declarations.specs.Blocks.{block_regions, block_numbers}
+use Rattle.pli_declarations.specs.Faults.{outline_faults}
+use Rattle.pli_declarations.specs.Names.{blocks_of, outermost_of, use_at, areas_at, locators_at, all_uses}
+use Rattle.pli_declarations.specs.Tables.{last_where}
 use Rattle.pli_declarations.specs.Walk.{statements_of, start_of, outline_of}
 
 -- all faults of a unit's declarations and uses
@@ -36,10 +38,6 @@ unfoldable pub resolution_faults : ExternalProcedure → List Fault
 resolution_faults u = let o = outline_of u in outline_faults o o.marks
 
 -- what is under a number
-
--- the last that passes a test
-abbrev pub last_where : {A : Type 0} → (A → Bool) → List A → Option A
-last_where test xs = fold (λ found x. if test x then Some x else found) None xs
 
 -- the last value that stands under a number
 abbrev pub last_under : {A : Type 0} → List (ℕ × A) → ℕ → Option A
@@ -54,10 +52,6 @@ abbrev pub function_named : Name → Option BuiltInFunction
 function_named name = option_map (λ f. f.1) (find (λ f. same_name name f.0) built_in_functions)
 
 -- what a unit declares
-
--- the unit, with its names resolved, region by region
-abbrev pub resolved_of : ExternalProcedure → Resolved
-resolved_of u = resolution_of (outline_of u)
 
 -- the number of the block of a region
 abbrev pub block_number : ExternalProcedure → (region : ℕ) → ℕ
@@ -79,22 +73,22 @@ key_of u other = None
 
 -- what a region declares
 abbrev pub block_at : ExternalProcedure → (region : ℕ) → BlockDeclarations
-block_at u region = get_or (resolved_of u).blocks region (record { parameters = []; declarations = [] })
+block_at u region = get_or (blocks_of (outline_of u)) region (record { parameters = []; declarations = [] })
 
 -- what a region declares, or the outermost block
 abbrev pub declared_by : ExternalProcedure → (region : Option ℕ) → List Declaration
 declared_by u region =
-    unwrap_or (option_map (λ region. (block_at u region).declarations) region) (resolved_of u).outermost
+    unwrap_or (option_map (λ region. (block_at u region).declarations) region) (outermost_of (outline_of u))
 
 -- symbols
 
 -- the area that OFFSET names in the declaration of the name at a token
 abbrev pub area_of : ExternalProcedure → (at : ℕ) → Option SymbolKey
-area_of u at = key_of u (target_at (resolved_of u).areas at)
+area_of u at = key_of u (target_at (all_uses areas_at (outline_of u)) at)
 
 -- the locator that BASED names in the declaration of the name at a token
 abbrev pub locator_of : ExternalProcedure → (at : ℕ) → Option SymbolKey
-locator_of u at = key_of u (target_at (resolved_of u).locators at)
+locator_of u at = key_of u (target_at (all_uses locators_at (outline_of u)) at)
 
 -- the statement of a label, by the label's token
 abbrev pub label_statement : ExternalProcedure → (at : ℕ) → Option ℕ
@@ -145,9 +139,9 @@ procedures_in block ds =
 -- the procedures of a unit, the external one first
 abbrev pub procedures_of : ExternalProcedure → List (ℕ × SymbolKey)
 procedures_of u =
-    procedures_in (outermost_number u) (resolved_of u).outermost
+    procedures_in (outermost_number u) (outermost_of (outline_of u))
     ++ flat_map (λ p. procedures_in (block_number u p.0) p.1.declarations)
-    (enumerate_from 0 (resolved_of u).blocks)
+    (enumerate_from 0 (blocks_of (outline_of u)))
 
 -- the number of the first of these names that belongs to no item and has this name, or how many they are
 abbrev pub number_declared : List Declaration → Name → ℕ
@@ -193,9 +187,9 @@ target_meaning u function (AName region number) =
 -- what the name at a token means
 abbrev pub meaning_of : ExternalProcedure → (at : ℕ) → Option NameMeaning
 meaning_of u at =
-    option_and_then
-    (target_meaning u (last_under (filter_map function_at (inner_marks (outline_of u).marks)) at))
-    (target_at (resolved_of u).uses at)
+    let o = outline_of u in
+    option_and_then (target_meaning u (last_under (filter_map function_at (inner_marks o.marks)) at))
+    (target_at (filter_map (λ p. use_at o p.region p.mark) (inner_marks o.marks)) at)
 
 -- the block in which the statement of this number stands
 abbrev pub block_of_statement : ExternalProcedure → (statement : ℕ) → Option ℕ
@@ -207,7 +201,7 @@ abbrev pub resolved_unit_of : ExternalProcedure → ResolvedUnit
 resolved_unit_of u = record {
   tree = u;
   blocks = map (block_of u) (block_regions (outline_of u).regions);
-  outermost = symbols_of u [] (resolved_of u).outermost;
+  outermost = symbols_of u [] (outermost_of (outline_of u));
   meaning = meaning_of u;
   statement_block = block_of_statement u;
 }

@@ -12,11 +12,12 @@ use Rattle.pli_declarations.specs.Units as declarations
 use Rattle.pli_declarations.proofs.UnitsAlike.{faults_alike}
 use Rattle.pli_declare.specs.Resolution.{resolution_faults}
 use Rattle.pli_gen_emit.specs.Coding.{code_of}
-use Rattle.pli_gen.specs.Limits.{is_too_long}
+use Rattle.pli_meaning.specs.CodeLimits.{is_too_long}
 use Rattle.pli_include.specs.Expanded.{look_in}
 use Rattle.pli_include.specs.Expansion.{token_limit}
 use Rattle.pli_include.proofs.StepsKeep.{texts_have_origins}
-use Rattle.pli_meaning.specs.Scratch.{Diagnostic, origin_of, located, typed_unless, program_from, program_of, all_located, too_long, compiled_tree, is_long, short_deck, coded_from, compiled_texts, with_unit, compiled_from, compiled_of}
+use Rattle.pli_meaning.specs.Scratch.{Diagnostic, located, typed_unless, program_of, too_long, compiled_tree, is_long, short_deck, compiled_texts, compiled_from, compiled_of}
+use Rattle.pli_meaning.specs.MemberParts.{program_from, coded_from, deck_located, origin_of}
 use Rattle.pli_grammar.proofs.UnitsAlike.{unit_same}
 use Rattle.pli_parse.proofs.StatementFaultPlaces.{unit_fault_stands}
 use Rattle.pli_parse_statement.specs.StatementReading.{unit_of}
@@ -96,7 +97,7 @@ places_of unit ts os [] same h = tt
 places_of unit ts os (f ∷ fs) same h = (place_of unit ts os f same h.0, places_of unit ts os fs same h.1)
 
 located_places : (unit : Name) (ts : Tokens) (os : List Origin) (r : Result Deck (List Fault)) (ds : List Diagnostic) → length os ≡ length ts
-    → ((fs : List Fault) → r ≡ Err fs → AllStand ts fs) → all_located unit os (with_unit unit r) ≡ Err ds → HavePlaces unit os ds
+    → ((fs : List Fault) → r ≡ Err fs → AllStand ts fs) → deck_located unit os r ≡ Err ds → HavePlaces unit os ds
 located_places unit ts os (Ok c) ds same h e = absurd (cc)
 located_places unit ts os (Err fs) ds same h e = subst (HavePlaces unit os) (ap faults_in e) (places_of unit ts os fs same (h fs refl))
 

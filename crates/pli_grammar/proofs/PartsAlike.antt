@@ -17,8 +17,7 @@ use Rattle.pli_base.specs.declared.token.TokenText.TheVariants.{Word, Decimal, B
 use Rattle.pli_base.specs.declared.statement.Condition.{Condition}
 use Rattle.pli_base.specs.Statements.{ProcedureOption, Main, Returns, Recursive, Heading, Range, To, By, Repeat, Control, While, Iterate, Allocation, Body}
 use Rattle.pli_base.specs.Statements as body
-use Rattle.pli_parse_declaration.specs.DeclarationReading.{list_at, returned_at, identifier_at}
-use Rattle.pli_parse_expression.specs.Reading.{arguments_at, argument_of, inside}
+use Rattle.pli_parse_declaration.specs.DeclarationReading.{list_at, identifier_at}
 use Rattle.pli_parse_declaration.specs.declared.list.Separator.TheVariants.{Commas}
 use Rattle.pli_parse_statement.specs.StatementReading as old
 use Rattle.pli_parse_statement.specs.StatementReading.{is_equals, paired, known_first, expression_in, reference_in, RangeWord, ToWord, ByWord, RepeatWord}
@@ -27,7 +26,10 @@ use Rattle.pli_grammar.specs.Readers as new
 use Rattle.pli_grammar.specs.Readers.{◌>>=◌ as ◌then◌}
 use Rattle.pli_grammar.specs.Readers.{fails, part_then, parts_from, Reader, token, either, optional, closed, by_meaning, meaning_in}
 use Rattle.pli_grammar.specs.StatementParts as parts
-use Rattle.pli_grammar.proofs.ReadersAlike.{grouped, after, both, token_then, stopped_same, parenthesized_same, open_same, optional_same, words_same, row, row_of_two}
+use Rattle.pli_grammar.specs.Declarations.{returned, described}
+use Rattle.pli_grammar.proofs.ExpressionsAlike.{expression_read, reference_read, arguments_read}
+use Rattle.pli_grammar.proofs.DeclarationsAlike.{returned_same}
+use Rattle.pli_grammar.proofs.ReadersAlike.{grouped, after, both, alike, token_then, stopped_same, parenthesized_same, opened_same, list_of_same, optional_same, words_same, row, row_of_two}
 
 -- conditions
 
@@ -47,33 +49,39 @@ condition_same p (Bits s ∷ us) = refl
 condition_same p (Sign s ∷ us) = refl
 
 module _ (levels : ℕ) where
-  pub expression_same : parts.expression levels ≡ expression_in levels
+  pub expression_same : (p : ℕ) (ts : Tokens) → parts.expression levels p ts ≡ expression_in levels p ts
   unfolding expression_in
-  expression_same = refl
+  expression_same = expression_read levels
 
-  pub reference_same : parts.reference levels ≡ reference_in levels
+  pub reference_same : (p : ℕ) (ts : Tokens) → parts.reference levels p ts ≡ reference_in levels p ts
   unfolding reference_in
-  reference_same = refl
+  reference_same = reference_read levels
+
+  in_parentheses_same : {A : Type 0} {read was : Reader A} → ((p : ℕ) (ts : Tokens) → read p ts ≡ was p ts) → (p : ℕ) (ts : Tokens) → new.parenthesized read p ts ≡ old.parenthesized was p ts
+  in_parentheses_same {read = read} same p ts = parenthesized_same read p ts ∙ ap (λ (r : Reader _). old.parenthesized r p ts) (alike same)
+
+  after_word_read : (w : Name) (p : ℕ) (ts : Tokens) → optional (is_word w) (parts.expression levels) p ts ≡ old.optional_at w (expression_in levels) p ts
+  after_word_read w p ts = optional_same w (parts.expression levels) p ts ∙ ap (λ (read : Reader Expression). old.optional_at w read p ts) (alike expression_same)
 
   pub assignment_same : (p : ℕ) (ts : Tokens) → parts.assignment levels p ts ≡ old.assignment_at levels p ts
-  unfolding old.assignment_at expression_in reference_in
-  assignment_same p ts = after (reference_in levels p ts) _ _ (λ target.
+  unfolding old.assignment_at
+  assignment_same p ts = both (reference_same p ts) (λ target.
       token_then is_equals NotAStatement (λ equals. parts.expression levels then λ value. parts.stopped (body.Assign target.value equals value)) target.next target.rest
       ∙ after (taken is_equals NotAStatement target.next target.rest) _ _ (λ us.
-      after (expression_in levels (target.next + 1) us) _ _ (λ value. stopped_same (body.Assign target.value target.next value.value) value.next value.rest)))
+      both (expression_same (target.next + 1) us) (λ value. stopped_same (body.Assign target.value target.next value.value) value.next value.rest)))
 
   range_word_same : (p : ℕ) (ts us : Tokens) (n : Name)
       → by_meaning (λ (read : Reader (Option Range)). read) (read_as None) p ts (paired us (meaning_in (parts.ranges levels) n))
       ≡ old.range_from levels p ts (paired us (old.range_word n))
-  unfolding old.range_word expression_in
+  unfolding old.range_word
   range_word_same p ts us n =
       let f : Option (Reader (Option Range)) → Result (Front (Option Range)) Fault = λ o. by_meaning (λ (read : Reader (Option Range)). read) (read_as None) p ts (paired us o) in
       let g : Option RangeWord → Result (Front (Option Range)) Fault = λ o. old.range_from levels p ts (paired us o) in
       row f g (same_name n (codes "TO"))
-      (after (expression_in levels (p + 1) us) _ _ (λ to. both (optional_same (codes "BY") (expression_in levels) to.next to.rest) (λ by. refl)))
+      (both (expression_same (p + 1) us) (λ to. both (after_word_read (codes "BY") to.next to.rest) (λ by. refl)))
       (row f g (same_name n (codes "BY"))
-      (after (expression_in levels (p + 1) us) _ _ (λ by. both (optional_same (codes "TO") (expression_in levels) by.next by.rest) (λ to. refl)))
-      (row f g (same_name n (codes "REPEAT")) refl refl))
+      (both (expression_same (p + 1) us) (λ by. both (after_word_read (codes "TO") by.next by.rest) (λ to. refl)))
+      (row f g (same_name n (codes "REPEAT")) (ap (mapped (λ next. Some (Repeat next))) (expression_same (p + 1) us)) refl))
 
   pub range_same : (p : ℕ) (ts : Tokens) → parts.range levels p ts ≡ old.range_at levels p ts
   unfolding old.range_at old.range_first
@@ -82,19 +90,18 @@ module _ (levels : ℕ) where
       refl (λ n us. range_word_same p ts us n) ts
 
   iteration_same : (p : ℕ) (ts : Tokens) → parts.iteration levels p ts ≡ old.control_from levels p ts old.Iterated
-  unfolding expression_in reference_in
-  iteration_same p ts = after (reference_in levels p ts) _ _ (λ variable.
+  iteration_same p ts = both (reference_same p ts) (λ variable.
       token_then is_equals BadDo (λ equals. parts.expression levels then λ first. parts.range levels then λ range.
       optional (is_word (codes "WHILE")) (new.parenthesized (parts.expression levels)) then λ condition.
       read_as (Some (Iterate variable.value equals first range condition))) variable.next variable.rest
       ∙ after (taken is_equals BadDo variable.next variable.rest) _ _ (λ us.
-      after (expression_in levels (variable.next + 1) us) _ _ (λ first.
+      both (expression_same (variable.next + 1) us) (λ first.
       both (range_same first.next first.rest) (λ range.
-      both (optional_same (codes "WHILE") (new.parenthesized (expression_in levels)) range.next range.rest
-      ∙ ap (λ (read : Reader Expression). old.optional_at (codes "WHILE") read range.next range.rest) (fun_ext (λ q. fun_ext (λ us. parenthesized_same (expression_in levels) q us)))) (λ condition. refl)))))
+      both (optional_same (codes "WHILE") (new.parenthesized (parts.expression levels)) range.next range.rest
+      ∙ ap (λ (read : Reader Expression). old.optional_at (codes "WHILE") read range.next range.rest) (alike (in_parentheses_same expression_same))) (λ condition. refl)))))
 
   pub control_same : (p : ℕ) (ts : Tokens) → parts.control levels p ts ≡ old.control_at levels p ts
-  unfolding old.control_at old.specified expression_in
+  unfolding old.control_at old.specified
   control_same p [] = refl
   control_same p (Decimal v d ∷ us) = refl
   control_same p (Binary v d ∷ us) = refl
@@ -109,7 +116,7 @@ module _ (levels : ℕ) where
   control_same p (Word n ∷ Bits s ∷ us) = iteration_same p (Word n ∷ Bits s ∷ us)
   control_same p (Word n ∷ Sign OpenParenthesis ∷ us) =
       row (λ (r : Result (Front (Option Control)) Fault). r) (old.control_from levels p (Word n ∷ Sign OpenParenthesis ∷ us)) (same_name n (codes "WHILE"))
-      (ap (mapped (λ c. Some (While c))) (parenthesized_same (expression_in levels) (p + 1) (Sign OpenParenthesis ∷ us)))
+      (ap (mapped (λ c. Some (While c))) (in_parentheses_same expression_same (p + 1) (Sign OpenParenthesis ∷ us)))
       (iteration_same p (Word n ∷ Sign OpenParenthesis ∷ us))
   control_same p (Word n ∷ Sign signs.Plus ∷ us) = iteration_same p (Word n ∷ Sign signs.Plus ∷ us)
   control_same p (Word n ∷ Sign signs.Minus ∷ us) = iteration_same p (Word n ∷ Sign signs.Minus ∷ us)
@@ -140,20 +147,18 @@ module _ (levels : ℕ) where
   places_in : (bound : ℕ) → PlacesSame bound → (p : ℕ) (us ts : Tokens) (name : Identifier) (area target : Option Reference)
       → part_then (parts.unless (is_some area) (new.made (λ r. record { name = name; area = Some r; target = target }) (new.parenthesized (parts.reference levels)))) (fails BadOption p) (parts_from (parts.places levels) BadOption bound) (p + 1) us
       ≡ old.placed_by levels (old.places_from levels bound) (record { name = name; area = area; target = target }) p ts (Some (old.InWord, us)) area target
-  unfolding reference_in
   places_in bound more p us ts name (Some a) target = refl
   places_in bound more p us ts name None target =
       grouped (new.parenthesized (parts.reference levels) (p + 1) us) _ _
-      ∙ both (parenthesized_same (reference_in levels) (p + 1) us) (λ r. more (record { name = name; area = Some r.value; target = target }) r.next r.rest)
+      ∙ both (in_parentheses_same reference_same (p + 1) us) (λ r. more (record { name = name; area = Some r.value; target = target }) r.next r.rest)
 
   places_set : (bound : ℕ) → PlacesSame bound → (p : ℕ) (us ts : Tokens) (name : Identifier) (area target : Option Reference)
       → part_then (parts.unless (is_some target) (new.made (λ r. record { name = name; area = area; target = Some r }) (new.parenthesized (parts.reference levels)))) (fails BadOption p) (parts_from (parts.places levels) BadOption bound) (p + 1) us
       ≡ old.placed_by levels (old.places_from levels bound) (record { name = name; area = area; target = target }) p ts (Some (old.SetWord, us)) area target
-  unfolding reference_in
   places_set bound more p us ts name area (Some a) = refl
   places_set bound more p us ts name area None =
       grouped (new.parenthesized (parts.reference levels) (p + 1) us) _ _
-      ∙ both (parenthesized_same (reference_in levels) (p + 1) us) (λ r. more (record { name = name; area = area; target = Some r.value }) r.next r.rest)
+      ∙ both (in_parentheses_same reference_same (p + 1) us) (λ r. more (record { name = name; area = area; target = Some r.value }) r.next r.rest)
 
   pub places_same : (bound : ℕ) → PlacesSame bound
   unfolding parts_from old.places_from old.place_first old.place_word
@@ -197,18 +202,20 @@ module _ (levels : ℕ) where
   put_listed bound more skip (Ok x) = more skip x.value x.next x.rest
   put_listed bound more skip (Err e) = refl
 
+  items_same : (p : ℕ) (ts : Tokens) → new.parenthesized (new.list_of (parts.expression levels)) p ts ≡ old.parenthesized (list_at Commas (expression_in levels)) p ts
+  items_same = in_parentheses_same (list_of_same expression_same)
+
   put_list : (bound : ℕ) → PutSame bound → (p : ℕ) (us ts : Tokens) (skip : Bool) (items : List Expression)
-      → put_next bound p (parts.unless (list_any (λ item. true) items) (new.made (λ es. (skip, es)) (new.parenthesized (parts.list_of (parts.expression levels))))) (p + 1) us
+      → put_next bound p (parts.unless (list_any (λ item. true) items) (new.made (λ es. (skip, es)) (new.parenthesized (new.list_of (parts.expression levels))))) (p + 1) us
       ≡ old.put_by levels (old.put_from levels bound) skip items p ts (Some (old.ListWord, us))
-  unfolding expression_in
   put_list bound more p us ts true (e ∷ es) = refl
   put_list bound more p us ts false (e ∷ es) = refl
   put_list bound more p us ts true [] =
-      put_listed bound more true (new.parenthesized (parts.list_of (parts.expression levels)) (p + 1) us)
-      ∙ both (parenthesized_same (list_at Commas (expression_in levels)) (p + 1) us) (λ x. refl)
+      put_listed bound more true (new.parenthesized (new.list_of (parts.expression levels)) (p + 1) us)
+      ∙ both (items_same (p + 1) us) (λ x. refl)
   put_list bound more p us ts false [] =
-      put_listed bound more false (new.parenthesized (parts.list_of (parts.expression levels)) (p + 1) us)
-      ∙ both (parenthesized_same (list_at Commas (expression_in levels)) (p + 1) us) (λ x. refl)
+      put_listed bound more false (new.parenthesized (new.list_of (parts.expression levels)) (p + 1) us)
+      ∙ both (items_same (p + 1) us) (λ x. refl)
 
   put_from_same : (bound : ℕ) → PutSame bound
   unfolding parts_from old.put_from old.put_first old.put_word
@@ -236,7 +243,7 @@ module _ (levels : ℕ) where
 
   pub call_same : (p : ℕ) (ts : Tokens) → parts.call levels p ts ≡ old.call_at levels p ts
   unfolding old.call_at
-  call_same p ts = after (identifier_at p ts) _ _ (λ name. sym (grouped (arguments_at (option_map (argument_of true) (inside levels)) 0 name.next name.rest) _ _))
+  call_same p ts = after (identifier_at p ts) _ _ (λ name. both (arguments_read levels name.next name.rest) (λ x. refl))
 
 -- headings
 
@@ -257,11 +264,11 @@ options_same (suc bound) p ts =
     let h : Option (Reader ProcedureOption) → Result (Front (List ProcedureOption)) Fault = λ o. f (paired us o) in
     let k : Option old.OptionWord → Result (Front (List ProcedureOption)) Fault = λ o. g (paired us o) in
     row h k (same_name n (codes "OPTIONS")) (both (main_same (p + 1) us) (λ x. ap (mapped (λ xs. x.value ∷ xs)) (options_same bound x.next x.rest)))
-    (row h k (same_name n (codes "RETURNS")) (grouped (returned_at (p + 1) us) _ _ ∙ after (returned_at (p + 1) us) _ _ (λ x. ap (mapped (λ xs. Returns x.value ∷ xs)) (options_same bound x.next x.rest)))
+    (row h k (same_name n (codes "RETURNS")) (grouped (returned described (p + 1) us) _ _ ∙ both (returned_same (p + 1) us) (λ x. ap (mapped (λ xs. Returns x.value ∷ xs)) (options_same bound x.next x.rest)))
     (row h k (same_name n (codes "RECURSIVE")) (ap (mapped (λ xs. Recursive ∷ xs)) (options_same bound (p + 1) us)) refl))) ts
 
 pub heading_same : (name : Identifier) (number p : ℕ) (ts : Tokens) → parts.heading name number p ts ≡ old.heading_at name number p ts
 unfolding old.heading_at
-heading_same name number p ts = both (open_same (parts.list_of identifier_at) p ts) (λ parameters.
+heading_same name number p ts = both (opened_same (list_of_same {one = identifier_at} {was = identifier_at} (λ q us. refl)) p ts) (λ parameters.
     both (options_same (length parameters.rest + 1) parameters.next parameters.rest) (λ options.
     stopped_same (record { name = name; number = number; parameters = or_none parameters.value; options = options.value }) options.next options.rest))

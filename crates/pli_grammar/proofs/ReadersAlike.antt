@@ -1,14 +1,20 @@
 -- Readers and the functions of tokens that read the same.
-use Rattle.std.specs.Prelude.{◌≡◌, ℕ, ◌+◌, Bool, true, false, ◌||◌, Option, Some, None, Result, Ok, Err, [], ◌∷◌, refl, if◌then◌else◌}
+use Rattle.std.specs.Prelude.{◌≡◌, ℕ, ◌+◌, Bool, true, false, ◌||◌, Option, Some, None, Result, Ok, Err, List, [], ◌∷◌, zero, suc, length, refl, if◌then◌else◌}
 use Rattle.std.proofs.Common.{ap, ◌∙◌}
+use Rattle.std.proofs.Math.Path.{fun_ext}
 use Rattle.pli_base.specs.Name.{Name}
-use Rattle.pli_base.specs.Words.{Tokens, is_word, is_open, is_close, is_semicolon, rest_after}
+use Rattle.pli_base.specs.Words.{Tokens, is_word, is_open, is_close, is_comma, is_semicolon, rest_after}
 use Rattle.pli_base.specs.Results.{◌>>=◌}
-use Rattle.pli_base.specs.Reading.{read_as, mapped, taken, enclosed, if_open}
+use Rattle.pli_base.specs.Reading.{Front, read_as, mapped, taken, enclosed, if_open, or_none}
 use Rattle.pli_base.specs.declared.code.Code.{Code}
 use Rattle.pli_base.specs.declared.code.Code.TheVariants.{ParenthesisExpected, SemicolonExpected}
+use Rattle.pli_base.specs.declared.token.Fault.{Fault}
 use Rattle.pli_base.specs.declared.token.TokenText.{TokenText}
 use Rattle.pli_base.specs.declared.token.TokenText.TheVariants.{Word, Decimal, Binary, Characters, Bits, Sign}
+use Rattle.pli_parse_declaration.specs.DeclarationReading.{listed_after, listed_at, list_at}
+use Rattle.pli_parse_declaration.specs.Separators.{separated, after_separator}
+use Rattle.pli_parse_declaration.specs.declared.list.Separator.{Separator}
+use Rattle.pli_parse_declaration.specs.declared.list.Separator.TheVariants.{Commas}
 use Rattle.pli_parse_statement.specs.StatementReading as old
 use Rattle.pli_parse_statement.specs.StatementReading.{paired, known_first}
 use Rattle.pli_parse_statement.specs.StatementWords.{after_word}
@@ -63,6 +69,51 @@ open_same read p ts = by (rest_after is_open ts)
     by : (o : Option Tokens) → either (new.made Some (closed read)) (read_as None) p ts o ≡ if_open read p ts o
     by None = refl
     by (Some us) = ap (mapped Some) (closed_same read (p + 1) us)
+
+pub alike : {A : Type 0} {r s : Reader A} → ((p : ℕ) (ts : Tokens) → r p ts ≡ s p ts) → r ≡ s
+alike same = fun_ext (λ p. fun_ext (λ ts. same p ts))
+
+pub parenthesized_then : {A : Type 0} (read : Reader A) (p : ℕ) (ts : Tokens) → new.parenthesized read p ts ≡ (taken is_open ParenthesisExpected p ts >>= λ us. closed read (p + 1) us)
+parenthesized_then read p ts = token_then is_open ParenthesisExpected (λ _. closed read) p ts
+
+pub opened_same : {A : Type 0} {read was : Reader A} → ((p : ℕ) (ts : Tokens) → read p ts ≡ was p ts) → (p : ℕ) (ts : Tokens)
+    → new.in_parentheses read p ts ≡ if_open was p ts (rest_after is_open ts)
+opened_same {read = read} {was = was} same p ts = open_same read p ts ∙ ap (λ (r : Reader _). if_open r p ts (rest_after is_open ts)) (alike same)
+
+-- lists
+
+-- what follows in a list, if it goes on
+abbrev pub found : {A : Type 0} → Separator → Reader A → ℕ → Tokens → Option Tokens → Result (Front (Option A)) Fault
+found s read p ts None = read_as None p ts
+found s read p ts (Some us) = mapped Some (read (after_separator s p) us)
+
+module _ {A : Type 0} (s : Separator) (others : Reader (List A) → Reader (Option (List A)))
+    (goes_on : (read : Reader (List A)) (p : ℕ) (ts : Tokens) → others read p ts ≡ found s read p ts (separated s ts))
+    {one was : Reader A} (same : (p : ℕ) (ts : Tokens) → one p ts ≡ was p ts) where
+  then_listed : (more : Reader (List A)) (was_more : Reader (List A)) → ((p : ℕ) (ts : Tokens) → more p ts ≡ was_more p ts) → (x : Front A) (o : Option Tokens)
+      → mapped (λ xs. x.value ∷ or_none xs) (found s more x.next x.rest o) ≡ listed_after s was_more x o
+  then_listed more was_more alike_more x None = refl
+  then_listed more was_more alike_more x (Some us) = grouped (more (after_separator s x.next) us) _ _ ∙ both (alike_more (after_separator s x.next) us) (λ y. refl)
+
+  listed_same : (bound p : ℕ) (ts : Tokens) → new.listed others one bound p ts ≡ listed_at s was bound p ts
+  unfolding new.listed listed_at
+  listed_same zero p ts = refl
+  listed_same (suc bound) p ts =
+      both (same p ts) (λ x. ap (mapped (λ xs. x.value ∷ or_none xs)) (goes_on (new.listed others one bound) x.next x.rest)
+      ∙ then_listed (new.listed others one bound) (listed_at s was bound) (listed_same bound) x (separated s x.rest))
+
+  pub list_by_same : (p : ℕ) (ts : Tokens) → new.list_by others one p ts ≡ list_at s was p ts
+  list_by_same p ts = listed_same (length ts + 1) p ts
+
+comma_found : {A : Type 0} (read : Reader A) (p : ℕ) (ts : Tokens) → optional is_comma read p ts ≡ found Commas read p ts (separated Commas ts)
+comma_found read p ts = by (rest_after is_comma ts)
+  where
+    by : (o : Option Tokens) → either (new.made Some read) (read_as None) p ts o ≡ found Commas read p ts o
+    by None = refl
+    by (Some us) = refl
+
+pub list_of_same : {A : Type 0} {one was : Reader A} → ((p : ℕ) (ts : Tokens) → one p ts ≡ was p ts) → (p : ℕ) (ts : Tokens) → new.list_of one p ts ≡ list_at Commas was p ts
+list_of_same = list_by_same Commas (optional is_comma) comma_found
 
 pub optional_same : {A : Type 0} (w : Name) (read : Reader A) (p : ℕ) (ts : Tokens) → optional (is_word w) read p ts ≡ old.optional_at w read p ts
 unfolding old.optional_at

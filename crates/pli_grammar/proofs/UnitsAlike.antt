@@ -6,7 +6,7 @@ use Rattle.std.specs.List.{list_any}
 use Rattle.pli_base.specs.Name.{Name}
 use Rattle.pli_base.specs.Words.{Tokens, same_name, is_word, is_semicolon}
 use Rattle.pli_base.specs.Results.{◌>>=◌}
-use Rattle.pli_base.specs.Reading.{Front, at_fault, misplaced, read_as, taken}
+use Rattle.pli_base.specs.Reading.{Front, at_fault, misplaced, read_as, mapped, taken}
 use Rattle.pli_base.specs.declared.syntax.Identifier.{Identifier}
 use Rattle.pli_base.specs.declared.code.Code.TheVariants.{NotAStatement, SemicolonExpected, ThenExpected, EndMissing}
 use Rattle.pli_base.specs.declared.token.Fault.{Fault}
@@ -14,8 +14,7 @@ use Rattle.pli_base.specs.declared.token.Sign.TheVariants as signs
 use Rattle.pli_base.specs.declared.token.TokenText.TheVariants.{Word, Decimal, Binary, Characters, Bits, Sign}
 use Rattle.pli_base.specs.Statements.{Statement, Numbered, Body, Statements, Ended, Before, Alternative, NoElse, Else, ExternalProcedure, count}
 use Rattle.pli_base.specs.Statements as body
-use Rattle.pli_parse_declaration.specs.DeclarationReading.{list_at, identifier_at}
-use Rattle.pli_parse_declaration.specs.declared.list.Separator.TheVariants.{Commas}
+use Rattle.pli_parse_declaration.specs.DeclarationReading.{identifier_at}
 use Rattle.pli_parse_expression.specs.Assignments.{is_assignment, accepts}
 use Rattle.pli_parse_expression.specs.Operators.{nesting_limit}
 use Rattle.pli_parse_statement.specs.StatementReading as old
@@ -32,9 +31,10 @@ use Rattle.pli_grammar.specs.Readers.{◌>>=◌ as ◌then◌}
 use Rattle.pli_grammar.specs.StatementParts as parts
 use Rattle.pli_grammar.specs.UnitReading as new
 use Rattle.pli_grammar.specs.UnitReading.{Inside}
-use Rattle.pli_grammar.proofs.ReadersAlike.{grouped, after, both, token_then, stopped_same, after_word_same, open_same, row, row_of_two}
+use Rattle.pli_grammar.proofs.DeclarationsAlike.{declaration_same}
+use Rattle.pli_grammar.proofs.ReadersAlike.{grouped, after, both, token_then, stopped_same, after_word_same, opened_same, list_of_same, row, row_of_two}
 use Rattle.pli_grammar.proofs.ListsAlike.{semicolon_same, not_labelled, after_keyword_same, list_same, as_old}
-use Rattle.pli_grammar.proofs.PartsAlike.{condition_same, assignment_same, control_same, allocation_same, put_same, call_same, heading_same}
+use Rattle.pli_grammar.proofs.PartsAlike.{condition_same, expression_same, reference_same, assignment_same, control_same, allocation_same, put_same, call_same, heading_same}
 
 -- ---- constructs
 
@@ -80,8 +80,8 @@ module _ (i : Inside) (c : Context) (label : Option Identifier) (k : ℕ) where
       by (Some us) = refl
 
   choice_same : (p : ℕ) (ts : Tokens) → new.choice i c label k p ts ≡ old.if_at (as_old i) c p k ts
-  unfolding old.if_at expression_in
-  choice_same p ts = after (expression_in i.levels p ts) _ _ (λ condition.
+  unfolding old.if_at
+  choice_same p ts = both (expression_same i.levels p ts) (λ condition.
       token_then (is_word (codes "THEN")) ThenExpected (λ _. i.statement (standing AsClause c) k then λ consequence.
       new.alternative i c label k (k + count consequence) then λ alternative.
       read_as (body.If condition.value consequence alternative)) condition.next condition.rest
@@ -125,9 +125,8 @@ module _ (levels : ℕ) (inside : Option Inside) (c : Context) (label : Option I
   stops f same = both same (λ x. stopped_same (f x.value) x.next x.rest)
 
   keyed_same : (key : Keyword) → IsOther key → read key ≡ was_read key
-  unfolding expression_in reference_in
   keyed_same keys.Procedure h = deeper_same _ _ (λ i. inner_same i label k (p + 1) us) inside
-  keyed_same keys.Declare h = refl
+  keyed_same keys.Declare h = ap (mapped body.Declare) (declaration_same (p + 1) us)
   keyed_same keys.End h = refl
   keyed_same keys.Begin h = deeper_same _ _ (λ i. begin_same i c label (k + 1) (p + 1) us) inside
   keyed_same keys.Do h = deeper_same _ _ (λ i. group_same i c label (k + 1) (p + 1) us) inside
@@ -137,12 +136,12 @@ module _ (levels : ℕ) (inside : Option Inside) (c : Context) (label : Option I
   keyed_same keys.Signal h = stops body.Signal (condition_same (p + 1) us)
   keyed_same keys.Stop h = stopped_same body.Stop (p + 1) us
   keyed_same keys.Allocate h =
-      stops body.Allocate (ap (λ (one : Reader _). list_at Commas one (p + 1) us) (fun_ext (λ q. fun_ext (λ vs. allocation_same levels q vs))))
-  keyed_same keys.Free h = stops body.Free refl
+      stops body.Allocate (list_of_same (allocation_same levels) (p + 1) us)
+  keyed_same keys.Free h = stops body.Free (list_of_same (reference_same levels) (p + 1) us)
   keyed_same keys.Call h = stops (λ x. x) (call_same levels (p + 1) us)
   keyed_same keys.Goto h = stops body.Goto refl
   keyed_same keys.GoTo h = absurd h
-  keyed_same keys.Return h = stops body.Return (open_same (expression_in levels) (p + 1) us)
+  keyed_same keys.Return h = stops body.Return (opened_same (expression_same levels) (p + 1) us)
   keyed_same keys.Put h = stops (λ x. x) (put_same levels (p + 1) us)
 
   placed_same : (key : Keyword) → IsOther key → (m : Option Misplacement)

@@ -1,3 +1,5 @@
+pub mod Declarations
+pub mod Expressions
 pub mod GrammarLaws
 pub mod Readers
 pub mod StatementParts

@@ -2,13 +2,13 @@
 -- counted from 0, and p is the place of the first. What need not stand is passed over, so a fault is about
 -- what must stand next.
 use Rattle.std.specs.Prelude.{ℕ, zero, suc, ◌+◌, Bool, Option, Some, None, Result, List, [], ◌∷◌}
-use Rattle.std.specs.Prelude.{if◌then◌else◌}
+use Rattle.std.specs.Prelude.{length, if◌then◌else◌}
 use Rattle.pli_base.specs.Name.{Name}
-use Rattle.pli_base.specs.Words.{Tokens, same_name, is_open, is_close, rest_after}
+use Rattle.pli_base.specs.Words.{Tokens, same_name, is_open, is_close, is_comma, rest_after}
 use Rattle.pli_base.specs.Results.{◌>>=◌ as ◌>>-◌}
-use Rattle.pli_base.specs.Reading.{Front, at_fault, read_as, taken}
+use Rattle.pli_base.specs.Reading.{Front, at_fault, read_as, or_none, taken}
 use Rattle.pli_base.specs.declared.code.Code.{Code}
-use Rattle.pli_base.specs.declared.code.Code.TheVariants.{ParenthesisExpected}
+use Rattle.pli_base.specs.declared.code.Code.TheVariants.{EndMissing, ParenthesisExpected}
 use Rattle.pli_base.specs.declared.token.Fault.{Fault}
 use Rattle.pli_base.specs.declared.token.TokenText.{TokenText}
 use Rattle.pli_parse_statement.specs.StatementReading.{known_first}
@@ -44,9 +44,17 @@ abbrev pub either : {A : Type 0} → (there other : Reader A) → (p : ℕ) → 
 either there other p ts None = other p ts
 either there other p ts (Some us) = there (p + 1) us
 
--- a part that a token begins, or none
+-- the same, after a token that fits, where it stands next
+abbrev pub after_token : {A : Type 0} → (TokenText → Bool) → (there other : Reader A) → Reader A
+after_token fits there other p ts = either there other p ts (rest_after fits ts)
+
+-- a part after a token, or none
 abbrev pub optional : {A : Type 0} → (TokenText → Bool) → Reader A → Reader (Option A)
-optional begins read p ts = either (made Some read) (read_as None) p ts (rest_after begins ts)
+optional fits read = after_token fits (made Some read) (read_as None)
+
+-- a part where a token that fits stands next, which is its first, or none
+abbrev pub begun : {A : Type 0} → (TokenText → Bool) → Reader A → Reader (Option A)
+begun fits read p ts = after_token fits (λ q us. made Some read p ts) (read_as None) p ts
 
 -- what is read, and the `)` after it
 abbrev pub closed : {A : Type 0} → Reader A → Reader A
@@ -60,6 +68,26 @@ abbrev pub parenthesized : {A : Type 0} → Reader A → Reader A
 parenthesized read = do
   _ ← token is_open ParenthesisExpected
   closed read
+
+-- in parentheses, if there is a `(`
+abbrev pub in_parentheses : {A : Type 0} → Reader A → Reader (Option A)
+in_parentheses read = optional is_open (closed read)
+
+-- one or more, where the others are found after the first, if there are any; each takes one of the bound
+unfoldable pub listed : {A : Type 0} → (others : Reader (List A) → Reader (Option (List A)))
+    → (one : Reader A) → (bound : ℕ) → Reader (List A)
+listed others one zero p ts = at_fault EndMissing p
+listed others one (suc bound) p ts =
+    (one >>= λ x. made (λ xs. x ∷ or_none xs) (others (listed others one bound))) p ts
+
+-- one or more after each other; the bound is more than the number of tokens
+abbrev pub list_by : {A : Type 0} → (others : Reader (List A) → Reader (Option (List A))) → Reader A
+    → Reader (List A)
+list_by others one p ts = listed others one (length ts + 1) p ts
+
+-- one or more, with commas between them
+abbrev pub list_of : {A : Type 0} → Reader A → Reader (List A)
+list_of = list_by (optional is_comma)
 
 -- what a table says of a word, if the word stands there
 abbrev pub meaning_in : {A : Type 0} → List (Name × A) → Name → Option A

@@ -16,22 +16,19 @@ use Rattle.pli_base.specs.declared.statement.Condition.TheVariants.{FixedOverflo
 use Rattle.pli_base.specs.Statements.{ProcedureOption, Main, Returns, Recursive, Heading, Range, To, By}
 use Rattle.pli_base.specs.Statements.{Repeat, Control, While, Iterate, Allocation, Body}
 use Rattle.pli_base.specs.Statements as body
-use Rattle.pli_parse_expression.specs.Reading.{expression_at, reference_at, arguments_at, argument_of, inside}
-use Rattle.pli_parse_declaration.specs.DeclarationReading.{list_at, returned_at, identifier_at}
-use Rattle.pli_parse_declaration.specs.declared.list.Separator.TheVariants.{Commas}
+use Rattle.pli_parse_declaration.specs.DeclarationReading.{identifier_at}
 use Rattle.pli_parse_statement.specs.StatementReading.{is_equals}
-use Rattle.pli_grammar.specs.Readers.{Reader, ◌>>=◌, made, token, optional, closed, parenthesized}
-use Rattle.pli_grammar.specs.Readers.{worded, parts_from}
+use Rattle.pli_grammar.specs.Readers.{Reader, ◌>>=◌, made, token, optional, parenthesized, in_parentheses}
+use Rattle.pli_grammar.specs.Readers.{list_of, worded, parts_from}
+use Rattle.pli_grammar.specs.Declarations.{returned, described}
+use Rattle.pli_grammar.specs.Expressions.{outermost, expression_of, operand_of, reference_of, arguments}
+use Rattle.pli_grammar.specs.Expressions.{inside, argument}
 
 -- a value, and the `;` after it
 abbrev pub stopped : {A : Type 0} → A → Reader A
 stopped value = do
   _ ← token is_semicolon SemicolonExpected
   read_as value
-
--- one or more, with commas between them
-abbrev pub list_of : {A : Type 0} → Reader A → Reader (List A)
-list_of one p ts = list_at Commas one p ts
 
 -- the part that a word begins, unless it stands already
 abbrev pub unless : {A : Type 0} → (stands : Bool) → A → Option A
@@ -48,11 +45,11 @@ condition = worded (
 module _ (levels : ℕ) where
   -- an outermost expression
   abbrev pub expression : Reader Expression
-  expression = made (λ x. x.tree) (expression_at levels 0)
+  expression = outermost (expression_of (operand_of (inside levels)))
 
   -- a reference
   abbrev pub reference : Reader Reference
-  reference = made (λ x. x.tree) (reference_at levels)
+  reference = outermost (reference_of (argument levels))
 
   -- a reference, `=` and one expression
   abbrev pub assignment : Reader Body
@@ -148,8 +145,8 @@ module _ (levels : ℕ) where
   abbrev pub call : Reader Body
   call = do
     name ← identifier_at
-    arguments ← arguments_at (option_map (argument_of true) (inside levels)) 0
-    read_as (body.Call name arguments.tree)
+    given ← outermost (arguments (argument levels))
+    read_as (body.Call name given)
 
 -- after OPTIONS
 abbrev pub main_option : Reader ProcedureOption
@@ -160,7 +157,7 @@ main_option = parenthesized (do
 -- the options of PROCEDURE
 abbrev pub options : List (Name × Reader ProcedureOption)
 options =
-    (codes "OPTIONS", main_option) ∷ (codes "RETURNS", made Returns returned_at)
+    (codes "OPTIONS", main_option) ∷ (codes "RETURNS", made Returns (returned described))
     ∷ (codes "RECURSIVE", read_as Recursive) ∷ []
 
 -- options as long as they come; each takes one of the bound
@@ -173,6 +170,6 @@ options_from (suc bound) p ts =
 -- after PROCEDURE, of this name and number
 abbrev pub heading : Identifier → (number : ℕ) → Reader Heading
 heading name number = do
-  parameters ← optional is_open (closed (list_of identifier_at))
+  parameters ← in_parentheses (list_of identifier_at)
   chosen ← λ p ts. options_from (length ts + 1) p ts
   stopped (record { name = name; number = number; parameters = or_none parameters; options = chosen })

@@ -18,7 +18,7 @@ use Rattle.pli_base.specs.Statements.{Statement, Numbered, Body, Ended, Before, 
 use Rattle.pli_base.specs.Statements.{ExternalProcedure, count}
 use Rattle.pli_base.specs.Statements as body
 use Rattle.pli_parse_expression.specs.Operators.{nesting_limit}
-use Rattle.pli_parse_declaration.specs.DeclarationReading.{declaration_at, identifier_at}
+use Rattle.pli_parse_declaration.specs.DeclarationReading.{identifier_at}
 use Rattle.pli_base.specs.Results.{◌>>=◌ as ◌>>-◌}
 use Rattle.pli_parse_statement.specs.StatementReading.{label_at, Listing, Misplacement, AtLabel}
 use Rattle.pli_parse_statement.specs.StatementReading.{AtStatement, misplacement}
@@ -32,9 +32,10 @@ use Rattle.pli_parse_statement.specs.declared.keyword.Keyword.TheVariants.{Retur
 use Rattle.pli_parse_statement.specs.declared.keyword.StatementStanding.{StatementStanding}
 use Rattle.pli_parse_statement.specs.declared.keyword.StatementStanding.TheVariants.{InBlock, InGroup}
 use Rattle.pli_parse_statement.specs.declared.keyword.StatementStanding.TheVariants.{AsClause, AsOnUnit}
-use Rattle.pli_grammar.specs.Readers.{Reader, ◌>>=◌, made, here, fails, token, either, optional, closed}
-use Rattle.pli_grammar.specs.Readers.{worded}
-use Rattle.pli_grammar.specs.StatementParts.{stopped, list_of, condition, expression, reference, assignment}
+use Rattle.pli_grammar.specs.Readers.{Reader, ◌>>=◌, made, here, fails, token, either, after_token}
+use Rattle.pli_grammar.specs.Readers.{in_parentheses, list_of, worded}
+use Rattle.pli_grammar.specs.Declarations.{declaration}
+use Rattle.pli_grammar.specs.StatementParts.{stopped, condition, expression, reference, assignment}
 use Rattle.pli_grammar.specs.StatementParts.{control, allocation, put, call, heading}
 
 -- what is one level deeper: how many levels may be opened there, and what reads the statement of a number
@@ -172,7 +173,7 @@ inner_procedure i (Some name) k = made (λ u. body.Procedure u.heading u.stateme
 abbrev pub keyed : (levels : ℕ) → Option Inside → Context → (label : Option Identifier) → (at k : ℕ) → Keyword
     → Reader Body
 keyed levels inside c label at k Procedure = deeper inside at (λ i. inner_procedure i label k)
-keyed levels inside c label at k Declare = made body.Declare declaration_at
+keyed levels inside c label at k Declare = made body.Declare declaration
 keyed levels inside c label at k End = fails MisplacedStatement at
 keyed levels inside c label at k Begin = deeper inside at (λ i. begin i c label (k + 1))
 keyed levels inside c label at k Do = deeper inside at (λ i. group i c label (k + 1))
@@ -186,11 +187,11 @@ keyed levels inside c label at k Free = list_of (reference levels) >>= λ x. sto
 keyed levels inside c label at k Call = call levels >>= stopped
 keyed levels inside c label at k Goto = identifier_at >>= λ x. stopped (body.Goto x)
 keyed levels inside c label at k GoTo = do
-  _ ← λ p ts. either here (fails NotAStatement at) p ts (rest_after (is_word (codes "TO")) ts)
+  _ ← after_token (is_word (codes "TO")) here (fails NotAStatement at)
   x ← identifier_at
   stopped (body.Goto x)
 keyed levels inside c label at k Return =
-    optional is_open (closed (expression levels)) >>= λ x. stopped (body.Return x)
+    in_parentheses (expression levels) >>= λ x. stopped (body.Return x)
 keyed levels inside c label at k Put = put levels >>= stopped
 
 -- a statement after its label: an assignment whatever its words are; otherwise the first keyword decides

@@ -15,19 +15,20 @@ use Rattle.pli_deck_write.specs.Spelling.{deck_bytes}
 use Rattle.pli_include.specs.Expanded.{Expanded}
 use Rattle.pli_include.specs.declared.expansion.ExpansionFault.{ExpansionFault}
 use Rattle.pli_link.specs.Units as plain
-use Rattle.pli_meaning.specs.Scratch.{Diagnostic, all_located, diagnostic_line, diagnostics_in, located, one, units_of, with_unit}
+use Rattle.pli_meaning.specs.Scratch.{Diagnostic, diagnostic_line, diagnostics_in, located, one}
+use Rattle.pli_meaning.specs.MemberParts.{deck_located, units_of}
 use Rattle.pli_ledger.specs.Kept.{Kept}
 use Rattle.pli_ledger.specs.Told.{told, told_by, told_kept}
 use Rattle.pli_ledger.specs.answers.Lending.{decks_of, given_units}
 use Rattle.pli_ledger.specs.views.KeptView.{HaveResult}
 
 lines_of : (name : Name) (origins : List Origin) (r : Result Deck (List Fault))
-    → diagnostics_in name (all_located name origins (with_unit name r)) ≡ flat_map (diagnostic_line name) (map (located name origins) (faults_of r))
+    → diagnostics_in name (deck_located name origins r) ≡ flat_map (diagnostic_line name) (map (located name origins) (faults_of r))
 lines_of name origins (Ok d) = refl
 lines_of name origins (Err faults) = refl
 
 decks_told : (name : Name) (origins : List Origin) (r : Result Deck (List Fault))
-    → units_of (all_located name origins (with_unit name r)) ≡ option_to_list (option_map (plain.as_unit name) (result_ok r))
+    → units_of (deck_located name origins r) ≡ option_to_list (option_map (plain.as_unit name) (result_ok r))
 decks_told name origins (Ok d) = refl
 decks_told name origins (Err faults) = refl
 
@@ -60,12 +61,12 @@ module _ (u : Name × Kept) where
           told_expanded ∙ ap (λ (f : Option ExpansionFault). told_by u.0 e.origins f u.1.compiled) (sym whole) ∙ ap (told_by u.0 e.origins None) (none_kept u.1.compiled none)
 
       -- it was compiled
-      pub told_compiled : (c : Compiled) → HaveResult u.1.compiled (Some c) → told u ≡ all_located u.0 e.origins (with_unit u.0 (outcome_view c))
+      pub told_compiled : (c : Compiled) → HaveResult u.1.compiled (Some c) → told u ≡ deck_located u.0 e.origins (outcome_view c)
       told_compiled c has = told_expanded ∙ ap (λ (f : Option ExpansionFault). told_by u.0 e.origins f u.1.compiled) (sym whole) ∙ by u.1.compiled has
         where
-          by : (texts : Option Tokens) → HaveResult texts (Some c) → told_by u.0 e.origins None texts ≡ all_located u.0 e.origins (with_unit u.0 (outcome_view c))
+          by : (texts : Option Tokens) → HaveResult texts (Some c) → told_by u.0 e.origins None texts ≡ deck_located u.0 e.origins (outcome_view c)
           by None has = absurd has
-          by (Some t) has = ap (λ (r : Result Deck (List Fault)). all_located u.0 e.origins (with_unit u.0 r)) (sym has)
+          by (Some t) has = ap (λ (r : Result Deck (List Fault)). deck_located u.0 e.origins r) (sym has)
 
       pub faults_told : (c : Compiled) (old new : List ℕ) → HaveResult u.1.compiled (Some c) → new ≡ old ++ flat_map (diagnostic_line u.0) (map (located u.0 e.origins) (faults_of (outcome_view c)))
           → new ≡ old ++ diagnostics_in u.0 (told u)

@@ -8,8 +8,8 @@ use Rattle.pli_link.specs.Units.{Compiled}
 use Rattle.pli_members.specs.Members.{Member, Store}
 use Rattle.pli_members.specs.declared.kind.MemberKind.{MemberKind}
 use Rattle.pli_members.specs.declared.kind.MemberKind.TheVariants.{Source, Include}
-use Rattle.pli_meaning.specs.MemberParts.{all_text, all_units, source_in, text_in, units_in}
-use Rattle.pli_meaning.specs.Scratch.{compiled_from, compiled_of, diagnostics_in, sources, units_of}
+use Rattle.pli_meaning.specs.MemberParts.{all_text, all_units, source_in, text_in, units_in, units_of}
+use Rattle.pli_meaning.specs.Scratch.{compiled_from, compiled_of, diagnostics_in, sources}
 use Rattle.pli_ledger.specs.Kept.{Kept, Units, kept_of}
 use Rattle.pli_ledger.specs.Told.{kept_text, kept_units, told}
 use Rattle.pli_ledger.specs.Work.{after, kept_after}

@@ -8,8 +8,8 @@ use Rattle.pli_base.specs.declared.token.Origin.{Origin}
 use Rattle.pli_include.specs.Expanded.{Expanded}
 use Rattle.pli_include.specs.declared.expansion.ExpansionFault.{ExpansionFault}
 use Rattle.pli_link.specs.Units.{Compiled}
-use Rattle.pli_meaning.specs.Scratch.{Diagnostic, all_located, compiled_texts, diagnostics_in, one, units_of}
-use Rattle.pli_meaning.specs.Scratch.{with_unit}
+use Rattle.pli_meaning.specs.Scratch.{Diagnostic, compiled_texts, diagnostics_in, one}
+use Rattle.pli_meaning.specs.MemberParts.{deck_located, units_of}
 use Rattle.pli_ledger.specs.Kept.{Kept, Units}
 
 -- by a fault of the expansion, or by what the texts were compiled to
@@ -17,7 +17,7 @@ abbrev pub told_by : Name → List Origin → Option ExpansionFault → Option T
     → Result Compiled (List Diagnostic)
 told_by unit origins (Some fault) compiled = Err (one fault.code fault.origin)
 told_by unit origins None None = Err []
-told_by unit origins None (Some texts) = all_located unit origins (with_unit unit (compiled_texts texts))
+told_by unit origins None (Some texts) = deck_located unit origins (compiled_texts texts)
 
 -- by the expansion that is kept, if there is one
 abbrev pub told_kept : Name → Option Expanded → Option Tokens → Result Compiled (List Diagnostic)

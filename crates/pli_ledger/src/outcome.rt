@@ -5,8 +5,7 @@ ghost use Rattle.pli_ledger.specs.Told.{kept_text, kept_units, told};
 ghost use Rattle.pli_ledger.specs.answers.Built.{IsBuilt, IsStanding};
 ghost use Rattle.pli_ledger.specs.answers.Lending.{decks_of, given_units};
 ghost use Rattle.pli_link.specs.views.UnitView.{compiled_view};
-ghost use Rattle.pli_meaning.specs.MemberParts.{all_text, all_units};
-ghost use Rattle.pli_meaning.specs.Scratch.{units_of};
+ghost use Rattle.pli_meaning.specs.MemberParts.{all_text, all_units, units_of};
 
 use crate::kept::KeptUnit;
 use crate::stored::{StoredModule, stored};

@@ -3,7 +3,7 @@ ghost use Rattle.std.specs.Prelude.{◌≡◌, ◌++◌, map, slice_get, IfOk, O
 ghost use Rattle.std.specs.List.{flat_map};
 ghost use Rattle.pli_ledger.specs.Told.{kept_text, told};
 ghost use Rattle.pli_meaning.specs.Scratch.{code_line, diagnostic_line, diagnostics_in, link_line, located, name_line};
-ghost use Rattle.pli_meaning.specs.Scratch.{origin_of};
+ghost use Rattle.pli_meaning.specs.MemberParts.{origin_of};
 
 use crate::kept::KeptUnit;
 use pli_base::{Code, Fault, Name, Origin};

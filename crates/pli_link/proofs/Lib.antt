@@ -2,6 +2,7 @@ pub mod ByteCountLemmas
 pub mod ClassLemmas
 pub mod ExternalNumbers
 pub mod Faultless
+pub mod LinkAlike
 pub mod LinkedUnits
 pub mod LoopLemmas
 pub mod MeantFirst
@@ -9,4 +10,5 @@ pub mod MismatchLemmas
 pub mod NameTables
 pub mod OwnBytesLemmas
 pub mod RepeatedNames
+pub mod SharedAlike
 pub mod Tables

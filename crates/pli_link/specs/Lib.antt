@@ -1,9 +1,12 @@
 pub mod Alike
 pub mod Link
+pub mod LinkFaults
+pub mod LinkedModule
 pub mod Links
 pub mod Mismatches
 pub mod ModuleSize
 pub mod Names
+pub mod Shared
 pub mod Units
 pub mod answers
 pub mod examples

@@ -1,4 +1,5 @@
 //! Laws of linking.
+ghost use Rattle.pli_link.specs.laws.LinkLaws.{LinksAreFound};
 ghost use Rattle.pli_link.specs.laws.Sorting.{NamesAreSorted};
 ghost use Rattle.pli_link.specs.examples.Examples.{TwoUnits, OneOfThree, NoneOfTwo, NoneCalled, OtherShared};
 ghost use Rattle.pli_link.specs.examples.Examples.{SameShared, ByName, ControlledShared, OtherKind, OtherTaken};
@@ -8,6 +9,12 @@ ghost use Rattle.pli_link.specs.examples.Examples.{ToldOnce, TooLarge, NotTooLar
 /// A law: the order of names with their units is a stable sort of them by name.
 pub fn names_are_sorted()
     ensures { NamesAreSorted }
+{}
+
+/// A law: what linking gives is what is found with a table of procedures and one of external variables.
+#[tactic(auto, using(crate::proofs::LinkAlike::links_alike))]
+pub fn links_are_found()
+    ensures { LinksAreFound }
 {}
 
 /// Worked examples: two main procedures, one of three units, none of two; an entry without a procedure, and with

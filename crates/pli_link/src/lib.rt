@@ -14,7 +14,7 @@ mod order;
 mod sizes;
 mod units;
 
-pub use laws::{names_are_sorted, worked_examples};
+pub use laws::{links_are_found, names_are_sorted, worked_examples};
 pub use linked::Linked;
 pub use linking::{LinkError, LinkFault, link};
 pub use units::{LinkedName, NamedUnit};

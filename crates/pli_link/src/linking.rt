@@ -1,6 +1,7 @@
 //! The module of units, or the faults of linking.
 ghost use Rattle.std.specs.Prelude.{◌≡◌, ◌++◌, map, OnOk, IfOk};
 ghost use Rattle.pli_link.specs.Link as link;
+ghost use Rattle.pli_link.specs.LinkedModule.{link_of};
 ghost use Rattle.pli_link.specs.Units.{AreWritten};
 ghost use Rattle.pli_link.specs.answers.Linking.{Links, fault_of, main_faults_of};
 ghost use Rattle.pli_link.specs.answers.Tables.{AreNames, HaveClasses, units_in};
@@ -45,7 +46,7 @@ pub type LinkError = Failure<Vec<LinkFault>>;
 /// order of their names; or all faults.
 pub fn link<'a>(alloc: Global, units: &[NamedUnit<'a>]) -> Result<Linked<'a>, LinkError>
     requires { AreWritten (map compiled_view units.now) }
-    ensures { Links result (link.link_of (map compiled_view units.now)) }
+    ensures { Links result (link_of (map compiled_view units.now)) }
 {
     let procedures = procedures(alloc, units)?;
     let mut known = IndexSet::new(alloc);

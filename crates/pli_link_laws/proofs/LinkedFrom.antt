@@ -8,6 +8,7 @@ use Rattle.pli_link.specs.Links.{linked_unit, module_of}
 use Rattle.pli_link.specs.Names.{externals, procedures}
 use Rattle.pli_link.specs.Units.{Compiled}
 use Rattle.pli_link.specs.declared.linking.LinkFault.{LinkFault}
+use Rattle.pli_link.proofs.LinkAlike.{links_alike}
 use Rattle.pli_link_laws.specs.LinkedModules.{LinkingKeepsDecks}
 
 pub record IsOf (faults : List LinkFault) (found : Option ℕ) (cs : List Compiled) (m : Module) : Type 0 where
@@ -28,5 +29,5 @@ decks_kept names numbers (c ∷ cs) = ap (λ ds. c.deck ∷ ds) (decks_kept name
 
 pub linking_keeps_decks : LinkingKeepsDecks
 linking_keeps_decks cs m linked =
-    let o = of_faultless (link_faults cs) (position (λ (c : Compiled). c.deck.is_main) cs) cs m linked in
+    let o = of_faultless (link_faults cs) (position (λ (c : Compiled). c.deck.is_main) cs) cs m (sym (links_alike cs) ∙ linked) in
     ap (λ (n : Module). map (λ (u : Member). u.deck) n.units) (sym o.is) ∙ decks_kept (keys_of (externals cs)) (procedures cs) cs

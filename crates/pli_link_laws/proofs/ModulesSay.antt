@@ -1,5 +1,5 @@
 -- Linked modules are ones that bytes can say.
-use Rattle.std.proofs.Common.{◌≡◌, ℕ, ◌+◌, ◌<◌, ◌≤◌, nat_lt, Bool, true, false, cond, Some, None, List, [], ◌∷◌, length, filter, map, slice_get, position, refl, ap, sym, subst, arith, ltb-true}
+use Rattle.std.proofs.Common.{◌≡◌, ℕ, ◌+◌, ◌<◌, ◌≤◌, nat_lt, Bool, true, false, cond, Some, None, List, [], ◌∷◌, length, filter, map, slice_get, position, refl, ap, sym, subst, arith, ltb-true, ◌∙◌}
 use Rattle.std.specs.List.{position_or_len, AllByRecursion}
 use Rattle.std.specs.Map.{keys_of}
 use Rattle.std.proofs.lemmas.List.{length-map}
@@ -17,6 +17,7 @@ use Rattle.pli_link.specs.Links.{external_of, linked_unit, module_of}
 use Rattle.pli_link_laws.specs.LinkedModules.{IsSaidAlone, LinkedModulesAreSpelled}
 use Rattle.pli_link.proofs.Tables.{declared_rise, all_declared, all_found}
 use Rattle.pli_link_laws.proofs.LinkedFrom.{of_faultless}
+use Rattle.pli_link.proofs.LinkAlike.{links_alike}
 use Rattle.pli_link_laws.proofs.ModuleFits.{Leads, HasParts, module_stands}
 use Rattle.pli_link_laws.proofs.ModuleLimits.{counted, within_limits}
 use Rattle.pli_link_laws.proofs.ResolvedEntries.{units_resolved}
@@ -102,5 +103,5 @@ module _ (cs : List Compiled) (main : ℕ) (are_written : AreWritten cs) (few : 
 
 pub linked_modules_are_spelled : LinkedModulesAreSpelled
 linked_modules_are_spelled cs m are_written linked few said =
-    let o = of_faultless (link_faults cs) (position (λ (c : Compiled). c.deck.is_main) cs) cs m linked in
+    let o = of_faultless (link_faults cs) (position (λ (c : Compiled). c.deck.is_main) cs) cs m (sym (links_alike cs) ∙ linked) in
     subst (λ (n : Module). AllByRecursion IsSaidAlone n.units → SpellsModule (module_bytes n) n) o.is (λ h. stands cs o.main are_written few o.here (faultless cs o.none) h) said

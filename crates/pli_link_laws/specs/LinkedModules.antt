@@ -4,7 +4,7 @@ use Rattle.std.specs.List.{AllByRecursion}
 use Rattle.pli_deck_write.specs.DeckFields.{name}
 use Rattle.pli_deck_write.specs.ModuleSpelling.{module_bytes, SpellsModule}
 use Rattle.pli_deck_write.specs.Spelling.{IsDeck, deck_bytes}
-use Rattle.pli_link.specs.Link.{link_of}
+use Rattle.pli_link.specs.LinkedModule.{link_of}
 use Rattle.pli_link.specs.Units.{Compiled, AreWritten}
 use Rattle.pli_code.specs.Modules.{Member, Module}
 

@@ -1,14 +1,11 @@
 //! BASED variables, and the pointers of ADDR.
-ghost use Rattle.std.specs.Prelude.{◌≡◌, List, length, map, IfSome, OnErr};
-ghost use Rattle.pli_map.specs.Sizes.{size_of};
+ghost use Rattle.std.specs.Prelude.{◌≡◌, map, IfSome, OnErr};
 ghost use Rattle.pli_map.specs.views.DescriptionView.{description_view};
 ghost use Rattle.pli_world.specs.World.{World};
 ghost use Rattle.pli_stacks.specs.answers.LaidBytes.{IsLaid};
 ghost use Rattle.pli_store.specs.answers.Answered.{Answered};
-ghost use Rattle.pli_store.specs.answers.Begins.{BeginsWith};
 ghost use Rattle.pli_store.specs.views.StorageView.{SameStorage, made_count, place_view, storage_view, target_view};
 ghost use Rattle.pli_store.specs.views.StorageView.{with_storage};
-ghost use Rattle.pli_value.specs.Value.{Value};
 ghost use Rattle.pli_world.specs.Areas.{allocated_in};
 ghost use Rattle.pli_world.specs.Locating.{addressed, based_allocated, based_freed, located, pointer_to};
 ghost use Rattle.pli_world.specs.Locating.{unless_other, without_whole};
@@ -161,35 +158,9 @@ pub fn allocate_in<'m>(
     ensures err { OnErr result (SameStorage storage.old storage.new) }
 {
     match laid {
-        Some(bytes) => allocate_copy_in(alloc, storage, area, description, bytes),
+        Some(bytes) => storage.allocate_copy_in(area, description, bytes),
         None => allocate_anew_in(alloc, storage, area, description, scalars),
     }
-}
-
-/// The same of bytes that were laid before, which are copied: no size is computed.
-fn allocate_copy_in<'m>(
-    alloc: Global,
-    storage: &mut Storage<'m>,
-    area: Place<'_>,
-    description: &'m Description,
-    laid: &[u8],
-) -> Result<Locator, StoreFault>
-    requires { length laid.now ≡ size_of (description_view description.now) }
-    ensures answer { (w : World) (vs : List Value) → BeginsWith (description_view description.now) laid.now vs
-        → Answered (λ locator. locator) result (with_storage storage.old w) (with_storage storage.new w)
-        (allocated_in (place_view area.entry) (record {
-          description = description_view description.now;
-          initial = vs;
-        })
-        (with_storage storage.old w)) }
-    ensures err { OnErr result (SameStorage storage.old storage.new) }
-{
-    if laid.len() as u64 > BLOCK_BYTES {
-        return storage.refuse_in(area, description);
-    }
-    let mut own = storage.spare_bytes(alloc, laid.len())?;
-    own.copy_from_slice(laid);
-    storage.allocate_in(area, description, Some(own))
 }
 
 /// The same where nothing was laid before.
@@ -226,7 +197,7 @@ fn end_whole(storage: &mut Storage<'_>, place: Place<'_>)
     if place.position == 0 {
         storage.end(&[place.generation]);
     } else {
-        storage.free_block(place.generation, place.position);
+        storage.free_block(place);
     }
 }
 

@@ -8,7 +8,7 @@ use Rattle.pli_declare.specs.Resolution.{resolution_faults}
 use Rattle.pli_resolve.specs.ResolvedUnits.{resolved_unit_of}
 use Rattle.pli_type.specs.NamedUnits.{checked_unit}
 use Rattle.pli_type_unit.proofs.LimitsAlike.{units_are_checked}
-use Rattle.pli_type_unit.specs.UnitNames.{typed_unit}
+use Rattle.pli_type_unit.specs.Statements.{typed_unit}
 
 pub declared_units : (u : ExternalProcedure) → resolution_faults u ≡ [] → typed_unit (declarations.resolved_unit_of u) ≡ checked_unit (resolved_unit_of u)
 declared_units u none = ap typed_unit (units_alike u) ∙ units_are_checked u none

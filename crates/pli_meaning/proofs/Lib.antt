@@ -1,5 +1,6 @@
 pub mod DeclaredUnits
 pub mod GlobalsFit
+pub mod LimitsAlike
 pub mod MembersDoAsMeant
 pub mod MembersHaveOneProgram
 pub mod ProgramsGrow

@@ -7,6 +7,7 @@ use Rattle.pli_base.specs.Name.{Name}
 use Rattle.pli_members.specs.Members.{Member}
 use Rattle.pli_link.specs.Link.{mains, later, none_among, link_faults, module_or}
 use Rattle.pli_link.specs.Links.{module_of}
+use Rattle.pli_link.proofs.LinkAlike.{links_alike}
 use Rattle.pli_link.specs.Units.{Compiled}
 use Rattle.pli_link.specs.declared.linking.LinkFault.{LinkFault}
 use Rattle.pli_link.proofs.Faultless.{faultless, small}
@@ -157,7 +158,7 @@ program_of_trees entries us m spelled all made =
 program_built : (entries : List (Name × Member)) (text : List ℕ) (m : Module) → all_text entries entries ≡ text → built text (all_units entries entries) ≡ Made m → HasProgram entries m
 program_built entries [] m clear e =
     let coded = all_coded entries entries clear in
-    let made = linked_of (link_faults (all_units entries entries)) (position (λ c. c.deck.is_main) (all_units entries entries)) (all_units entries entries) m refl refl e in
+    let made = linked_of (link_faults (all_units entries entries)) (position (λ c. c.deck.is_main) (all_units entries entries)) (all_units entries entries) m refl refl (sym (ap linked (links_alike (all_units entries entries))) ∙ e) in
     program_of_trees entries coded.trees m coded.spelled coded.good (subst (λ cs. IsLinkedOf cs m) coded.coded made)
 program_built entries (b ∷ text) m clear e = let bad : ⊥ = cc in absurd bad
 

@@ -17,6 +17,8 @@ use Rattle.pli_gen_emit.specs.Encoding.{code_of}
 use Rattle.pli_gen_emit.specs.Coding as by_items
 use Rattle.pli_gen_emit.proofs.ItemsMake.{code_same}
 use Rattle.pli_gen.specs.Limits.{is_too_long}
+use Rattle.pli_meaning.specs.CodeLimits as limits
+use Rattle.pli_meaning.proofs.LimitsAlike.{limits_alike}
 use Rattle.pli_gen.specs.WellNumbered.{IsWellNumbered}
 use Rattle.pli_gen_stands.specs.Laws.{AreWellNumbered}
 use Rattle.pli_meaning_typed.specs.TypedPrograms.{AreTypedUnits, IsTypedUnit}
@@ -38,8 +40,8 @@ use Rattle.pli_declarations.specs.Units as declarations
 use Rattle.pli_declarations.proofs.UnitsAlike.{faults_alike}
 use Rattle.pli_declare.specs.Resolution.{resolution_faults}
 use Rattle.pli_meaning.specs.Programs.{of_member}
-use Rattle.pli_meaning.specs.MemberParts.{all_text, all_units, text_in, units_in, source_in, with_tree}
-use Rattle.pli_meaning.specs.Scratch.{Diagnostic, typed_unless, program_from, program_of, units_of, located, all_located, parsed_from, parsed_of, too_long, compiled_tree, is_long, short_deck, coded_from, compiled_texts, with_unit, compiled_from, compiled_of, diagnostics_in, diagnostic_line, sources, trees_of}
+use Rattle.pli_meaning.specs.MemberParts.{all_text, all_units, text_in, units_in, source_in, with_tree, program_from, coded_from, all_located, deck_located, units_of}
+use Rattle.pli_meaning.specs.Scratch.{Diagnostic, typed_unless, program_of, located, parsed_from, parsed_of, too_long, compiled_tree, is_long, short_deck, compiled_texts, compiled_from, compiled_of, diagnostics_in, diagnostic_line, sources, trees_of}
 
 -- a list with an element is not empty
 filled : {A : Type 0} (xs ys : List A) (y : A) → xs ++ y ∷ ys ≡ [] → ⊥
@@ -96,7 +98,7 @@ long_told u true = tt
 long_told u false = deck_told (compiled_tree u) (is_long (compiled_tree u))
 
 coded_told : (r : Result TypedUnit (List Fault)) → IsRead r → IsToldOfCompiling (coded_from r)
-coded_told (Ok u) h = long_told u (is_too_long (by_items.code_of u))
+coded_told (Ok u) h = long_told u (limits.is_too_long (by_items.code_of u))
 coded_told (Err []) h = h
 coded_told (Err (fault ∷ faults)) h = tt
 
@@ -130,8 +132,8 @@ record IsClean (name : Name) (r : Result TypedUnit (List Diagnostic)) (c : Resul
   code : c ≡ Ok (unit_code name tree)
 
 short_clean : (name : Name) (origins : List Origin) (u : TypedUnit) (b : Bool) → is_too_long (by_items.code_of u) ≡ false → is_long (compiled_tree u) ≡ b → IsGood u
-    → diagnostics_in name (all_located name origins (with_unit name (if b then Err (too_long ∷ []) else Ok (compiled_tree u)))) ≡ []
-    → IsClean name (Ok u) (all_located name origins (with_unit name (if b then Err (too_long ∷ []) else Ok (compiled_tree u))))
+    → diagnostics_in name (deck_located name origins (if b then Err (too_long ∷ []) else Ok (compiled_tree u))) ≡ []
+    → IsClean name (Ok u) (deck_located name origins (if b then Err (too_long ∷ []) else Ok (compiled_tree u)))
 short_clean name origins u true fits long good e = absurd (text_filled name (located name origins too_long) [] e)
 short_clean name origins u false fits short good e = record {
   tree = u;
@@ -143,14 +145,14 @@ short_clean name origins u false fits short good e = record {
 }
 
 chosen_clean : (name : Name) (origins : List Origin) (u : TypedUnit) (b : Bool) → is_too_long (by_items.code_of u) ≡ b → IsGood u
-    → diagnostics_in name (all_located name origins (with_unit name (if b then Err (too_long ∷ []) else short_deck (compiled_tree u)))) ≡ []
-    → IsClean name (Ok u) (all_located name origins (with_unit name (if b then Err (too_long ∷ []) else short_deck (compiled_tree u))))
+    → diagnostics_in name (deck_located name origins (if b then Err (too_long ∷ []) else short_deck (compiled_tree u))) ≡ []
+    → IsClean name (Ok u) (deck_located name origins (if b then Err (too_long ∷ []) else short_deck (compiled_tree u)))
 chosen_clean name origins u true is good e = absurd (text_filled name (located name origins too_long) [] e)
 chosen_clean name origins u false is good e = short_clean name origins u (is_long (compiled_tree u)) is refl good e
 
 read_clean : (name : Name) (origins : List Origin) (r : Result TypedUnit (List Fault)) → IsRead r
-    → diagnostics_in name (all_located name origins (with_unit name (coded_from r))) ≡ [] → IsClean name (all_located name origins r) (all_located name origins (with_unit name (coded_from r)))
-read_clean name origins (Ok u) h e = chosen_clean name origins u (is_too_long (by_items.code_of u)) refl h e
+    → diagnostics_in name (deck_located name origins (coded_from r)) ≡ [] → IsClean name (all_located name origins r) (deck_located name origins (coded_from r))
+read_clean name origins (Ok u) h e = chosen_clean name origins u (limits.is_too_long (by_items.code_of u)) (sym (limits_alike (by_items.code_of u))) h e
 read_clean name origins (Err []) h e = absurd h
 read_clean name origins (Err (fault ∷ faults)) h e = absurd (text_filled name (located name origins fault) (map (located name origins) faults) e)
 

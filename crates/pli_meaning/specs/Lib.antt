@@ -1,3 +1,4 @@
+pub mod CodeLimits
 pub mod MemberParts
 pub mod Members
 pub mod Programs

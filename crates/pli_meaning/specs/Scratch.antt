@@ -1,11 +1,12 @@
 -- A build from scratch: the diagnostics or the module that members give, and what their program means.
-use Rattle.std.specs.Prelude.{◌≡◌, ℕ, nat_lt, Bool, Option, Some, None, Result, Ok, Err, List, [], ◌∷◌, ◌++◌}
-use Rattle.std.specs.Prelude.{map, length, decimal, slice_get, option_map, if◌then◌else◌}
-use Rattle.std.specs.List.{flat_map}
-use Rattle.std.specs.Option.{option_and_then}
-use Rattle.std.specs.Result.{result_ok}
+use Rattle.std.specs.Prelude.{◌≡◌, ℕ, nat_lt, Bool, Option, Some, Result, Ok, Err, List, [], ◌∷◌, ◌++◌}
+use Rattle.std.specs.Prelude.{map, length, decimal, slice_get, option_map, unwrap_or, if◌then◌else◌}
+use Rattle.std.specs.List.{flat_map, filter, enumerate_from}
+use Rattle.std.specs.Option.{option_and_then, option_to_list}
+use Rattle.std.specs.Result.{result_map_both, result_ok}
 use Rattle.pli_base.specs.Name.{Name}
 use Rattle.pli_base.specs.Codes.{code_label, code_text}
+use Rattle.pli_base.specs.Results.{◌>>=◌}
 use Rattle.pli_base.specs.Words.{Tokens}
 use Rattle.pli_base.specs.declared.code.Code.{Code}
 use Rattle.pli_base.specs.declared.code.Code.TheVariants as code
@@ -19,12 +20,12 @@ use Rattle.pli_members.specs.declared.kind.MemberKind.TheVariants.{Source, Inclu
 use Rattle.pli_grammar.specs.UnitReading.{unit_of}
 use Rattle.pli_base.specs.Statements.{ExternalProcedure}
 use Rattle.pli_declarations.specs.Units.{resolution_faults, resolved_unit_of}
-use Rattle.pli_link.specs.Link.{link_of}
+use Rattle.pli_link.specs.LinkedModule.{link_of}
 use Rattle.pli_link.specs.Units.{Compiled, as_unit}
 use Rattle.pli_link.specs.declared.linking.LinkFault.{LinkFault}
 use Rattle.pli_link.specs.declared.linking.LinkFault.TheVariants as faults
 use Rattle.pli_link.specs.declared.units.LinkedName.{LinkedName}
-use Rattle.pli_type_unit.specs.UnitNames.{typed_unit}
+use Rattle.pli_type_unit.specs.Statements.{typed_unit}
 use Rattle.pli_type_tree.specs.TypedTree.{TypedUnit}
 use Rattle.pli_machine_step.specs.Outcomes.{Outcome}
 use Rattle.pli_code.specs.Decks.{Deck}
@@ -32,24 +33,20 @@ use Rattle.pli_code.specs.ModuleParts.{Module}
 use Rattle.pli_code.specs.Versions.{written}
 use Rattle.pli_deck_write.specs.DeckBytes.{deck_written}
 use Rattle.pli_gen_emit.specs.Coding.{code_of}
-use Rattle.pli_gen.specs.Limits.{is_too_long}
 use Rattle.pli_meaning_tree.specs.TreeMeaning.{whole_run}
-use Rattle.pli_meaning.specs.Programs.{of_member, program_of_units, main_numbers}
+use Rattle.pli_meaning.specs.CodeLimits.{is_too_long}
 
 -- a diagnostic, at a line of a member
 pub record Diagnostic : Type 0 where
   pub origin : Origin
   pub code : Code
 
--- the place of a token; where a unit's expansion has no token, the unit's line 1
-abbrev pub origin_of : Name → Option Origin → Origin
-origin_of unit (Some origin) = origin
-origin_of unit None = record { member = unit; line = 1 }
-
--- a fault at a token stands where the token does
+-- a fault at a token stands where the token does; where a unit's expansion has no token, at the unit's line 1
 abbrev pub located : Name → List Origin → Fault → Diagnostic
-located unit origins fault =
-    record { origin = origin_of unit (slice_get origins fault.at); code = fault.code }
+located unit origins fault = record {
+  origin = unwrap_or (slice_get origins fault.at) (record { member = unit; line = 1 });
+  code = fault.code;
+}
 
 -- one diagnostic
 abbrev pub one : Code → Origin → List Diagnostic
@@ -60,26 +57,17 @@ abbrev pub typed_unless : List Fault → ExternalProcedure → Result TypedUnit 
 typed_unless [] unit = typed_unit (resolved_unit_of unit)
 typed_unless (fault ∷ faults) unit = Err (fault ∷ faults)
 
--- a unit that was read: its declarations are judged, then its types
-abbrev pub program_from : Result ExternalProcedure Fault → Result TypedUnit (List Fault)
-program_from (Ok unit) = typed_unless (resolution_faults unit) unit
-program_from (Err fault) = Err (fault ∷ [])
-
 -- the typed tree of a unit's tokens, or the faults of the first pass that has any: reading, then the
 -- declarations, then types
 abbrev pub program_of : Tokens → Result TypedUnit (List Fault)
-program_of texts = program_from (unit_of texts)
+program_of texts =
+    result_map_both (λ u. u) (λ f. f ∷ []) (unit_of texts)
+    >>= λ unit. typed_unless (resolution_faults unit) unit
 
--- what a pass gives, with its faults where their tokens stand
-abbrev pub all_located : {A : Type 0} → Name → List Origin → Result A (List Fault)
-    → Result A (List Diagnostic)
-all_located unit origins (Ok x) = Ok x
-all_located unit origins (Err faults) = Err (map (located unit origins) faults)
-
--- the tree of an expansion, or the fault of the expansion
+-- the tree of an expansion, or its faults where their tokens stand, or the fault of the expansion
 abbrev pub parsed_from : Name → Expansion → Result TypedUnit (List Diagnostic)
 parsed_from unit (Err stop) = Err (one stop.fault.code stop.fault.origin)
-parsed_from unit (Ok p) = all_located unit p.origins (program_of p.texts)
+parsed_from unit (Ok p) = result_map_both (λ u. u) (map (located unit p.origins)) (program_of p.texts)
 
 -- the tree of a unit's expansion, or its diagnostics: the one of the expansion, or those of the first pass
 -- over its tokens that has any
@@ -106,25 +94,16 @@ short_deck d = if is_long d then Err (too_long ∷ []) else Ok d
 abbrev pub coded : TypedUnit → Result Deck (List Fault)
 coded u = if is_too_long (code_of u) then Err (too_long ∷ []) else short_deck (compiled_tree u)
 
--- the deck of what was typed, or its faults
-abbrev pub coded_from : Result TypedUnit (List Fault) → Result Deck (List Fault)
-coded_from (Ok u) = coded u
-coded_from (Err faults) = Err faults
-
 -- the tokens of a unit compiled, or the faults of the first pass that has any: what the tokens say is all
 -- that counts, and neither what their member is called nor where they come from
 abbrev pub compiled_texts : Tokens → Result Deck (List Fault)
-compiled_texts texts = coded_from (program_of texts)
+compiled_texts texts = program_of texts >>= coded
 
--- the deck of a unit gets the name of its member
-abbrev pub with_unit : {E : Type 0} → (unit : Name) → Result Deck E → Result Compiled E
-with_unit unit (Ok c) = Ok (as_unit unit c)
-with_unit unit (Err e) = Err e
-
--- an expansion compiled, or the fault of the expansion
+-- an expansion compiled: its deck gets the name of its member; or its faults, or that of the expansion
 abbrev pub compiled_from : Name → Expansion → Result Compiled (List Diagnostic)
 compiled_from unit (Err stop) = Err (one stop.fault.code stop.fault.origin)
-compiled_from unit (Ok p) = all_located unit p.origins (with_unit unit (compiled_texts p.texts))
+compiled_from unit (Ok p) =
+    result_map_both (as_unit unit) (map (located unit p.origins)) (compiled_texts p.texts)
 
 -- a unit compiled, or its diagnostics in the order of their tokens; a pass with faults is the last
 unfoldable pub compiled_of : List (Name × Member) → Name → Result Compiled (List Diagnostic)
@@ -138,11 +117,6 @@ if_source Include xs = []
 -- the units: the source members, in the order of their names
 abbrev pub sources : List (Name × Member) → List Name
 sources entries = flat_map (λ e. if_source e.1.kind (e.0 ∷ [])) entries
-
--- the unit that was compiled, if it was
-abbrev pub units_of : Result Compiled (List Diagnostic) → List Compiled
-units_of (Ok c) = c ∷ []
-units_of (Err diagnostics) = []
 
 -- `unit member:line code text`
 abbrev pub diagnostic_line : Name → Diagnostic → List ℕ
@@ -191,20 +165,20 @@ built (b ∷ text) units = Diagnosed (b ∷ text)
 unfoldable pub scratch : List (Name × Member) → Built
 scratch entries =
     built (flat_map (λ e. if_source e.1.kind (diagnostics_in e.0 (compiled_of entries e.0))) entries)
-    (flat_map (λ e. if_source e.1.kind (units_of (compiled_of entries e.0))) entries)
+    (flat_map (λ e. if_source e.1.kind (option_to_list (result_ok (compiled_of entries e.0)))) entries)
 
 -- the trees of units, each with the name of its member, if all have one
 abbrev pub trees_of : List (Name × Member) → List Name → Option (List TypedUnit)
 trees_of entries [] = Some []
 trees_of entries (unit ∷ units) =
-    option_and_then (λ u. option_map (λ us. of_member unit u ∷ us) (trees_of entries units))
+    option_and_then (λ u. option_map (λ us. record u { name = unit } ∷ us) (trees_of entries units))
     (result_ok (parsed_of entries unit))
 
 -- what the members' program does with so many steps: each source member has a tree, just one of which is a
--- main unit, and the whole run of their program has this meaning
+-- main unit, and the whole run of their program, whose numbers have at most 63 binary digits, has this meaning
 pub record Means (entries : List (Name × Member)) (steps : ℕ) (outcome : Outcome) : Type 0 where
   pub units : List TypedUnit
   pub main : ℕ
   pub spelled : trees_of entries (sources entries) ≡ Some units
-  pub only : main_numbers 0 units ≡ main ∷ []
-  pub run : whole_run (program_of_units units main) steps ≡ Some outcome
+  pub only : map (λ u. u.0) (filter (λ u. u.1.is_main) (enumerate_from 0 units)) ≡ main ∷ []
+  pub run : whole_run (record { units = units; main = main; greatest = 63 }) steps ≡ Some outcome

@@ -1,15 +1,10 @@
 -- Blocks of one generation of the store changed.
-use Rattle.std.proofs.Common.{◌≡◌, ◌<◌, ℕ, Bool, true, false, nat_eq, Bor, Option, None, option_map, Result, Ok, Err, IfOk, OnErr, if◌then◌else◌, List, [], ◌∷◌, length, map, set, get_or, Some, slice_get, refl, sym, ap, ◌∙◌, subst}
+use Rattle.std.proofs.Common.{◌≡◌, ◌<◌, ℕ, true, Option, None, Result, Ok, Err, IfOk, OnErr, List, length, map, set, get_or, Some, slice_get, refl, sym, ap, ◌∙◌, subst}
 use Rattle.std.proofs.lemmas.List.{map-set}
-use Rattle.std.specs.Option.{is_some}
-use Rattle.std.proofs.lemmas.Option.{none-some, same_Some, slice_get_read}
-use Rattle.pli_area_blocks.proofs.Options.{unmapped_nothing}
-use Rattle.pli_map.specs.declared.description.Description.{Description as CodeDescription}
-use Rattle.pli_map.specs.views.DescriptionView.{description_view}
-use Rattle.pli_world.specs.Areas.{without_block}
+use Rattle.std.proofs.lemmas.Option.{same_Some, slice_get_read}
 use Rattle.pli_map.specs.Scalars.{is_area}
 use Rattle.pli_world.specs.Storage as plain
-use Rattle.pli_world.specs.Storage.{Block, Place, block_at, live_bytes, with_blocks}
+use Rattle.pli_world.specs.Storage.{Block, Place, live_bytes, with_blocks}
 use Rattle.pli_store.specs.answers.Blocks.{AreaStands, BlocksChanged, OthersStay}
 use Rattle.pli_store.specs.answers.Kept.{rise}
 use Rattle.pli_store.specs.declared.generation.Generation.{Generation}
@@ -50,24 +45,6 @@ pub placed_others : {E : Type 0} (old new : Generation) (r : Result (Option ℕ)
     → IfOk r (λ position. BlocksChanged old new (change position)) → OnErr r (generation_view new ≡ generation_view old) → OthersStay old new
 placed_others old new (Ok position) change placed same = others_of old new (change position) placed
 placed_others old new (Err e) change placed same = same_others old new same
-
--- where no block is, none is taken away
-no_block_taken : (bs : List Block) (position : ℕ) → block_at bs position ≡ None → without_block bs position ≡ bs
-no_block_taken [] position none = refl
-no_block_taken (b ∷ bs) position none = by (nat_eq b.position position) none (no_block_taken bs position)
-  where
-    by : (e : Bool) → (if e then Some b else block_at bs position) ≡ None → (block_at bs position ≡ None → without_block bs position ≡ bs)
-        → (if e then bs else b ∷ without_block bs position) ≡ b ∷ bs
-    by true e rest = absurd (none-some b (sym e))
-    by false e rest = ap (λ l. b ∷ l) (rest e)
-
-pub nothing_taken : (g : Generation) (position : ℕ) (r : Option (Bor CodeDescription))
-    → option_map (λ (d : Bor CodeDescription). description_view d.now) r ≡ option_map (λ (b : Block). b.description) (block_at (generation_view g).blocks position)
-    → is_some r ≡ false → BlocksChanged g g (λ bs. without_block bs position)
-nothing_taken g position None same none =
-    let gone = unmapped_nothing (λ (b : Block). b.description) (block_at (generation_view g).blocks position) same in
-    record { says = ap (having (generation_view g)) (sym (no_block_taken (generation_view g).blocks position gone)) }
-nothing_taken g position (Some d) same none = cc
 
 module _ (items : List Generation) (at : ℕ) (g changed : Generation) (here : slice_get items at ≡ Some g) where
   there : slice_get (map generation_view items) at ≡ Some (generation_view g)

@@ -1,19 +1,19 @@
 -- What is read in the bytes of the store is what places hold.
-use Rattle.std.proofs.Common.{◌≡◌, ℕ, ◌+◌, ◌≤◌, true, List, [], ◌∷◌, length, get_or, Option, None, Some, IfSome, MatchOption, Bor, sym, ap, ◌∙◌, arith}
-use Rattle.std.proofs.lemmas.Option.{IfSome_then}
-use Rattle.pli_bytes.specs.Contents.{value_in}
+use Rattle.std.proofs.Common.{◌≡◌, ◌≢◌, ℕ, ◌+◌, ◌≤◌, true, List, [], ◌∷◌, length, get_or, Option, None, Some, MatchOption, Bor, refl, sym, ap, ◌∙◌, arith}
+use Rattle.pli_bytes.specs.Contents.{bytes_from, value_in}
 use Rattle.pli_map.specs.Description.{Description}
 use Rattle.pli_map.specs.Scalars.{is_scalar}
 use Rattle.pli_map.specs.Sizes.{size_of}
 use Rattle.pli_value.specs.Value.{Value, Characters}
 use Rattle.pli_world.specs.Storage as plain
 use Rattle.pli_world.specs.World.{World, Yields, held}
-use Rattle.pli_store.specs.answers.Found.{LeadsTo}
+use Rattle.pli_store.specs.answers.Found.{LeadsTo, LeadsToNone}
+use Rattle.pli_store.specs.answers.Kinds.{are_characters}
 use Rattle.pli_store.specs.declared.generation.Generation.{Generation}
 use Rattle.pli_store.specs.declared.part.GenerationPart.{GenerationPart}
 use Rattle.pli_store.specs.declared.storage.Storage.{Storage}
 use Rattle.pli_store.specs.views.StorageView.{storage_view, with_storage}
-use Rattle.pli_store.proofs.HeldScalars.{scalar_of_text}
+use Rattle.pli_store.proofs.HeldScalars.{characters_of, scalar_of_text}
 use Rattle.pli_store.proofs.PartAnswers.{held_scalar}
 use Rattle.pli_store.proofs.StandingParts.{bytes_within, read_there, held_there}
 
@@ -49,7 +49,10 @@ module _ (s : Storage) (p : plain.Place) (part : GenerationPart) (l : LeadsTo (s
       (ap (λ (e : Description). value_in bytes (record { offset = part.offset; description = e })) is ∙ found))
 
   pub text_read : (r : Option (Bor (List ℕ)))
-      → IfSome r (λ text. value_in bytes (record { offset = part.offset; description = p.description }) ≡ Characters text.now)
-      → (w : World) → IfSome r (λ text. held p (with_storage s w) ≡ Yields (Characters text.now) (with_storage s w))
-  text_read r found w =
-      IfSome_then r found (λ text value. value_read (Characters text.now) (scalar_of_text p.description _ text.now value) value w)
+      → MatchOption r (part.offset + size_of p.description ≤ length bytes → (text : List ℕ) → value_in bytes (record { offset = part.offset; description = p.description }) ≢ Characters text)
+      (λ text. value_in bytes (record { offset = part.offset; description = p.description }) ≡ Characters text.now)
+      → (w : World) → MatchOption r (are_characters p.description ≡ true → LeadsToNone (storage_view s) p) (λ text. held p (with_storage s w) ≡ Yields (Characters text.now) (with_storage s w))
+  text_read None found w = λ are.
+      let held = characters_of p.description are (bytes_from part.offset (size_of p.description) bytes) in
+      absurd (found (within p.description refl) held.0 held.1)
+  text_read (Some text) found w = value_read (Characters text.now) (scalar_of_text p.description _ text.now found) found w

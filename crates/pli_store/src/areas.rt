@@ -9,7 +9,7 @@ ghost use Rattle.pli_world.specs.Areas.{allocated_in, assigned, emptied, without
 ghost use Rattle.pli_world.specs.Storage.{with_blocks};
 ghost use Rattle.pli_world.specs.World.{World};
 ghost use Rattle.pli_store.specs.answers.Answered.{Answered};
-ghost use Rattle.pli_store.specs.answers.Begins.{Begins};
+ghost use Rattle.pli_store.specs.answers.Begins.{Begins, BeginsWith};
 ghost use Rattle.pli_store.specs.answers.Blocks.{AreaFound, AreaLeads};
 
 use crate::blocks::{area_with, end_block, end_blocks, is_exceeded, place_block, put_area};
@@ -82,9 +82,32 @@ impl<'m> Storage<'m> {
         let Some(bytes) = initial else {
             return Err(StoreFault::NoRule);
         };
-        let at = self.area_at(area)?;
-        let placed = place_block(&mut self.generations[at], description, &bytes)?;
+        let made = self.allocate_copy_in(area, description, &bytes);
         self.spare.keep(bytes);
+        made
+    }
+
+    /// ALLOCATE of a BASED variable in an area: a block of this description, which begins with a copy of these bytes,
+    /// and the pointer to it. Errors as where the area is used, `Area` where no position fits, and `OutOfMemory`. After
+    /// an error nothing has changed. Takes memory only where no block of the area had the description before.
+    pub fn allocate_copy_in(
+        &mut self,
+        area: Place<'_>,
+        description: &'m Description,
+        bytes: &[u8],
+    ) -> Result<Locator, StoreFault>
+        requires { length bytes.now ≡ size_of (description_view description.now) }
+        ensures answer { (w : World) (vs : List plain.Value) → BeginsWith (description_view description.now) bytes.now vs
+            → Answered (λ locator. locator) result (with_storage self.old w) (with_storage self.new w)
+            (allocated_in (place_view area.entry) (record {
+              description = description_view description.now;
+              initial = vs;
+            })
+            (with_storage self.old w)) }
+        ensures err { OnErr result (SameStorage self.old self.new) }
+    {
+        let at = self.area_at(area)?;
+        let placed = place_block(&mut self.generations[at], description, bytes)?;
         match placed {
             Some(position) => Ok(Locator::Pointer {
                 generation: area.generation,
@@ -118,14 +141,15 @@ impl<'m> Storage<'m> {
         Err(StoreFault::OutOfMemory)
     }
 
-    /// The block at a position of a generation ends; where none lives there, nothing changes.
-    pub fn free_block(&mut self, generation: u32, position: u32)
-        ensures storage { storage_view self.new ≡ with_blocks (storage_view self.old) generation (λ bs.
-            without_block bs position) }
+    /// The block at the position of a place ends; where none lives there, nothing changes. No search is needed where
+    /// the generation stands where it stood as the place was made.
+    pub fn free_block(&mut self, block: Place<'_>)
+        ensures storage { let p = place_view block.entry in storage_view self.new
+            ≡ with_blocks (storage_view self.old) p.generation (λ bs. without_block bs p.position) }
         ensures made { made_count self.new ≡ made_count self.old }
     {
-        if let Some(at) = self.find(generation, self.even_guess(generation)) {
-            end_block(&mut self.generations[at], position);
+        if let Some(at) = self.find(block.generation, block.hint as usize) {
+            end_block(&mut self.generations[at], block.position);
         }
     }
 

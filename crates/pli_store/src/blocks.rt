@@ -89,9 +89,6 @@ pub fn place_block<'m>(
 pub fn end_block(generation: &mut Generation<'_>, position: u32)
     ensures { BlocksChanged generation.old generation.new (λ bs. without_block bs position) }
 {
-    if whole_at(generation, position).is_none() {
-        return;
-    }
     if let Some(area) = &mut generation.area {
         area.take(position);
     }

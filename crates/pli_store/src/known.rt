@@ -1,5 +1,5 @@
 //! Parts that are known to stand in a whole, found by a pointer to that.
-ghost use Rattle.std.specs.Prelude.{◌≡◌, ◌≤◌, true, false, IfSome, IfNone, MatchOption};
+ghost use Rattle.std.specs.Prelude.{◌≡◌, ℕ, ◌≤◌, true, false, IfSome, IfNone, MatchOption};
 ghost use Rattle.std.specs.Option.{is_some};
 ghost use Rattle.pli_map.specs.Scalars.{first_scalar};
 ghost use Rattle.pli_map.specs.views.DescriptionView.{description_view};
@@ -50,7 +50,7 @@ impl<'m> KnownPart<'m> {
 }
 
 impl<'m> Storage<'m> {
-    ghost use Rattle.pli_map.specs.Description.{Pointer};
+    ghost use Rattle.pli_map.specs.Description.{FixedBinary, Pointer};
     ghost use Rattle.pli_store.specs.answers.Known.{IsOutside, IsNotOutside, ReadBy};
     ghost use Rattle.pli_store.specs.views.StorageView.{storage_view};
     ghost use Rattle.pli_value.specs.Value.{Number, Located};
@@ -83,7 +83,10 @@ impl<'m> Storage<'m> {
     /// not lead to a generation of the whole description.
     #[inline]
     pub fn number_by(&self, locator: Locator, part: &KnownPart<'_>) -> Option<i64>
-        ensures { IfSome result (λ x. ReadBy self.now locator part.now (Number x)) }
+        ensures { MatchOption result ((precision : ℕ)
+            → description_view part.now.description.now ≡ FixedBinary precision
+            → IsNotOutside (storage_view self.now) locator (description_view part.now.whole.now))
+            (λ x. ReadBy self.now locator part.now (Number x)) }
     {
         let precision = number_precision(part.description)?;
         let at = self.outside(locator, part.whole)?;

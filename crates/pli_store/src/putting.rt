@@ -1,10 +1,10 @@
 //! Values put into generations.
-ghost use Rattle.std.specs.Prelude.{◌≡◌, ◌↔◌, ◌≤◌, ◌∷◌, [], map, true, IsTrue};
+ghost use Rattle.std.specs.Prelude.{◌≡◌, ◌↔◌, ◌≤◌, ◌∷◌, [], map, true, IsTrue, IsFalse};
 ghost use Rattle.pli_map.specs.Description.{FixedBinary, Varying, Bit, Pointer};
 ghost use Rattle.pli_map.specs.Values.{holds};
 ghost use Rattle.pli_map.specs.views.DescriptionView.{description_view};
 ghost use Rattle.pli_store.specs.answers.Found.{PartStands};
-ghost use Rattle.pli_store.specs.answers.Puts.{ValuesPut, ValuesPutOrSame, LengthenedOrSame};
+ghost use Rattle.pli_store.specs.answers.Puts.{ValuesPut, ValuesPutOrSame, LengthenedOrSame, IsTooLong};
 ghost use Rattle.pli_store.specs.views.GenerationView.{generation_view};
 ghost use Rattle.pli_value.specs.Short.{short_view};
 ghost use Rattle.pli_value.specs.Value.{value_view, Number, Bits, Located};
@@ -42,7 +42,7 @@ pub fn put_value(
     put_value_at(&mut generation.bytes, part.offset, description, value);
 }
 
-/// The same of a number of so many binary digits; `false` where they have no room for it.
+/// The same of a number of so many binary digits, for which there always is room; for one of more there may be none.
 #[inline(always)]
 pub fn put_number(
     generations: &mut Vec<Generation<'_>>,
@@ -51,9 +51,10 @@ pub fn put_number(
     number: i64,
 ) -> bool
     requires { PartStands (map generation_view generations.old.items) part (FixedBinary precision) }
-    ensures { ValuesPutOrSame result (map generation_view generations.old.items)
+    ensures put { ValuesPutOrSame result (map generation_view generations.old.items)
         (map generation_view generations.new.items)
         part (FixedBinary precision) (Number number ∷ []) }
+    ensures room { holds (FixedBinary precision) (Number number) ≡ true → IsTrue result }
 {
     let generation = &mut generations[part.at];
     put_number_at(&mut generation.bytes, part.offset, precision, number)
@@ -72,7 +73,7 @@ pub fn put_bit(generations: &mut Vec<Generation<'_>>, part: GenerationPart, bit:
     put_bit_at(&mut generation.bytes, part.offset, bit)
 }
 
-/// The same of a string of few bits; `false` where it has no room.
+/// The same of a string of few bits, for which there always is room.
 #[inline(always)]
 pub fn put_short(
     generations: &mut Vec<Generation<'_>>,
@@ -80,9 +81,10 @@ pub fn put_short(
     bits: ShortBits,
 ) -> bool
     requires { PartStands (map generation_view generations.old.items) part (Bit bits.count) }
-    ensures { ValuesPutOrSame result (map generation_view generations.old.items)
+    ensures put { ValuesPutOrSame result (map generation_view generations.old.items)
         (map generation_view generations.new.items)
         part (Bit bits.count) (Bits (short_view bits) ∷ []) }
+    ensures room { IsTrue result }
 {
     let generation = &mut generations[part.at];
     put_short_at(&mut generation.bytes, part.offset, bits)
@@ -116,9 +118,11 @@ pub fn lengthen(
     room: usize,
 ) -> bool
     requires { PartStands (map generation_view generations.old.items) part (Varying greatest) }
-    ensures { LengthenedOrSame result (map generation_view generations.old.items)
+    ensures put { LengthenedOrSame result (map generation_view generations.old.items)
         (map generation_view generations.new.items)
         part greatest more.now room }
+    ensures refused { IsFalse result
+        → IsTooLong (map generation_view generations.old.items) part greatest more.now room }
 {
     let generation = &mut generations[part.at];
     append_at(&mut generation.bytes, part.offset, greatest, more, room)

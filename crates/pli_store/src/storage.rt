@@ -1,12 +1,12 @@
 //! Storage: the generations that live.
-ghost use Rattle.std.specs.Prelude.{◌≡◌, ◌≤◌, ◌++◌, List, ◌∷◌, [], length, map, true, false, None, IfOk, IfSome};
-ghost use Rattle.std.specs.Prelude.{IsFalse, MatchOption, MatchResult, OnErr};
+ghost use Rattle.std.specs.Prelude.{◌≡◌, ◌↔◌, ℕ, ◌≤◌, ◌++◌, List, ◌∷◌, [], length, map, true, false, None, IfOk};
+ghost use Rattle.std.specs.Prelude.{IsTrue, IsFalse, IfSome, MatchOption, MatchResult, OnErr};
 ghost use Rattle.std.specs.Option.{option_map};
 ghost use Rattle.pli_bytes.specs.Contents.{values_of};
 ghost use Rattle.pli_map.specs.Description.{Bit, FixedBinary, Pointer};
 ghost use Rattle.pli_map.specs.Scalars.{scalars_of};
 ghost use Rattle.pli_map.specs.Sizes.{size_of};
-ghost use Rattle.pli_map.specs.Values.{are_held};
+ghost use Rattle.pli_map.specs.Values.{are_held, holds};
 ghost use Rattle.pli_map.specs.views.DescriptionView.{description_view};
 ghost use Rattle.pli_value.specs.Short.{short_view};
 ghost use Rattle.pli_value.specs.Value as plain;
@@ -18,6 +18,7 @@ ghost use Rattle.pli_store.specs.answers.Answered.{Answered};
 ghost use Rattle.pli_store.specs.answers.Begins.{Begins, BeginsWith};
 ghost use Rattle.pli_store.specs.answers.Found.{StandsAt, Leads, LeadsTo, LeadsToNone};
 ghost use Rattle.pli_store.specs.answers.Kept.{rise};
+ghost use Rattle.pli_store.specs.answers.Kinds.{are_characters};
 ghost use Rattle.pli_store.specs.views.GenerationView.{generation_view, made_view};
 
 use crate::bits::bit_at;
@@ -66,8 +67,8 @@ pub struct Storage<'m> {
 
 impl<'m> Storage<'m> {
     ghost use Rattle.pli_store.specs.views.StorageView.{place_view, target_view, storage_view, made_count};
-    ghost use Rattle.pli_store.specs.views.StorageView.{with_storage, NumberPut, ValuePut, CannotPut, Appended, RoomFor};
-    ghost use Rattle.pli_store.specs.views.StorageView.{SameStorage};
+    ghost use Rattle.pli_store.specs.views.StorageView.{with_storage, NumberPut, CannotPutNumber, ValuePut, CannotPut};
+    ghost use Rattle.pli_store.specs.views.StorageView.{Appended, CannotAppend, RoomFor, SameStorage};
 
     /// Storage in which nothing lives, before anything was made.
     pub fn new(alloc: Global) -> Storage<'m>
@@ -230,7 +231,8 @@ impl<'m> Storage<'m> {
     #[inline(never)]
     fn walked_number(&self, place: Place<'_>, precision: u8) -> Option<i64>
         requires { description_view place.description.now ≡ FixedBinary precision }
-        ensures { (w : World) → IfSome result (λ x. held (place_view place.entry) (with_storage self.now w)
+        ensures { (w : World) → MatchOption result (LeadsToNone (storage_view self.now) (place_view place.entry))
+            (λ x. held (place_view place.entry) (with_storage self.now w)
             ≡ Yields (Number x) (with_storage self.now w)) }
     {
         match self.part(place) {
@@ -244,7 +246,8 @@ impl<'m> Storage<'m> {
     #[inline(never)]
     fn far_number(&self, place: Place<'_>, precision: u8) -> Option<i64>
         requires { description_view place.description.now ≡ FixedBinary precision }
-        ensures { (w : World) → IfSome result (λ x. held (place_view place.entry) (with_storage self.now w)
+        ensures { (w : World) → MatchOption result (LeadsToNone (storage_view self.now) (place_view place.entry))
+            (λ x. held (place_view place.entry) (with_storage self.now w)
             ≡ Yields (Number x) (with_storage self.now w)) }
     {
         match self.number_part(place, precision) {
@@ -257,7 +260,10 @@ impl<'m> Storage<'m> {
     /// of which `held` tells. That of a number alone is found at once.
     #[inline(always)]
     pub fn number_at(&self, place: Place<'_>) -> Option<i64>
-        ensures { (w : World) → IfSome result (λ x. held (place_view place.entry) (with_storage self.now w)
+        ensures { (w : World) → MatchOption result ((precision : ℕ)
+            → description_view place.entry.description.now ≡ FixedBinary precision
+            → LeadsToNone (storage_view self.now) (place_view place.entry))
+            (λ x. held (place_view place.entry) (with_storage self.now w)
             ≡ Yields (Number x) (with_storage self.now w)) }
     {
         let precision = number_precision(place.description)?;
@@ -291,7 +297,8 @@ impl<'m> Storage<'m> {
     fn short_in(&self, place: Place<'_>, count: usize) -> Option<ShortBits>
         requires length { description_view place.description.now ≡ Bit count }
         requires few { count ≤ 63 }
-        ensures { (w : World) → IfSome result (λ s. held (place_view place.entry) (with_storage self.now w)
+        ensures { (w : World) → MatchOption result (LeadsToNone (storage_view self.now) (place_view place.entry))
+            (λ s. held (place_view place.entry) (with_storage self.now w)
             ≡ Yields (Bits (short_view s)) (with_storage self.now w)) }
     {
         match self.scalar_part(place) {
@@ -304,7 +311,10 @@ impl<'m> Storage<'m> {
     /// for a place in a block, of which `held` tells. Those of a string alone are found at once.
     #[inline]
     pub fn short_at(&self, place: Place<'_>) -> Option<ShortBits>
-        ensures { (w : World) → IfSome result (λ s. held (place_view place.entry) (with_storage self.now w)
+        ensures { (w : World) → MatchOption result ((count : ℕ) → count ≤ 63
+            → description_view place.entry.description.now ≡ Bit count
+            → LeadsToNone (storage_view self.now) (place_view place.entry))
+            (λ s. held (place_view place.entry) (with_storage self.now w)
             ≡ Yields (Bits (short_view s)) (with_storage self.now w)) }
     {
         match short_length(place.description) {
@@ -349,7 +359,10 @@ impl<'m> Storage<'m> {
     /// for a place in a block, of which `held` tells.
     #[inline]
     pub fn text_at(&self, place: Place<'_>) -> Option<&[u8]>
-        ensures { (w : World) → IfSome result (λ text. held (place_view place.entry) (with_storage self.now w)
+        ensures { (w : World) → MatchOption result
+            (are_characters (description_view place.entry.description.now) ≡ true
+            → LeadsToNone (storage_view self.now) (place_view place.entry))
+            (λ text. held (place_view place.entry) (with_storage self.now w)
             ≡ Yields (Characters text.now) (with_storage self.now w)) }
     {
         match self.part(place) {
@@ -367,7 +380,8 @@ impl<'m> Storage<'m> {
     /// why.
     #[inline]
     pub fn append(&mut self, place: Place<'_>, more: &[u8], room: usize) -> bool
-        ensures { Appended result self.old self.new (place_view place.entry) more.now room }
+        ensures put { Appended result self.old self.new (place_view place.entry) more.now room }
+        ensures refused { IsFalse result → CannotAppend self.old (place_view place.entry) more.now room }
     {
         let Some(greatest) = greatest_length(place.description) else {
             return false;
@@ -409,7 +423,8 @@ impl<'m> Storage<'m> {
     ) -> bool
         requires precision { description_view place.description.now ≡ FixedBinary precision }
         requires leads { LeadsTo (storage_view self.old) (place_view place) part }
-        ensures { NumberPut result self.old self.new (place_view place.entry) number }
+        ensures put { NumberPut result self.old self.new (place_view place.entry) number }
+        ensures held { IsTrue result ↔ ((precision ≤ 63) × (holds (FixedBinary precision) (Number number) ≡ true)) }
     {
         if !holds_number(precision, number) {
             return false;
@@ -421,7 +436,8 @@ impl<'m> Storage<'m> {
     #[inline(never)]
     fn put_walked_number(&mut self, place: Place<'_>, precision: u8, number: i64) -> bool
         requires { description_view place.description.now ≡ FixedBinary precision }
-        ensures { NumberPut result self.old self.new (place_view place.entry) number }
+        ensures put { NumberPut result self.old self.new (place_view place.entry) number }
+        ensures refused { IsFalse result → CannotPutNumber self.old (place_view place.entry) number }
     {
         match self.part(place) {
             Ok(part) => self.put_number_in(place, part, precision, number),
@@ -434,7 +450,8 @@ impl<'m> Storage<'m> {
     #[inline(never)]
     fn put_far_number(&mut self, place: Place<'_>, precision: u8, number: i64) -> bool
         requires { description_view place.description.now ≡ FixedBinary precision }
-        ensures { NumberPut result self.old self.new (place_view place.entry) number }
+        ensures put { NumberPut result self.old self.new (place_view place.entry) number }
+        ensures refused { IsFalse result → CannotPutNumber self.old (place_view place.entry) number }
     {
         match self.number_part(place, precision) {
             Some(part) => self.put_number_in(place, part, precision, number),
@@ -442,11 +459,12 @@ impl<'m> Storage<'m> {
         }
     }
 
-    /// A number put at the place of a scalar; where it is not, nothing has changed, and `stored` tells why. That of a
-    /// number alone is found at once.
+    /// A number put at the place of a scalar of at most 63 binary digits; where it is not, nothing has changed, and
+    /// `stored` tells why. That of a number alone is found at once.
     #[inline(always)]
     pub fn put_number(&mut self, place: Place<'_>, number: i64) -> bool
-        ensures { NumberPut result self.old self.new (place_view place.entry) number }
+        ensures put { NumberPut result self.old self.new (place_view place.entry) number }
+        ensures refused { IsFalse result → CannotPutNumber self.old (place_view place.entry) number }
     {
         let Some(precision) = number_precision(place.description) else {
             return false;
@@ -491,7 +509,8 @@ impl<'m> Storage<'m> {
     /// why. At a string alone they are put at once.
     #[inline]
     pub fn put_short(&mut self, place: Place<'_>, bits: ShortBits) -> bool
-        ensures { ValuePut result self.old self.new (place_view place.entry) (Bits (short_view bits)) }
+        ensures put { ValuePut result self.old self.new (place_view place.entry) (Bits (short_view bits)) }
+        ensures refused { IsFalse result → CannotPut self.old (place_view place.entry) (Bits (short_view bits)) }
     {
         if !is_of_bits(place.description, bits.count) {
             return false;

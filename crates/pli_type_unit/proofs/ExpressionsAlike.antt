@@ -19,20 +19,21 @@ use Rattle.pli_type.specs.declared.expression_type.ExpressionType.{ExpressionTyp
 use Rattle.pli_type.specs.Faults.{or_fault}
 use Rattle.pli_type.specs.FunctionCalls as functions
 use Rattle.pli_type.specs.FunctionCalls.{Argument, Denoted, DenotesVariable, DenotesResult, DenotesEmpty, Meant, OneValue, WholeAggregate, meant_as}
-use Rattle.pli_type.specs.Names.{NamedProcedure, NamedAs, AVariable, AFunction, AProcedure, ALabel, Untyped, Naming}
+use Rattle.pli_type.specs.Names.{NamedProcedure, NamedAs, AVariable, AFunction, AProcedure, ALabel, Untyped}
 use Rattle.pli_type.specs.ProcedureCalls as calls
 use Rattle.pli_type.specs.ProcedureCalls.{handed}
 use Rattle.pli_type.specs.References.{Role, AsValue, AsArgument, AsLocator, LocatorBefore, NotLocated}
 use Rattle.pli_type.specs.Typing as old
 use Rattle.pli_type.specs.Typing.{Segment, OfVariable, OfFunction, OfEmpty, OfNoVariable, as_locator, first_token}
 use Rattle.pli_type.specs.Typing.{given_by, how_many, is_call, with_more}
-use Rattle.pli_type.specs.declared.beginning.Beginning.{Beginning}
-use Rattle.pli_type_tree.specs.Templates.{Template}
 use Rattle.pli_type_tree.specs.TypedTree.{ByPlace, Called, TypedArguments, TypedExpression, TypedReference}
 use Rattle.pli_type_unit.specs.BuiltIns as built_in
+use Rattle.pli_type_unit.specs.Contexts.{Context, meaning_in}
 use Rattle.pli_type_unit.specs.Expressions as new
 use Rattle.pli_type_unit.specs.Values as values
 use Rattle.pli_type_unit.proofs.BuiltInsAlike.{value_alike, one_alike, roles_alike, arguments_alike}
+use Rattle.pli_type_unit.proofs.NamedUnits.{naming}
+use Rattle.pli_type_unit.proofs.PassingAlike.{agrees_alike}
 use Rattle.pli_type_unit.proofs.ValuesAlike.{constant_alike, prefix_alike, infix_alike, converted_alike, placed_alike}
 use Rattle.pli_type_unit.proofs.VariablesAlike.{variable_alike}
 
@@ -42,7 +43,8 @@ then_alike {A} {B} {x} {y} {f} {g} e h = ap (λ (r : Result A Fault). r >>= f) e
 -- calls of procedures
 
 place_alike : (t : ParameterType) (d : Denoted) (more : TypedArguments) → new.by_place t d more ≡ option_map (λ place. ByPlace place more) (calls.passed_place t d)
-place_alike t (DenotesVariable r) more = refl
+place_alike t (DenotesVariable r) more =
+    ap (λ b. option_map (λ place. ByPlace place more) (if b then calls.place_of r.reference r.description else None)) (agrees_alike t r.description)
 place_alike t (DenotesResult value) more = refl
 place_alike t DenotesEmpty more = refl
 
@@ -137,12 +139,9 @@ alone_alike named.Empty at = refl
 alone_alike named.Pointer at = refl
 alone_alike named.Offset at = refl
 
-module _ (based : (block : ℕ) → List Template) (areas : (block : ℕ) → Option Beginning) (meaning : (at : ℕ) → NamedAs) where
-  abbrev pub naming : Naming
-  naming = record { greatest = 63; based = based; returned_area = areas; meaning = meaning }
-
+module _ (c : Context) where
   mutual
-    pub denoted_alike : (role : Role) (e : Expression) → new.denoted naming role e ≡ old.denoted naming role e
+    pub denoted_alike : (role : Role) (e : Expression) → new.denoted c role e ≡ old.denoted (naming c) role e
     denoted_alike role (Referred reference) = referred_alike role reference
     denoted_alike role (Constant at value) = ap (λ v. Ok (DenotesResult v)) (constant_alike value)
     denoted_alike role (Parenthesized at inner) = then_alike (value_found (first_token inner) (denoted_alike AsValue inner)) (λ v. refl)
@@ -154,26 +153,26 @@ module _ (based : (block : ℕ) → List Template) (areas : (block : ℕ) → Op
         (λ v. then_alike (value_found (first_token right) (denoted_alike AsValue right))
         (λ w. ap (λ o. or_fault WrongOperandType at o >>= λ u. Ok (DenotesResult u)) (infix_alike operator v w)))
 
-    pub referred_alike : (role : Role) (r : Reference) → new.referred naming role r ≡ old.referred naming role r
+    pub referred_alike : (role : Role) (r : Reference) → new.referred c role r ≡ old.referred (naming c) role r
     referred_alike role (Named name arguments more) =
-        then_alike (begun_alike (meaning name.at) (is_call role false more) NotLocated name.at arguments) (λ s. joined_alike role s more)
+        then_alike (begun_alike (meaning_in c name.at) (is_call role false more) NotLocated name.at arguments) (λ s. joined_alike role s more)
 
-    joined_alike : (role : Role) (s : Segment) (more : JoinedParts) → new.joined naming role s more ≡ old.joined naming role s more
+    joined_alike : (role : Role) (s : Segment) (more : JoinedParts) → new.joined c role s more ≡ old.joined (naming c) role s more
     joined_alike role s Alone = ended_alike role s
     joined_alike role s (Joined Member name arguments more) = then_alike (subscripts_alike arguments) (λ xs. joined_alike role (with_more s xs) more)
     joined_alike role s (Joined Located name arguments more) =
         then_alike (ended_alike AsLocator s)
-        (λ l. then_alike (begun_alike (meaning name.at) (is_call role true more) (as_locator l) name.at arguments) (λ t. joined_alike role t more))
+        (λ l. then_alike (begun_alike (meaning_in c name.at) (is_call role true more) (as_locator l) name.at arguments) (λ t. joined_alike role t more))
 
     begun_alike : (m : NamedAs) (call : Bool) (locator : LocatorBefore) (at : ℕ) (arguments : Arguments)
-        → new.begun naming m call locator at arguments ≡ old.begun naming m call locator at arguments
+        → new.begun c m call locator at arguments ≡ old.begun (naming c) m call locator at arguments
     begun_alike (AVariable v) call locator at (Given list) = then_alike (all_subscripts_alike list) (λ xs. refl)
     begun_alike (AVariable v) call locator at Absent = refl
     begun_alike (AFunction f) true locator at Absent = ap Ok (alone_alike f at)
     begun_alike (AFunction f) true locator at (Given list) =
         then_alike
         (all_arguments_alike (unwrap_or (built_in.roles_asked f (how_many list)) []) list
-        ∙ ap (λ roles. old.all_arguments naming roles list)
+        ∙ ap (λ roles. old.all_arguments (naming c) roles list)
         (ap (λ o. unwrap_or o []) (roles_alike f (how_many list)) ∙ no_roles (functions.roles_of f (how_many list))))
         (λ gs. ap (λ o. or_fault WrongNumberOfArguments at o >>= λ (roles : List Role). or_fault WrongBuiltInArgument at (built_in.of_arguments f gs) >>= λ v. Ok (given_by f v)) (roles_alike f (how_many list))
         ∙ function_alike f at gs (functions.roles_of f (how_many list)))
@@ -190,22 +189,22 @@ module _ (based : (block : ℕ) → List Template) (areas : (block : ℕ) → Op
     begun_alike Untyped call locator at (Given list) = then_alike (all_arguments_alike [] list) (λ gs. refl)
     begun_alike Untyped call locator at Absent = refl
 
-    subscripts_alike : (arguments : Arguments) → new.subscripts_in naming arguments ≡ old.subscripts_in naming arguments
+    subscripts_alike : (arguments : Arguments) → new.subscripts_in c arguments ≡ old.subscripts_in (naming c) arguments
     subscripts_alike Absent = refl
     subscripts_alike (Given list) = all_subscripts_alike list
 
-    all_subscripts_alike : (list : Expressions) → new.all_subscripts naming list ≡ old.all_subscripts naming list
+    all_subscripts_alike : (list : Expressions) → new.all_subscripts c list ≡ old.all_subscripts (naming c) list
     all_subscripts_alike Empty = refl
     all_subscripts_alike (Listed first more) =
         then_alike (value_found (first_token first) (denoted_alike AsValue first))
         (λ v. then_alike refl (λ x. then_alike (all_subscripts_alike more) (λ xs. refl)))
 
-    pub all_arguments_alike : (roles : List Role) (list : Expressions) → new.all_arguments naming roles list ≡ old.all_arguments naming roles list
+    pub all_arguments_alike : (roles : List Role) (list : Expressions) → new.all_arguments c roles list ≡ old.all_arguments (naming c) roles list
     all_arguments_alike roles Empty = refl
     all_arguments_alike [] (Listed first more) =
         then_alike (denoted_alike AsArgument first) (λ d. then_alike (all_arguments_alike [] more) (λ gs. refl))
     all_arguments_alike (role ∷ roles) (Listed first more) =
         then_alike (denoted_alike role first) (λ d. then_alike (all_arguments_alike roles more) (λ gs. refl))
 
-  pub found_alike : (e : Expression) → new.value_of naming e ≡ old.value_of naming e
+  pub found_alike : (e : Expression) → new.value_of c e ≡ old.value_of (naming c) e
   found_alike e = value_found (first_token e) (denoted_alike AsValue e)

@@ -20,7 +20,7 @@ use Rattle.pli_type.specs.Checked.{checked}
 use Rattle.pli_type_unit.proofs.SymbolsAlike.{IsAlike, AreAlike, AreStored, IsGiven}
 use Rattle.pli_type_unit.proofs.StatementsAlike.{typed_alike}
 use Rattle.pli_type_unit.proofs.UnitsAlike.{unit_alike}
-use Rattle.pli_type_unit.specs.UnitNames.{has_area, have_area, typed_unit}
+use Rattle.pli_type_unit.specs.UnitNames.{has_area, have_area}
 use Rattle.pli_type_unit.specs.laws.UnitLaws.{UnitsAreChecked}
 
 -- ---- descriptions
@@ -148,7 +148,7 @@ one_block (ss ∷ more) (suc block) h = one_block more block h.1
 -- ---- units
 
 pub units_are_checked : UnitsAreChecked
-unfolding typed_unit checked_unit
+unfolding checked_unit
 units_are_checked u none =
     let all : AllByRecursion AreAlike (all_symbols (resolved_unit_of u)) = blocks_alike (all_symbols (resolved_unit_of u)) (symbols_are_limited u none) in
     typed_alike (resolved_unit_of u)

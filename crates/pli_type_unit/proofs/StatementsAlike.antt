@@ -1,13 +1,17 @@
 -- Typed statements and units, as the type checker finds them.
-use Rattle.std.specs.Prelude.{◌≡◌, ℕ, ◌+◌, Bool, true, false, not, ◌&&◌, Option, Some, None, is_none, option_map, option_and_then, refl, List, [], ◌∷◌, slice_get, Result, Ok, Err, if◌then◌else◌}
+use Rattle.std.specs.Prelude.{◌≡◌, ℕ, ◌+◌, Bool, true, false, not, ◌&&◌, Option, Some, None, is_none, option_map, option_and_then, refl, List, [], ◌∷◌, ◌++◌, map, slice_get, suc, nat_eq, ◌||◌, Result, Ok, Err, if◌then◌else◌}
+use Rattle.std.specs.List.{list_any}
 use Rattle.std.proofs.Common.{ap, sym, ◌∙◌}
+use Rattle.std.proofs.Math.Path.{fun_ext}
+use Rattle.std.proofs.lemmas.List.Folds.{list_any-append}
+use Rattle.std.proofs.lemmas.Option.{slice_get-map}
 use Rattle.pli_base.specs.Results.{◌>>=◌}
 use Rattle.pli_base.specs.Reading.{at_fault}
 use Rattle.pli_base.specs.Statements as tree
 use Rattle.pli_base.specs.Statements.{Range, Statement, Numbered, Body, Assign, Declare, Statements, Allocation, Before, Ended, Alternative}
 use Rattle.pli_base.specs.Syntax.{Expression, Reference, Arguments, Absent, Given}
 use Rattle.pli_base.specs.declared.code.Code.{Code}
-use Rattle.pli_base.specs.declared.code.Code.TheVariants.{NotAVariable, CannotAssign, NotCallableHere, CannotPrint, WrongReturn, BadControlVariable, CannotAllocateOrFree}
+use Rattle.pli_base.specs.declared.code.Code.TheVariants.{NotAVariable, CannotAssign, NotCallableHere, CannotPrint, WrongReturn, BadControlVariable, BadGoto, CannotAllocateOrFree}
 use Rattle.pli_base.specs.declared.syntax.Identifier.{Identifier}
 use Rattle.pli_base.specs.declared.token.Fault.{Fault}
 use Rattle.pli_map.specs.Description.{Description, Members, FixedBinary, Character, Varying, Bit, Pointer, Offset, Area, Array, Structure}
@@ -25,8 +29,8 @@ use Rattle.pli_type.specs.FunctionCalls.{Argument, Denoted, DenotesVariable, Den
 use Rattle.pli_type.specs.Names.{AVariable, AProcedure, AFunction, ALabel, Untyped, LocatorVariable, NamedAs, NamedProcedure, NamedStorage, Begins, IsBased, Naming, NamedUnit}
 use Rattle.pli_type.specs.References.{Role, AsArgument, AsLocator, AsTarget, AsValue, Referent}
 use Rattle.pli_type.specs.StatementTyping as old
-use Rattle.pli_type.specs.StatementTyping.{Surroundings, WithProcedures, are_alike, area_here, as_procedure, block_at, has_locator, suits_range, without_subscripts}
-use Rattle.pli_type.specs.StatementTyping.{area_put, head_of, in_begin, in_group, in_on_unit, in_procedure, inside, listed, made, naming_at, of_own, on_unit_of, procedure_of, together, after_limits, alone}
+use Rattle.pli_type.specs.StatementTyping.{Surroundings, WithProcedures, are_alike, area_here, as_procedure, has_locator, suits_range, without_subscripts}
+use Rattle.pli_type.specs.StatementTyping.{Enclosing, after_limits, alone, area_put, enclosing, head_of, inside, labels_of, leaves_nothing, listed, made, of_own, on_unit_of, only, procedure_of, together}
 use Rattle.pli_type.specs.Temporaries.{Next, next_after}
 use Rattle.pli_type.specs.Typing as expressions
 use Rattle.pli_type.specs.Typing.{first_token, own_token}
@@ -34,15 +38,18 @@ use Rattle.pli_type.specs.declared.beginning.Beginning.{Beginning}
 use Rattle.pli_type_tree.specs.Extents.{is_area_type}
 use Rattle.pli_type_tree.specs.Templates.{Template}
 use Rattle.pli_type_tree.specs.TypedTree as typed
-use Rattle.pli_type_tree.specs.TypedTree.{Form, Iteration, InSlot, OfProgram, NewestOf, Located, TypedArguments, TypedExpression, TypedRange, TypedReference, TypedStatement, TypedStatements, OtherWise, NoStatement}
+use Rattle.pli_type_tree.specs.TypedTree.{Form, Iteration, InSlot, OfProgram, NewestOf, Located, TypedArguments, TypedExpression, TypedRange, TypedReference, TypedStatement, TypedProcedure, TypedStatements, OtherWise, NoStatement, StatementThen}
 use Rattle.pli_type_unit.specs.BuiltIns.{referent_in}
 use Rattle.pli_type_unit.specs.Expressions as reading
 use Rattle.pli_type_unit.specs.Expressions.{suited}
 use Rattle.pli_type_unit.specs.Actions as new
 use Rattle.pli_type_unit.specs.Statements as walk
-use Rattle.pli_type_unit.specs.UnitNames.{unit_named}
+use Rattle.pli_type_unit.specs.Contexts.{Context, Labels, after, in_group, meaning_in}
+use Rattle.pli_type_unit.specs.UnitNames.{area_named, is_automatic, is_based, returns_at, templates_in}
+use Rattle.pli_type_unit.proofs.NamedUnits.{naming, unit_named}
+use Rattle.pli_type_unit.proofs.NumbersAlike.{after_alike, own_alike}
 use Rattle.pli_type_unit.specs.Values.{conversion, converted, printed}
-use Rattle.pli_type_unit.proofs.ExpressionsAlike.{naming, then_alike, passing_alike, denoted_alike, referred_alike, all_arguments_alike, found_alike}
+use Rattle.pli_type_unit.proofs.ExpressionsAlike.{then_alike, passing_alike, denoted_alike, referred_alike, all_arguments_alike, found_alike}
 use Rattle.pli_type_unit.proofs.ValuesAlike.{conversion_alike, converted_alike, placed_alike, printed_alike}
 
 bind_bind : {A B C : Type 0} (x : Result A Fault) (f : A → Result B Fault) (g : B → Result C Fault) → ((x >>= f) >>= g) ≡ (x >>= λ a. f a >>= g)
@@ -180,26 +187,26 @@ placed_by_alike temporary area None l = refl
 placed_by_alike temporary area (Some t) None = refl
 placed_by_alike temporary area (Some t) (Some locator) = refl
 
-taken_in_alike : (n : Naming) (temporary : ℕ) (storage : NamedStorage) (path : List ℕ) (area target : Option Referent)
-    → new.taken_in n temporary storage path area target ≡ allocation.taken_in n temporary storage path area target
-taken_in_alike n temporary (Begins (InSlot outward slot) passed) path area target = refl
-taken_in_alike n temporary (Begins (OfProgram number) passed) path area target = refl
-taken_in_alike n temporary (Begins (Located locator whole) passed) path area target = refl
-taken_in_alike n temporary (Begins (NewestOf number) passed) [] None None = refl
-taken_in_alike n temporary (Begins (NewestOf number) passed) [] None (Some target) = refl
-taken_in_alike n temporary (Begins (NewestOf number) passed) [] (Some area) target = refl
-taken_in_alike n temporary (Begins (NewestOf number) passed) (i ∷ path) area target = refl
-taken_in_alike n temporary (IsBased block number implied) [] area target =
-    placed_by_alike temporary area (slice_get (n.based block) number) (locator_set target implied)
-taken_in_alike n temporary (IsBased block number implied) (i ∷ path) area target = refl
+taken_in_alike : (c : Context) (temporary : ℕ) (storage : NamedStorage) (path : List ℕ) (area target : Option Referent)
+    → new.taken_in c temporary storage path area target ≡ allocation.taken_in (naming c) temporary storage path area target
+taken_in_alike c temporary (Begins (InSlot outward slot) passed) path area target = refl
+taken_in_alike c temporary (Begins (OfProgram number) passed) path area target = refl
+taken_in_alike c temporary (Begins (Located locator whole) passed) path area target = refl
+taken_in_alike c temporary (Begins (NewestOf number) passed) [] None None = refl
+taken_in_alike c temporary (Begins (NewestOf number) passed) [] None (Some target) = refl
+taken_in_alike c temporary (Begins (NewestOf number) passed) [] (Some area) target = refl
+taken_in_alike c temporary (Begins (NewestOf number) passed) (i ∷ path) area target = refl
+taken_in_alike c temporary (IsBased block number implied) [] area target =
+    placed_by_alike temporary area (slice_get (templates_in c.unit is_based block) number) (locator_set target implied)
+taken_in_alike c temporary (IsBased block number implied) (i ∷ path) area target = refl
 
-taken_alike : (n : Naming) (temporary : ℕ) (m : NamedAs) (area target : Option Referent)
-    → new.taken n temporary m area target ≡ allocation.taken n temporary m area target
-taken_alike n temporary (AVariable v) area target = taken_in_alike n temporary v.storage v.path area target
-taken_alike n temporary (AFunction f) area target = refl
-taken_alike n temporary (AProcedure p) area target = refl
-taken_alike n temporary (ALabel statement) area target = refl
-taken_alike n temporary Untyped area target = refl
+taken_alike : (c : Context) (temporary : ℕ) (m : NamedAs) (area target : Option Referent)
+    → new.taken c temporary m area target ≡ allocation.taken (naming c) temporary m area target
+taken_alike c temporary (AVariable v) area target = taken_in_alike c temporary v.storage v.path area target
+taken_alike c temporary (AFunction f) area target = refl
+taken_alike c temporary (AProcedure p) area target = refl
+taken_alike c temporary (ALabel statement) area target = refl
+taken_alike c temporary Untyped area target = refl
 
 -- calls and returns
 
@@ -244,30 +251,30 @@ controls_alike variable kept f (DenotesVariable r) =
 controls_alike variable kept f (DenotesResult value) = refl
 controls_alike variable kept f DenotesEmpty = refl
 
-module _ (based : (block : ℕ) → List Template) (areas : (block : ℕ) → Option Beginning) (meaning : (at : ℕ) → NamedAs) where
+module _ (c : Context) where
   abbrev n : Naming
-  n = naming based areas meaning
+  n = naming c
 
   suited_alike : {A : Type 0} (code : Code) (make made_so : TypedValue → Option A) → ((v : TypedValue) → make v ≡ made_so v) → (e : Expression)
-      → suited n code make e ≡ (expressions.value_of n e >>= λ v. or_fault code (first_token e) (made_so v))
-  suited_alike code make made_so h e = then_alike (found_alike based areas meaning e) (λ v. ap (or_fault code (first_token e)) (h v))
+      → suited c code make e ≡ (expressions.value_of n e >>= λ v. or_fault code (first_token e) (made_so v))
+  suited_alike code make made_so h e = then_alike (found_alike c e) (λ v. ap (or_fault code (first_token e)) (h v))
 
-  condition_alike : (e : Expression) → new.condition n e ≡ old.condition n e
-  condition_alike e = then_alike (found_alike based areas meaning e) (λ v. refl)
+  condition_alike : (e : Expression) → new.condition c e ≡ old.condition n e
+  condition_alike e = then_alike (found_alike c e) (λ v. refl)
 
-  item_alike : (e : Expression) → suited n CannotPrint printed e ≡ old.item n e
+  item_alike : (e : Expression) → suited c CannotPrint printed e ≡ old.item n e
   item_alike e = suited_alike CannotPrint printed types.printed printed_alike e
 
-  limit_alike : (e : Expression) → new.limit n e ≡ old.limit n e
-  limit_alike e = then_alike (found_alike based areas meaning e) (λ v. refl)
+  limit_alike : (e : Expression) → new.limit c e ≡ old.limit n e
+  limit_alike e = then_alike (found_alike c e) (λ v. refl)
 
-  limits_alike : (o : Option Range) → new.limits n o ≡ old.limits n o
+  limits_alike : (o : Option Range) → new.limits c o ≡ old.limits n o
   limits_alike None = refl
-  limits_alike (Some (tree.To to by)) = then_alike (limit_alike to) (λ x. then_alike (written_alike (new.limit n) (old.limit n) limit_alike by) (λ y. refl))
-  limits_alike (Some (tree.By by to)) = then_alike (limit_alike by) (λ x. then_alike (written_alike (new.limit n) (old.limit n) limit_alike to) (λ y. refl))
+  limits_alike (Some (tree.To to by)) = then_alike (limit_alike to) (λ x. then_alike (written_alike (new.limit c) (old.limit n) limit_alike by) (λ y. refl))
+  limits_alike (Some (tree.By by to)) = then_alike (limit_alike by) (λ x. then_alike (written_alike (new.limit c) (old.limit n) limit_alike to) (λ y. refl))
   limits_alike (Some (tree.Repeat next)) = refl
 
-  repeat_alike : (r : Referent) (range : TypedRange) (o : Option Range) → new.with_repeat n r range o ≡ old.with_repeat n r range o
+  repeat_alike : (r : Referent) (range : TypedRange) (o : Option Range) → new.with_repeat c r range o ≡ old.with_repeat n r range o
   repeat_alike r range None = refl
   repeat_alike r range (Some (tree.To to by)) = refl
   repeat_alike r range (Some (tree.By by to)) = refl
@@ -276,206 +283,305 @@ module _ (based : (block : ℕ) → List Template) (areas : (block : ℕ) → Op
       (λ v. turned_alike r.area v r.description) next
 
   iteration_alike : (temporary : ℕ) (variable : Reference) (equals : ℕ) (first : Expression) (range : Option Range) (tested : Option Expression)
-      → new.iteration n temporary variable equals first range tested ≡ old.iteration n temporary variable equals first range tested
+      → new.iteration c temporary variable equals first range tested ≡ old.iteration n temporary variable equals first range tested
   iteration_alike temporary variable equals first range tested =
-      then_alike (found_alike based areas meaning first)
+      then_alike (found_alike c first)
       (λ v. then_alike (limits_alike range)
-      (λ kept. bind_bind (reading.referred n AsLocator variable) (λ d. or_fault NotAVariable (own_token variable) (referent_in d))
+      (λ kept. bind_bind (reading.referred c AsLocator variable) (λ d. or_fault NotAVariable (own_token variable) (referent_in d))
       (λ r. (if new.may_control variable kept r then Ok r else at_fault BadControlVariable (own_token variable)) >>= λ (suits : Referent). rest v kept r)
-      ∙ then_alike (referred_alike based areas meaning AsLocator variable)
+      ∙ then_alike (referred_alike c AsLocator variable)
       (λ d. controls_alike variable kept (rest v kept) d
       ∙ then_alike refl (λ r. then_alike (ap (or_fault CannotAssign equals) (conversion_alike r.area r.description v.kind))
-      (λ convert. then_alike (written_alike (new.condition n) (old.condition n) condition_alike tested)
+      (λ convert. then_alike (written_alike (new.condition c) (old.condition n) condition_alike tested)
       (λ x. then_alike (repeat_alike r kept range) (λ turns. refl)))))))
     where
       rest : TypedValue → TypedRange → Referent → Result Iteration Fault
       rest v kept r =
           or_fault CannotAssign equals (conversion r.area r.description v.kind) >>= λ convert.
-          if_written (new.condition n) tested >>= λ x. new.with_repeat n r kept range >>= λ turns.
+          if_written (new.condition c) tested >>= λ x. new.with_repeat c r kept range >>= λ turns.
           Ok (record { control = r.reference; conversion = convert; start = unconverted r.description v; range = turns; condition = x; temporary = temporary })
 
   variable_found : {B : Type 0} (role : Role) (reference : Reference) (f g : Referent → Result B Fault) → ((r : Referent) → f r ≡ g r)
-      → (new.variable_at n role reference >>= f) ≡ (expressions.referred n role reference >>= λ d. only_variable (own_token reference) d >>= g)
+      → (new.variable_at c role reference >>= f) ≡ (expressions.referred n role reference >>= λ d. only_variable (own_token reference) d >>= g)
   variable_found role reference f g h =
-      bind_bind (reading.referred n role reference) (λ d. or_fault NotAVariable (own_token reference) (referent_in d)) f
-      ∙ then_alike (referred_alike based areas meaning role reference) (λ d. then_alike (only_alike (own_token reference) d) h)
+      bind_bind (reading.referred c role reference) (λ d. or_fault NotAVariable (own_token reference) (referent_in d)) f
+      ∙ then_alike (referred_alike c role reference) (λ d. then_alike (only_alike (own_token reference) d) h)
 
-  place_alike : (o : Option Reference) → if_written (new.variable_at n AsLocator) o ≡ allocation.place_given n o
+  place_alike : (o : Option Reference) → if_written (new.variable_at c AsLocator) o ≡ allocation.place_given n o
   place_alike None = refl
   place_alike (Some reference) = variable_found AsLocator reference (λ r. Ok (Some r)) (λ r. Ok (Some r)) (λ r. refl)
 
-  allocated_alike : (temporary : ℕ) (a : Allocation) → new.allocated n temporary a ≡ allocation.allocated n temporary a
+  allocated_alike : (temporary : ℕ) (a : Allocation) → new.allocated c temporary a ≡ allocation.allocated n temporary a
   allocated_alike temporary a =
       then_alike (place_alike a.area) (λ area. then_alike (place_alike a.target)
-      (λ target. ap (or_fault CannotAllocateOrFree a.name.at) (taken_alike n temporary (meaning a.name.at) area target)))
+      (λ target. ap (or_fault CannotAllocateOrFree a.name.at) (taken_alike c temporary (meaning_in c a.name.at) area target)))
 
-  all_allocated_alike : (temporary : ℕ) (list : List Allocation) → new.all_allocated n temporary list ≡ allocation.all_allocated n temporary list
+  all_allocated_alike : (temporary : ℕ) (list : List Allocation) → new.all_allocated c temporary list ≡ allocation.all_allocated n temporary list
   all_allocated_alike temporary [] = refl
   all_allocated_alike temporary (a ∷ others) =
       then_alike (allocated_alike temporary a) (λ x. then_alike (all_allocated_alike (temporary + kept_for x) others) (λ xs. refl))
 
-  freed_alike : (reference : Reference) → new.freed n reference ≡ allocation.freed n reference
+  freed_alike : (reference : Reference) → new.freed c reference ≡ allocation.freed n reference
   freed_alike reference =
       variable_found AsTarget reference (λ r. or_fault CannotAllocateOrFree (own_token reference) (released r.reference))
       (λ r. or_fault CannotAllocateOrFree (own_token reference) (released r.reference)) (λ r. refl)
 
-  given_alike : (arguments : Arguments) → new.arguments_typed n arguments ≡ old.arguments_typed n arguments
+  given_alike : (arguments : Arguments) → new.arguments_typed c arguments ≡ old.arguments_typed n arguments
   given_alike Absent = refl
-  given_alike (Given list) = all_arguments_alike based areas meaning [] list
+  given_alike (Given list) = all_arguments_alike c [] list
 
-  called_alike : (name : Identifier) (arguments : Arguments) → new.call_typed n name arguments ≡ old.call_typed n name arguments
-  called_alike name arguments = then_alike (given_alike arguments) (λ gs. call_alike name.at (meaning name.at) gs)
-
-  return_alike : (s : Surroundings) (at : ℕ) (o : Option Expression) → new.return_typed n s at o ≡ old.return_typed n s at o
-  return_alike s at None = refl
-  return_alike s at (Some e) =
-      then_alike (found_alike based areas meaning e) (λ v. returned_alike (area_here n s) at (first_token e) s.begins s.value v)
+  called_alike : (name : Identifier) (arguments : Arguments) → new.call_typed c name arguments ≡ old.call_typed n name arguments
+  called_alike name arguments = then_alike (given_alike arguments) (λ gs. call_alike name.at (meaning_in c name.at) gs)
 
   -- what is put into a variable of this type
   abbrev target_of : TypedReference → ParameterType → Bool → Option Beginning → Referent
   target_of reference t passed area = record { reference = reference; description = t; is_parameter = passed; area = area }
 
   put_alike : (equals : ℕ) (reference : TypedReference) (t : ParameterType) (passed : Bool) (area : Option Beginning) (e : Expression)
-      → (new.form_put n (target_of reference t passed area) e >>= or_fault CannotAssign equals) ≡ old.variable_assigned n equals (target_of reference t passed area) e
+      → (new.form_put c (target_of reference t passed area) e >>= or_fault CannotAssign equals) ≡ old.variable_assigned n equals (target_of reference t passed area) e
   put_alike equals reference (Stated (FixedBinary m)) passed area e =
-      bind_bind (reading.value_of n e) (λ v. Ok (new.value_put (target_of reference (Stated (FixedBinary m)) passed area) v)) (or_fault CannotAssign equals)
-      ∙ then_alike (found_alike based areas meaning e)
+      bind_bind (reading.value_of c e) (λ v. Ok (new.value_put (target_of reference (Stated (FixedBinary m)) passed area) v)) (or_fault CannotAssign equals)
+      ∙ then_alike (found_alike c e)
       (λ v. put_form equals (typed.Assign reference) (converted area (Stated (FixedBinary m)) v) ∙ ap (λ o. or_fault CannotAssign equals o >>= λ x. Ok (typed.Assign reference x)) (converted_alike area (FixedBinary m) v))
   put_alike equals reference (Stated (Character m)) passed area e =
-      bind_bind (reading.value_of n e) (λ v. Ok (new.value_put (target_of reference (Stated (Character m)) passed area) v)) (or_fault CannotAssign equals)
-      ∙ then_alike (found_alike based areas meaning e)
+      bind_bind (reading.value_of c e) (λ v. Ok (new.value_put (target_of reference (Stated (Character m)) passed area) v)) (or_fault CannotAssign equals)
+      ∙ then_alike (found_alike c e)
       (λ v. put_form equals (typed.Assign reference) (converted area (Stated (Character m)) v) ∙ ap (λ o. or_fault CannotAssign equals o >>= λ x. Ok (typed.Assign reference x)) (converted_alike area (Character m) v))
   put_alike equals reference (Stated (Varying m)) passed area e =
-      bind_bind (reading.value_of n e) (λ v. Ok (new.value_put (target_of reference (Stated (Varying m)) passed area) v)) (or_fault CannotAssign equals)
-      ∙ then_alike (found_alike based areas meaning e)
+      bind_bind (reading.value_of c e) (λ v. Ok (new.value_put (target_of reference (Stated (Varying m)) passed area) v)) (or_fault CannotAssign equals)
+      ∙ then_alike (found_alike c e)
       (λ v. put_form equals (typed.Assign reference) (converted area (Stated (Varying m)) v) ∙ ap (λ o. or_fault CannotAssign equals o >>= λ x. Ok (typed.Assign reference x)) (converted_alike area (Varying m) v))
   put_alike equals reference (Stated (Bit m)) passed area e =
-      bind_bind (reading.value_of n e) (λ v. Ok (new.value_put (target_of reference (Stated (Bit m)) passed area) v)) (or_fault CannotAssign equals)
-      ∙ then_alike (found_alike based areas meaning e)
+      bind_bind (reading.value_of c e) (λ v. Ok (new.value_put (target_of reference (Stated (Bit m)) passed area) v)) (or_fault CannotAssign equals)
+      ∙ then_alike (found_alike c e)
       (λ v. put_form equals (typed.Assign reference) (converted area (Stated (Bit m)) v) ∙ ap (λ o. or_fault CannotAssign equals o >>= λ x. Ok (typed.Assign reference x)) (converted_alike area (Bit m) v))
   put_alike equals reference (Stated Pointer) passed area e =
-      bind_bind (reading.value_of n e) (λ v. Ok (new.value_put (target_of reference (Stated Pointer) passed area) v)) (or_fault CannotAssign equals)
-      ∙ then_alike (found_alike based areas meaning e)
+      bind_bind (reading.value_of c e) (λ v. Ok (new.value_put (target_of reference (Stated Pointer) passed area) v)) (or_fault CannotAssign equals)
+      ∙ then_alike (found_alike c e)
       (λ v. put_form equals (typed.Assign reference) (converted area (Stated Pointer) v) ∙ ap (λ o. or_fault CannotAssign equals o >>= λ x. Ok (typed.Assign reference x)) (converted_alike area Pointer v))
   put_alike equals reference (Stated Offset) passed area e =
-      bind_bind (reading.value_of n e) (λ v. Ok (new.value_put (target_of reference (Stated Offset) passed area) v)) (or_fault CannotAssign equals)
-      ∙ then_alike (found_alike based areas meaning e)
+      bind_bind (reading.value_of c e) (λ v. Ok (new.value_put (target_of reference (Stated Offset) passed area) v)) (or_fault CannotAssign equals)
+      ∙ then_alike (found_alike c e)
       (λ v. put_form equals (typed.Assign reference) (converted area (Stated Offset) v) ∙ ap (λ o. or_fault CannotAssign equals o >>= λ x. Ok (typed.Assign reference x)) (converted_alike area Offset v))
   put_alike equals reference (Stated (Area m)) passed area e =
-      bind_bind (reading.denoted n AsValue e) (λ d. Ok (area_put (area_meant reference (Stated (Area m))) d)) (or_fault CannotAssign equals)
-      ∙ then_alike (denoted_alike based areas meaning AsValue e) (λ d. refl)
+      bind_bind (reading.denoted c AsValue e) (λ d. Ok (area_put (area_meant reference (Stated (Area m))) d)) (or_fault CannotAssign equals)
+      ∙ then_alike (denoted_alike c AsValue e) (λ d. refl)
   put_alike equals reference (Stated (Array bounds element)) passed area e =
-      bind_bind (reading.denoted n AsArgument e) (λ d. Ok (new.aggregate_put (target_of reference (Stated (Array bounds element)) passed area) d)) (or_fault CannotAssign equals)
-      ∙ then_alike (denoted_alike based areas meaning AsArgument e) (aggregate_alike equals (target_of reference (Stated (Array bounds element)) passed area) (λ r. source_0 equals bounds element reference passed area r.reference r.description r.is_parameter r.area))
+      bind_bind (reading.denoted c AsArgument e) (λ d. Ok (new.aggregate_put (target_of reference (Stated (Array bounds element)) passed area) d)) (or_fault CannotAssign equals)
+      ∙ then_alike (denoted_alike c AsArgument e) (aggregate_alike equals (target_of reference (Stated (Array bounds element)) passed area) (λ r. source_0 equals bounds element reference passed area r.reference r.description r.is_parameter r.area))
       ∙ sym (bind_bind (expressions.denoted n AsArgument e) (λ d. Ok (meant_as d)) (old.aggregate_assigned equals (target_of reference (Stated (Array bounds element)) passed area)))
   put_alike equals reference (Stated (Structure parts)) passed area e =
-      bind_bind (reading.denoted n AsArgument e) (λ d. Ok (new.aggregate_put (target_of reference (Stated (Structure parts)) passed area) d)) (or_fault CannotAssign equals)
-      ∙ then_alike (denoted_alike based areas meaning AsArgument e) (aggregate_alike equals (target_of reference (Stated (Structure parts)) passed area) (λ r. source_1 equals parts reference passed area r.reference r.description r.is_parameter r.area))
+      bind_bind (reading.denoted c AsArgument e) (λ d. Ok (new.aggregate_put (target_of reference (Stated (Structure parts)) passed area) d)) (or_fault CannotAssign equals)
+      ∙ then_alike (denoted_alike c AsArgument e) (aggregate_alike equals (target_of reference (Stated (Structure parts)) passed area) (λ r. source_1 equals parts reference passed area r.reference r.description r.is_parameter r.area))
       ∙ sym (bind_bind (expressions.denoted n AsArgument e) (λ d. Ok (meant_as d)) (old.aggregate_assigned equals (target_of reference (Stated (Structure parts)) passed area)))
   put_alike equals reference (AnyString form) passed area e =
-      bind_bind (reading.value_of n e) (λ v. Ok (new.value_put (target_of reference (AnyString form) passed area) v)) (or_fault CannotAssign equals)
-      ∙ then_alike (found_alike based areas meaning e)
+      bind_bind (reading.value_of c e) (λ v. Ok (new.value_put (target_of reference (AnyString form) passed area) v)) (or_fault CannotAssign equals)
+      ∙ then_alike (found_alike c e)
       (λ v. put_form equals (typed.AssignString reference) (converted area (AnyString form) v) ∙ ap (λ o. or_fault CannotAssign equals o >>= λ x. Ok (typed.AssignString reference x)) (placed_alike area form v))
   put_alike equals reference (AnyArray m element) passed area e =
-      bind_bind (reading.denoted n AsArgument e) (λ d. Ok (new.aggregate_put (target_of reference (AnyArray m element) passed area) d)) (or_fault CannotAssign equals)
-      ∙ then_alike (denoted_alike based areas meaning AsArgument e) (aggregate_alike equals (target_of reference (AnyArray m element) passed area) (λ r. source_2 equals m element reference passed area r.reference r.description r.is_parameter r.area))
+      bind_bind (reading.denoted c AsArgument e) (λ d. Ok (new.aggregate_put (target_of reference (AnyArray m element) passed area) d)) (or_fault CannotAssign equals)
+      ∙ then_alike (denoted_alike c AsArgument e) (aggregate_alike equals (target_of reference (AnyArray m element) passed area) (λ r. source_2 equals m element reference passed area r.reference r.description r.is_parameter r.area))
       ∙ sym (bind_bind (expressions.denoted n AsArgument e) (λ d. Ok (meant_as d)) (old.aggregate_assigned equals (target_of reference (AnyArray m element) passed area)))
   put_alike equals reference (ArrayOf bounds element) passed area e =
-      bind_bind (reading.denoted n AsArgument e) (λ d. Ok (new.aggregate_put (target_of reference (ArrayOf bounds element) passed area) d)) (or_fault CannotAssign equals)
-      ∙ then_alike (denoted_alike based areas meaning AsArgument e) (aggregate_alike equals (target_of reference (ArrayOf bounds element) passed area) (λ r. source_3 equals bounds element reference passed area r.reference r.description r.is_parameter r.area))
+      bind_bind (reading.denoted c AsArgument e) (λ d. Ok (new.aggregate_put (target_of reference (ArrayOf bounds element) passed area) d)) (or_fault CannotAssign equals)
+      ∙ then_alike (denoted_alike c AsArgument e) (aggregate_alike equals (target_of reference (ArrayOf bounds element) passed area) (λ r. source_3 equals bounds element reference passed area r.reference r.description r.is_parameter r.area))
       ∙ sym (bind_bind (expressions.denoted n AsArgument e) (λ d. Ok (meant_as d)) (old.aggregate_assigned equals (target_of reference (ArrayOf bounds element) passed area)))
   put_alike equals reference (StructureOf parts) passed area e =
-      bind_bind (reading.denoted n AsArgument e) (λ d. Ok (new.aggregate_put (target_of reference (StructureOf parts) passed area) d)) (or_fault CannotAssign equals)
-      ∙ then_alike (denoted_alike based areas meaning AsArgument e) (aggregate_alike equals (target_of reference (StructureOf parts) passed area) (λ r. source_4 equals parts reference passed area r.reference r.description r.is_parameter r.area))
+      bind_bind (reading.denoted c AsArgument e) (λ d. Ok (new.aggregate_put (target_of reference (StructureOf parts) passed area) d)) (or_fault CannotAssign equals)
+      ∙ then_alike (denoted_alike c AsArgument e) (aggregate_alike equals (target_of reference (StructureOf parts) passed area) (λ r. source_4 equals parts reference passed area r.reference r.description r.is_parameter r.area))
       ∙ sym (bind_bind (expressions.denoted n AsArgument e) (λ d. Ok (meant_as d)) (old.aggregate_assigned equals (target_of reference (StructureOf parts) passed area)))
 
   assigned_alike : (at equals : ℕ) (d : Denoted) (e : Expression)
-      → (or_fault NotAVariable at (referent_in d) >>= λ r. new.form_put n r e >>= or_fault CannotAssign equals) ≡ old.assigned n at equals d e
+      → (or_fault NotAVariable at (referent_in d) >>= λ r. new.form_put c r e >>= or_fault CannotAssign equals) ≡ old.assigned n at equals d e
   assigned_alike at equals (DenotesVariable r) e = put_alike equals r.reference r.description r.is_parameter r.area e
   assigned_alike at equals (DenotesResult value) e = refl
   assigned_alike at equals DenotesEmpty e = refl
 
-  assignment_alike : (at : ℕ) (target : Reference) (equals : ℕ) (e : Expression) → new.assignment n at target equals e ≡ old.assignment n at target equals e
-  assignment_alike at target equals e = then_alike (referred_alike based areas meaning AsTarget target) (λ d. assigned_alike at equals d e)
+  assignment_alike : (at : ℕ) (target : Reference) (equals : ℕ) (e : Expression) → new.assignment c at target equals e ≡ old.assignment n at target equals e
+  assignment_alike at target equals e = then_alike (referred_alike c AsTarget target) (λ d. assigned_alike at equals d e)
 
 -- statements
 
 abbrev if_of : Result TypedExpression Fault → Result (WithProcedures TypedStatement) (List Fault) → Result (WithProcedures OtherWise) (List Fault) → Result (WithProcedures Form) (List Fault)
 if_of c s alternative = together (λ x (both : TypedStatement × OtherWise). typed.If x both.0 both.1) (of_own c) (together (λ s otherwise. (s, otherwise)) s alternative)
 
+either_leads : (a b : Bool) (o : Option ℕ) → (if a then Some 0 else if b then Some 0 else o) ≡ (if a || b then Some 0 else o)
+either_leads true b o = refl
+either_leads false b o = refl
+
+put_alike_if : (b : Bool) (first : TypedStatement) (more : TypedStatements) → (if b then more else StatementThen first more) ≡ old.put_before b first more
+put_alike_if true first more = refl
+put_alike_if false first more = refl
+
+before_alike : (s : Statement) → walk.put_before s ≡ old.put_before (old.says_nothing s)
+before_alike (Numbered number label at body) = fun_ext (λ first. fun_ext (λ more. put_alike_if (leaves_nothing body) first more))
+
+end_alike : (o : Option Description) (end : ℕ) → option_map (λ returned. end) o ≡ old.function_end o end
+end_alike None end = refl
+end_alike (Some d) end = refl
+
+through : {A B C : Type 0} (f : A → B) (g : B → Option C) (o : Option A) → option_and_then g (option_map f o) ≡ option_and_then (λ a. g (f a)) o
+through f g None = refl
+through f g (Some a) = refl
+
 module _ (r : ResolvedUnit) where
   abbrev u : NamedUnit
   u = unit_named r
 
-  abbrev based : Surroundings → (block : ℕ) → List Template
-  based s = (naming_at u s).based
+  -- where blocks stand around, by what the type checker knows of them
+  abbrev here : Enclosing → List Enclosing → (begins : ℕ) → (value : Option Description) → Context
+  here b bs begins value = record {
+    unit = r;
+    blocks = map (λ (b : Enclosing). b.number) (b ∷ bs);
+    begins = begins;
+    value = value;
+    labels = λ label. old.label_found (b ∷ bs) label;
+    lasting = λ label. old.label_found (old.lasting_alone (b ∷ bs)) label;
+  }
 
-  abbrev areas : Surroundings → (block : ℕ) → Option Beginning
-  areas s = (naming_at u s).returned_area
+  abbrev there : Enclosing → List Enclosing → (begins : ℕ) → (value : Option Description) → Surroundings
+  there b bs begins value = record { blocks = b ∷ bs; begins = begins; value = value }
 
-  abbrev meaning : Surroundings → (at : ℕ) → NamedAs
-  meaning s = (naming_at u s).meaning
+  abbrev grouped : Statements → Enclosing → Enclosing
+  grouped list b = record { number = b.number; labels = labels_of list ++ b.labels; lasting = b.lasting }
+
+  abbrev lasting : Enclosing → Enclosing
+  lasting b = record { number = b.number; labels = b.lasting; lasting = b.lasting }
+
+  group_alike : (list : Statements) (b : Enclosing) (bs : List Enclosing) (begins : ℕ) (value : Option Description)
+      → in_group list (here b bs begins value) ≡ here (grouped list b) bs begins value
+  group_alike list b bs begins value =
+      ap (λ (labels : Labels). record (here b bs begins value) { labels = labels })
+      (fun_ext (λ label. either_leads (list_any (nat_eq label) (labels_of list)) (list_any (nat_eq label) b.labels) (option_map suc (old.label_found bs label))
+      ∙ ap (λ is. if is then Some 0 else option_map suc (old.label_found bs label)) (sym (list_any-append (nat_eq label) (labels_of list) b.labels))))
+
+  jump_alike : (b : Enclosing) (bs : List Enclosing) (begins : ℕ) (value : Option Description) (m : NamedAs) → walk.jump (here b bs begins value) m ≡ old.jump (there b bs begins value) m
+  jump_alike b bs begins value (AVariable v) = refl
+  jump_alike b bs begins value (AFunction f) = refl
+  jump_alike b bs begins value (AProcedure p) = refl
+  jump_alike b bs begins value (ALabel statement) = refl
+  jump_alike b bs begins value Untyped = refl
+
+  area_alike : (b : Enclosing) (bs : List Enclosing) (begins : ℕ) (value : Option Description)
+      → new.area_here (here b bs begins value) ≡ old.area_here (naming (here b bs begins value)) (there b bs begins value)
+  area_alike b bs begins value =
+      let c = here b bs begins value in
+      ap (option_and_then (λ block. area_named r c.blocks (returns_at r block).1)) (slice_get-map (λ (b : Enclosing). b.number) (b ∷ bs) begins)
+      ∙ through (λ (b : Enclosing). b.number) (λ block. area_named r c.blocks (returns_at r block).1) (slice_get (b ∷ bs) begins)
+
+  return_alike : (b : Enclosing) (bs : List Enclosing) (begins : ℕ) (value : Option Description) (at : ℕ) (o : Option Expression)
+      → new.return_typed (here b bs begins value) at o ≡ old.return_typed (naming (here b bs begins value)) (there b bs begins value) at o
+  return_alike b bs begins value at None = refl
+  return_alike b bs begins value at (Some e) =
+      let c = here b bs begins value in
+      then_alike (found_alike c e) (λ v.
+      ap (λ area. or_fault WrongReturn at value >>= λ d. or_fault CannotAssign (first_token e) (converted area (Stated d) v) >>= λ x. Ok (typed.ReturnValue begins x)) (area_alike b bs begins value)
+      ∙ returned_alike (area_here (naming c) (there b bs begins value)) at (first_token e) begins value v)
+
+  head_alike : (x : Next) (statement : ℕ) (list : Statements) → walk.head_of r x statement list ≡ head_of u x.block statement list
+  head_alike x statement list =
+      ap (λ n. record { number = x.block; statement = statement; variables = templates_in r is_automatic x.block; temporaries = n }) (own_alike r x list)
+
+  procedure_alike : (parent : Option ℕ) (x : Next) (statement end : ℕ) (list : Statements) (done : TypedStatements)
+      → walk.procedure_of r parent x statement end list done ≡ procedure_of u parent x.block statement end list done
+  procedure_alike parent x statement end list done =
+      ap (λ h. record (walk.procedure_of r parent x statement end list done) { head = h }) (head_alike x statement list)
+      ∙ ap (λ e. record (procedure_of u parent x.block statement end list done) { function_end = e }) (end_alike (returns_at r x.block).0 end)
+
+  unit_alike : (parent : Option ℕ) (x : Next) (statement : ℕ) (unit : Statement) (done : TypedStatements)
+      → walk.on_unit_of r parent x statement unit done ≡ on_unit_of u parent x.block statement unit done
+  unit_alike parent x statement unit done =
+      ap (λ h. record (walk.on_unit_of r parent x statement unit done) { head = h }) (head_alike x statement (only unit))
+
+  listed_alike : (b : Enclosing) (bs : List Enclosing) (begins : ℕ) (value : Option Description) (x : Next) (list : Statements)
+      → walk.statements_typed (here (grouped list b) bs begins value) x list ≡ old.statements_typed u (there (grouped list b) bs begins value) x list
+      → walk.statements_typed (in_group list (here b bs begins value)) x list ≡ old.statements_typed u (old.in_group list (there b bs begins value)) x list
+  listed_alike b bs begins value x list e = ap (λ c. walk.statements_typed c x list) (group_alike list b bs begins value) ∙ e
 
   mutual
-    statement_alike : (s : Surroundings) (x : Next) (statement : Statement) → walk.statement_typed u s x statement ≡ old.statement_typed u s x statement
-    statement_alike s x (Numbered number label at body) = ap (made (typed.Statement number)) (body_alike s x number at body)
+    statement_alike : (b : Enclosing) (bs : List Enclosing) (begins : ℕ) (value : Option Description) (x : Next) (statement : Statement)
+        → walk.statement_typed (here b bs begins value) x statement ≡ old.statement_typed u (there b bs begins value) x statement
+    statement_alike b bs begins value x (Numbered number label at body) = ap (made (typed.Statement number)) (body_alike b bs begins value x number at body)
 
-    body_alike : (s : Surroundings) (x : Next) (number at : ℕ) (body : Body) → walk.body_typed u s x number at body ≡ old.body_typed u s x number at body
-    body_alike s x number at tree.Null = refl
-    body_alike s x number at (Assign target equals value) = ap of_own (assignment_alike (based s) (areas s) (meaning s) at target equals value)
-    body_alike s x number at (Declare declared) = refl
-    body_alike s x number at (tree.Procedure heading statements end) =
-        ap (as_procedure typed.Null (procedure_of u (Some (block_at s)) x.block number end statements))
-        (statements_alike (in_procedure x.block (u.returned x.block) statements s) (inside x) statements)
-    body_alike s x number at (tree.Begin statements end) =
-        ap (made (typed.Begin (head_of u x.block number statements))) (statements_alike (in_begin x.block statements s) (inside x) statements)
-    body_alike s x number at (tree.Do None statements end) = ap (made typed.Group) (statements_alike (in_group statements s) x statements)
-    body_alike s x number at (tree.Do (Some (tree.While tested)) statements end) =
-        ap (λ c. together typed.While (of_own c) (walk.statements_typed u (in_group statements s) x statements)) (condition_alike (based s) (areas s) (meaning s) tested)
-        ∙ ap (together typed.While (of_own (old.condition (naming_at u s) tested))) (statements_alike (in_group statements s) x statements)
-    body_alike s x number at (tree.Do (Some (tree.Iterate variable equals first range tested)) statements end) =
-        ap (λ c. together typed.Iterate (of_own c) (walk.statements_typed u (in_group statements s) (after_limits range x) statements))
-        (iteration_alike (based s) (areas s) (meaning s) x.temporary variable equals first range tested)
-        ∙ ap (together typed.Iterate (of_own (old.iteration (naming_at u s) x.temporary variable equals first range tested)))
-        (statements_alike (in_group statements s) (after_limits range x) statements)
-    body_alike s x number at (tree.If tested consequence alternative) =
-        ap (λ c. if_of c (walk.statement_typed u s x consequence) (walk.alternative_typed u s (next_after u.is_based x consequence) alternative)) (condition_alike (based s) (areas s) (meaning s) tested)
-        ∙ ap (λ c. if_of (old.condition (naming_at u s) tested) c (walk.alternative_typed u s (next_after u.is_based x consequence) alternative)) (statement_alike s x consequence)
-        ∙ ap (if_of (old.condition (naming_at u s) tested) (old.statement_typed u s x consequence)) (alternative_alike s (next_after u.is_based x consequence) alternative)
-    body_alike s x number at tree.Stop = refl
-    body_alike s x number at (tree.Allocate list) =
-        ap (λ c. of_own (c >>= λ xs. Ok (typed.Allocate xs))) (all_allocated_alike (based s) (areas s) (meaning s) x.temporary list)
-    body_alike s x number at (tree.Free list) =
-        ap (λ c. of_own (c >>= λ xs. Ok (typed.Free xs)))
-        (turn_alike (new.freed (naming_at u s)) (allocation.freed (naming_at u s)) (freed_alike (based s) (areas s) (meaning s)) list)
-    body_alike s x number at (tree.Call name arguments) = ap of_own (called_alike (based s) (areas s) (meaning s) name arguments)
-    body_alike s x number at (tree.Goto label) = refl
-    body_alike s x number at (tree.Return value) = ap of_own (return_alike (based s) (areas s) (meaning s) s at value)
-    body_alike s x number at (tree.Put skip items) =
-        ap (λ c. made (typed.Put skip) (of_own c))
-        (turn_alike (suited (naming_at u s) CannotPrint printed) (old.item (naming_at u s)) (item_alike (based s) (areas s) (meaning s)) items)
-    body_alike s x number at (tree.On c unit) =
-        ap (λ y. as_procedure (typed.On c x.block) (on_unit_of u (Some (block_at s)) x.block number unit) (listed unit y (Ok (alone NoStatement))))
-        (statement_alike (in_on_unit x.block unit s) (inside x) unit)
-    body_alike s x number at (tree.Revert c) = refl
-    body_alike s x number at (tree.Signal c) = refl
+    body_alike : (b : Enclosing) (bs : List Enclosing) (begins : ℕ) (value : Option Description) (x : Next) (number at : ℕ) (body : Body)
+        → walk.body_typed (here b bs begins value) x number at body ≡ old.body_typed u (there b bs begins value) x number at body
+    body_alike b bs begins value x number at tree.Null = refl
+    body_alike b bs begins value x number at (Assign target equals v) = ap of_own (assignment_alike (here b bs begins value) at target equals v)
+    body_alike b bs begins value x number at (Declare declared) = refl
+    body_alike b bs begins value x number at (tree.Procedure heading list end) =
+        ap (λ (m : TypedStatements → TypedProcedure). as_procedure typed.Null m (walk.statements_typed (here (enclosing x.block list) (b ∷ bs) 0 (u.returned x.block)) (inside x) list))
+        (fun_ext (procedure_alike (Some b.number) x number end list))
+        ∙ ap (as_procedure typed.Null (procedure_of u (Some b.number) x.block number end list))
+        (statements_alike (enclosing x.block list) (b ∷ bs) 0 (u.returned x.block) (inside x) list)
+    body_alike b bs begins value x number at (tree.Begin list end) =
+        ap (λ h. made (typed.Begin h) (walk.statements_typed (here (enclosing x.block list) (b ∷ bs) (suc begins) value) (inside x) list)) (head_alike x number list)
+        ∙ ap (made (typed.Begin (head_of u x.block number list))) (statements_alike (enclosing x.block list) (b ∷ bs) (suc begins) value (inside x) list)
+    body_alike b bs begins value x number at (tree.Do None list end) = ap (made typed.Group) (listed_alike b bs begins value x list (statements_alike (grouped list b) bs begins value x list))
+    body_alike b bs begins value x number at (tree.Do (Some (tree.While tested)) list end) =
+        let c = here b bs begins value in
+        ap (λ t. together typed.While (of_own t) (walk.statements_typed (in_group list c) x list)) (condition_alike c tested)
+        ∙ ap (together typed.While (of_own (old.condition (naming c) tested))) (listed_alike b bs begins value x list (statements_alike (grouped list b) bs begins value x list))
+    body_alike b bs begins value x number at (tree.Do (Some (tree.Iterate variable equals first range tested)) list end) =
+        let c = here b bs begins value in
+        ap (λ t. together typed.Iterate (of_own t) (walk.statements_typed (in_group list c) (after_limits range x) list))
+        (iteration_alike c x.temporary variable equals first range tested)
+        ∙ ap (together typed.Iterate (of_own (old.iteration (naming c) x.temporary variable equals first range tested))) (listed_alike b bs begins value (after_limits range x) list (statements_alike (grouped list b) bs begins value (after_limits range x) list))
+    body_alike b bs begins value x number at (tree.If tested consequence alternative) =
+        let c = here b bs begins value in
+        ap (λ t. if_of t (walk.statement_typed c x consequence) (walk.alternative_typed c (after r x consequence) alternative)) (condition_alike c tested)
+        ∙ ap (λ t. if_of (old.condition (naming c) tested) t (walk.alternative_typed c (after r x consequence) alternative)) (statement_alike b bs begins value x consequence)
+        ∙ ap (λ y. if_of (old.condition (naming c) tested) (old.statement_typed u (there b bs begins value) x consequence) (walk.alternative_typed c y alternative)) (after_alike r x consequence)
+        ∙ ap (if_of (old.condition (naming c) tested) (old.statement_typed u (there b bs begins value) x consequence))
+        (alternative_alike b bs begins value (next_after u.is_based x consequence) alternative)
+    body_alike b bs begins value x number at tree.Stop = refl
+    body_alike b bs begins value x number at (tree.Allocate list) =
+        ap (λ t. of_own (t >>= λ xs. Ok (typed.Allocate xs))) (all_allocated_alike (here b bs begins value) x.temporary list)
+    body_alike b bs begins value x number at (tree.Free list) =
+        let c = here b bs begins value in
+        ap (λ t. of_own (t >>= λ xs. Ok (typed.Free xs))) (turn_alike (new.freed c) (allocation.freed (naming c)) (freed_alike c) list)
+    body_alike b bs begins value x number at (tree.Call name arguments) = ap of_own (called_alike (here b bs begins value) name arguments)
+    body_alike b bs begins value x number at (tree.Goto label) =
+        ap (λ o. of_own (or_fault BadGoto label.at o)) (jump_alike b bs begins value (meaning_in (here b bs begins value) label.at))
+    body_alike b bs begins value x number at (tree.Return v) = ap of_own (return_alike b bs begins value at v)
+    body_alike b bs begins value x number at (tree.Put skip items) =
+        let c = here b bs begins value in
+        ap (λ t. made (typed.Put skip) (of_own t)) (turn_alike (suited c CannotPrint printed) (old.item (naming c)) (item_alike c) items)
+    body_alike b bs begins value x number at (tree.On condition unit) =
+        let inner = here (enclosing x.block (only unit)) (lasting b ∷ bs) 0 None in
+        ap (λ (m : TypedStatements → TypedProcedure). as_procedure (typed.On condition x.block) m (together (walk.put_before unit) (walk.statement_typed inner (inside x) unit) (Ok (alone NoStatement))))
+        (fun_ext (unit_alike (Some b.number) x number unit))
+        ∙ ap (λ p. as_procedure (typed.On condition x.block) (on_unit_of u (Some b.number) x.block number unit) (together p (walk.statement_typed inner (inside x) unit) (Ok (alone NoStatement)))) (before_alike unit)
+        ∙ ap (λ y. as_procedure (typed.On condition x.block) (on_unit_of u (Some b.number) x.block number unit) (listed unit y (Ok (alone NoStatement))))
+        (statement_alike (enclosing x.block (only unit)) (lasting b ∷ bs) 0 None (inside x) unit)
+    body_alike b bs begins value x number at (tree.Revert condition) = refl
+    body_alike b bs begins value x number at (tree.Signal condition) = refl
 
-    alternative_alike : (s : Surroundings) (x : Next) (alternative : Alternative) → walk.alternative_typed u s x alternative ≡ old.alternative_typed u s x alternative
-    alternative_alike s x tree.NoElse = refl
-    alternative_alike s x (tree.Else statement) = ap (made typed.Else) (statement_alike s x statement)
+    alternative_alike : (b : Enclosing) (bs : List Enclosing) (begins : ℕ) (value : Option Description) (x : Next) (alternative : Alternative)
+        → walk.alternative_typed (here b bs begins value) x alternative ≡ old.alternative_typed u (there b bs begins value) x alternative
+    alternative_alike b bs begins value x tree.NoElse = refl
+    alternative_alike b bs begins value x (tree.Else statement) = ap (made typed.Else) (statement_alike b bs begins value x statement)
 
-    statements_alike : (s : Surroundings) (x : Next) (list : Statements) → walk.statements_typed u s x list ≡ old.statements_typed u s x list
-    statements_alike s x Ended = refl
-    statements_alike s x (Before first more) =
-        ap (λ c. listed first c (walk.statements_typed u s (next_after u.is_based x first) more)) (statement_alike s x first)
-        ∙ ap (listed first (old.statement_typed u s x first)) (statements_alike s (next_after u.is_based x first) more)
+    statements_alike : (b : Enclosing) (bs : List Enclosing) (begins : ℕ) (value : Option Description) (x : Next) (list : Statements)
+        → walk.statements_typed (here b bs begins value) x list ≡ old.statements_typed u (there b bs begins value) x list
+    statements_alike b bs begins value x Ended = refl
+    statements_alike b bs begins value x (Before first more) =
+        let c = here b bs begins value in
+        ap (λ p. together p (walk.statement_typed c x first) (walk.statements_typed c (after r x first) more)) (before_alike first)
+        ∙ ap (λ y. listed first y (walk.statements_typed c (after r x first) more)) (statement_alike b bs begins value x first)
+        ∙ ap (λ y. listed first (old.statement_typed u (there b bs begins value) x first) (walk.statements_typed c y more)) (after_alike r x first)
+        ∙ ap (listed first (old.statement_typed u (there b bs begins value) x first)) (statements_alike b bs begins value (next_after u.is_based x first) more)
 
-  unit_of_alike : (o : Result (WithProcedures TypedStatements) (List Fault)) → (o >>= λ list. Ok (walk.unit_of u list)) ≡ typed_as u o
-  unit_of_alike (Ok list) = refl
+  abbrev begin : Next
+  begin = record { block = 0; temporary = 0 }
+
+  unit_of_alike : (o : Result (WithProcedures TypedStatements) (List Fault)) → (o >>= λ list. Ok (walk.unit_of r begin list)) ≡ typed_as u o
+  unit_of_alike (Ok list) =
+      ap (λ p. Ok (record (walk.unit_of r begin list) { procedures = p ∷ list.procedures }))
+      (procedure_alike None begin r.tree.heading.number r.tree.end r.tree.statements list.part)
   unit_of_alike (Err faults) = refl
 
-  pub typed_alike : walk.unit_typed u ≡ checked u
-  unfolding checked
+  pub typed_alike : walk.typed_unit r ≡ checked u
+  unfolding walk.typed_unit checked
   typed_alike =
-      ap (λ o. o >>= λ list. Ok (walk.unit_of u list)) (statements_alike (in_unit (u.returned 0) u.tree.statements) first_inside u.tree.statements)
+      ap (λ o. o >>= λ list. Ok (walk.unit_of r begin list)) (statements_alike (enclosing 0 r.tree.statements) [] 0 (u.returned 0) first_inside r.tree.statements)
       ∙ unit_of_alike (old.statements_typed u (in_unit (u.returned 0) u.tree.statements) first_inside u.tree.statements)

@@ -22,6 +22,7 @@ use Rattle.pli_type_tree.specs.TypedTree.{Callee, OfBlock, OfEntry, Global, Root
 use Rattle.pli_type_unit.specs.UnitNames as new
 use Rattle.pli_type_unit.specs.UnitNames.{◌>>=◌, VariableName}
 use Rattle.pli_type_unit.proofs.GlobalsAlike.{globals_alike}
+use Rattle.pli_type_unit.proofs.NamedUnits.{unit_named}
 use Rattle.pli_type_unit.proofs.NamesAlike.{parameters_alike, returned_alike, returned_area_alike, area_alike, named_alike}
 use Rattle.pli_type_unit.proofs.SymbolsAlike.{AreAlike, automatic_test, based_test, templates_alike}
 
@@ -122,9 +123,9 @@ module _ (r : ResolvedUnit) where
       globals = globals;
     }
 
-    pub unit_alike : old.named_unit 63 r ≡ new.unit_named r
+    pub unit_alike : old.named_unit 63 r ≡ unit_named r
     unit_alike =
-        let u = new.unit_named r in
+        let u = unit_named r in
         ap (λ x. unit_of x (old.naming_of 63 r) (old.parameters_of r) (old.returned_of r) (λ block. old.templates_of (old.is_automatic 63) (new.block_symbols r block)) (old.all_globals 63 (all_symbols r)))
         (fun_ext (λ at. ap old.names_based (named_alike r alike globals [] (meaning_at r at)) ∙ meaning_based (meaning_at r at)))
         ∙ ap (λ x. unit_of u.is_based x (old.parameters_of r) (old.returned_of r) (λ block. old.templates_of (old.is_automatic 63) (new.block_symbols r block)) (old.all_globals 63 (all_symbols r)))

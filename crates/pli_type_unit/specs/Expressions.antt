@@ -17,11 +17,11 @@ use Rattle.pli_base.specs.declared.code.Code.TheVariants.{WrongArgument, WrongBu
 use Rattle.pli_base.specs.declared.code.Code.TheVariants.{NotCallableHere}
 use Rattle.pli_base.specs.declared.syntax.Joining.TheVariants.{Member, Located}
 use Rattle.pli_base.specs.declared.token.Fault.{Fault}
-use Rattle.pli_map.specs.ParameterTypes.{ParameterType, agrees}
+use Rattle.pli_map.specs.ParameterTypes.{ParameterType}
 use Rattle.pli_type.specs.ExpressionTypes.{TypedValue, type_of}
 use Rattle.pli_type.specs.Faults.{or_fault}
 use Rattle.pli_type.specs.FunctionCalls.{Argument, Denoted, DenotesVariable, DenotesResult, DenotesEmpty}
-use Rattle.pli_type.specs.Names.{NamedProcedure, NamedAs, AVariable, AFunction, AProcedure, Naming}
+use Rattle.pli_type.specs.Names.{NamedProcedure, NamedAs, AVariable, AFunction, AProcedure}
 use Rattle.pli_type.specs.ProcedureCalls.{handed, place_of}
 use Rattle.pli_type.specs.References.{Role, AsValue, AsArgument, AsLocator, LocatorBefore, NotLocated}
 use Rattle.pli_type.specs.Typing.{Segment, OfVariable, OfFunction, OfEmpty, OfNoVariable, argument}
@@ -29,6 +29,8 @@ use Rattle.pli_type.specs.Typing.{as_locator, first_token}
 use Rattle.pli_type.specs.Typing.{given_by, how_many, is_call, with_more}
 use Rattle.pli_type_tree.specs.TypedTree.{ByPlace, Called, NoArgument, TypedArguments, TypedExpression}
 use Rattle.pli_type_unit.specs.BuiltIns.{of_arguments, of_values, referent_in, roles_asked, value_in}
+use Rattle.pli_type_unit.specs.Contexts.{Context, meaning_in}
+use Rattle.pli_type_unit.specs.Passing.{agrees}
 use Rattle.pli_type_unit.specs.Values.{constant, converted, digits_of, infix_value, prefix_value}
 use Rattle.pli_type_unit.specs.Variables.{variable_meant}
 
@@ -90,89 +92,89 @@ subscript_value at v = or_fault WrongOperandType at (option_map (λ p. v.express
 
 abbrev mutual
   -- an expression in its role; parentheses and operators leave a value
-  pub denoted : Naming → Role → Expression → Result Denoted Fault
-  denoted n role (Referred reference) = referred n role reference
-  denoted n role (Constant at value) = Ok (DenotesResult (constant value))
-  denoted n role (Parenthesized at inner) = do
-    v ← as_value (first_token inner) (denoted n AsValue inner)
+  pub denoted : Context → Role → Expression → Result Denoted Fault
+  denoted c role (Referred reference) = referred c role reference
+  denoted c role (Constant at value) = Ok (DenotesResult (constant value))
+  denoted c role (Parenthesized at inner) = do
+    v ← as_value (first_token inner) (denoted c AsValue inner)
     Ok (DenotesResult v)
-  denoted n role (Prefix operator at operand) = do
-    v ← as_value (first_token operand) (denoted n AsValue operand)
+  denoted c role (Prefix operator at operand) = do
+    v ← as_value (first_token operand) (denoted c AsValue operand)
     u ← or_fault WrongOperandType at (prefix_value operator v)
     Ok (DenotesResult u)
-  denoted n role (Infix operator at left right) = do
-    v ← as_value (first_token left) (denoted n AsValue left)
-    w ← as_value (first_token right) (denoted n AsValue right)
+  denoted c role (Infix operator at left right) = do
+    v ← as_value (first_token left) (denoted c AsValue left)
+    w ← as_value (first_token right) (denoted c AsValue right)
     u ← or_fault WrongOperandType at (infix_value operator v w)
     Ok (DenotesResult u)
 
   -- a reference in its role: that of its last part, all before an arrow being a locator
-  pub referred : Naming → Role → Reference → Result Denoted Fault
-  referred n role (Named name arguments more) = do
-    s ← begun n (n.meaning name.at) (is_call role false more) NotLocated name.at arguments
-    joined n role s more
+  pub referred : Context → Role → Reference → Result Denoted Fault
+  referred c role (Named name arguments more) = do
+    s ← begun c (meaning_in c name.at) (is_call role false more) NotLocated name.at arguments
+    joined c role s more
 
   -- with what is joined to a segment
-  pub joined : Naming → Role → Segment → JoinedParts → Result Denoted Fault
-  joined n role s Alone = ended role s
-  joined n role s (Joined Member name arguments more) = do
-    xs ← subscripts_in n arguments
-    joined n role (with_more s xs) more
-  joined n role s (Joined Located name arguments more) = do
+  pub joined : Context → Role → Segment → JoinedParts → Result Denoted Fault
+  joined c role s Alone = ended role s
+  joined c role s (Joined Member name arguments more) = do
+    xs ← subscripts_in c arguments
+    joined c role (with_more s xs) more
+  joined c role s (Joined Located name arguments more) = do
     l ← ended AsLocator s
-    t ← begun n (n.meaning name.at) (is_call role true more) (as_locator l) name.at arguments
-    joined n role t more
+    t ← begun c (meaning_in c name.at) (is_call role true more) (as_locator l) name.at arguments
+    joined c role t more
 
   -- a segment by what its first name means, with the parentheses after that: subscripts of a variable, else
   -- arguments
-  pub begun : Naming → NamedAs → (call : Bool) → LocatorBefore → (at : ℕ) → Arguments → Result Segment Fault
-  begun n (AVariable v) call locator at (Given list) = do
-    xs ← all_subscripts n list
+  pub begun : Context → NamedAs → (call : Bool) → LocatorBefore → (at : ℕ) → Arguments → Result Segment Fault
+  begun c (AVariable v) call locator at (Given list) = do
+    xs ← all_subscripts c list
     Ok (OfVariable locator at v xs)
-  begun n (AVariable v) call locator at Absent = Ok (OfVariable locator at v [])
-  begun n (AFunction function) true locator at Absent =
+  begun c (AVariable v) call locator at Absent = Ok (OfVariable locator at v [])
+  begun c (AFunction function) true locator at Absent =
       Ok (unwrap_or (option_map (given_by function) (of_values function [])) (OfNoVariable at))
-  begun n (AFunction function) true locator at (Given list) = do
-    gs ← all_arguments n (unwrap_or (roles_asked function (how_many list)) []) list
+  begun c (AFunction function) true locator at (Given list) = do
+    gs ← all_arguments c (unwrap_or (roles_asked function (how_many list)) []) list
     roles ← or_fault WrongNumberOfArguments at (roles_asked function (how_many list))
     v ← or_fault WrongBuiltInArgument at (of_arguments function gs)
     Ok (given_by function v)
-  begun n (AProcedure p) true locator at (Given list) = do
-    gs ← all_arguments n [] list
+  begun c (AProcedure p) true locator at (Given list) = do
+    gs ← all_arguments c [] list
     procedure_called p at gs
-  begun n other call locator at (Given list) = do
-    gs ← all_arguments n [] list
+  begun c other call locator at (Given list) = do
+    gs ← all_arguments c [] list
     Ok (OfNoVariable at)
-  begun n other call locator at Absent = Ok (OfNoVariable at)
+  begun c other call locator at Absent = Ok (OfNoVariable at)
 
   -- the subscripts after a name, if parentheses stand there
-  pub subscripts_in : Naming → Arguments → Result (List TypedExpression) Fault
-  subscripts_in n Absent = Ok []
-  subscripts_in n (Given list) = all_subscripts n list
+  pub subscripts_in : Context → Arguments → Result (List TypedExpression) Fault
+  subscripts_in c Absent = Ok []
+  subscripts_in c (Given list) = all_subscripts c list
 
   -- subscripts from left to right
-  pub all_subscripts : Naming → Expressions → Result (List TypedExpression) Fault
-  all_subscripts n Empty = Ok []
-  all_subscripts n (Listed first more) = do
-    v ← as_value (first_token first) (denoted n AsValue first)
+  pub all_subscripts : Context → Expressions → Result (List TypedExpression) Fault
+  all_subscripts c Empty = Ok []
+  all_subscripts c (Listed first more) = do
+    v ← as_value (first_token first) (denoted c AsValue first)
     x ← subscript_value (first_token first) v
-    xs ← all_subscripts n more
+    xs ← all_subscripts c more
     Ok (x ∷ xs)
 
   -- arguments from left to right, in their roles; those without a role may be whole aggregates
-  pub all_arguments : Naming → List Role → Expressions → Result (List Argument) Fault
-  all_arguments n roles Empty = Ok []
-  all_arguments n roles (Listed first more) = do
-    d ← denoted n (get_or roles 0 AsArgument) first
-    gs ← all_arguments n (drop 1 roles) more
+  pub all_arguments : Context → List Role → Expressions → Result (List Argument) Fault
+  all_arguments c roles Empty = Ok []
+  all_arguments c roles (Listed first more) = do
+    d ← denoted c (get_or roles 0 AsArgument) first
+    gs ← all_arguments c (drop 1 roles) more
     Ok (argument first d ∷ gs)
 
 -- one value of an expression
-abbrev pub value_of : Naming → Expression → Result TypedValue Fault
-value_of n e = as_value (first_token e) (denoted n AsValue e)
+abbrev pub value_of : Context → Expression → Result TypedValue Fault
+value_of c e = as_value (first_token e) (denoted c AsValue e)
 
 -- the value of an expression as this makes something of it, or this fault at its first token
-abbrev pub suited : {A : Type 0} → Naming → Code → (TypedValue → Option A) → Expression → Result A Fault
-suited n code make e = do
-  v ← value_of n e
+abbrev pub suited : {A : Type 0} → Context → Code → (TypedValue → Option A) → Expression → Result A Fault
+suited c code make e = do
+  v ← value_of c e
   or_fault code (first_token e) (make v)

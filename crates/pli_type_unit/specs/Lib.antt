@@ -1,7 +1,9 @@
 pub mod Actions
 pub mod BuiltIns
+pub mod Contexts
 pub mod Expressions
 pub mod Found
+pub mod Passing
 pub mod Statements
 pub mod UnitNames
 pub mod Values

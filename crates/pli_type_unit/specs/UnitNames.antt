@@ -4,13 +4,12 @@
 use Rattle.std.specs.Prelude.{ℕ, suc, ◌+◌, nat_eq, nat_le, Bool, true, false, not, ◌&&◌, ◌||◌}
 use Rattle.std.specs.Prelude.{Option, Some, None, option_map, List, [], ◌∷◌, ◌++◌, map}
 use Rattle.std.specs.Prelude.{filter}
-use Rattle.std.specs.Prelude.{length, get_or, slice_get, Result, if◌then◌else◌}
+use Rattle.std.specs.Prelude.{length, get_or, slice_get, if◌then◌else◌}
 use Rattle.std.specs.List.{flat_map, list_any}
 use Rattle.std.specs.Option.{unwrap_or}
 use Rattle.std.specs.Ordering.{nat_cmp}
 use Rattle.pli_base.specs.Name.{Name}
 use Rattle.pli_base.specs.declared.declaration.InitialValue.{InitialValue}
-use Rattle.pli_base.specs.declared.token.Fault.{Fault}
 use Rattle.pli_declare_attributes.specs.declared.completed.ScopeAttribute.{ScopeAttribute}
 use Rattle.pli_declare_attributes.specs.declared.completed.ScopeAttribute.TheVariants as scopes
 use Rattle.pli_map.specs.Description as described
@@ -20,7 +19,7 @@ use Rattle.pli_map.specs.Scalars.{is_area}
 use Rattle.pli_map.specs.Sizes.{size_of}
 use Rattle.pli_program.specs.declared.kind.VariableKind.{VariableKind}
 use Rattle.pli_program.specs.declared.kind.VariableKind.TheVariants as generations
-use Rattle.pli_resolve.specs.ResolvedUnits.{ResolvedUnit, ResolvedBlock, meaning_at, all_symbols, symbol_at}
+use Rattle.pli_resolve.specs.ResolvedUnits.{ResolvedUnit, ResolvedBlock, all_symbols, symbol_at}
 use Rattle.pli_resolve.specs.Symbols.{Symbol, SymbolKind, Variable, OpenParameter, Member, Label, Procedure}
 use Rattle.pli_resolve.specs.Symbols.{Entry, BuiltIn}
 use Rattle.pli_resolve.specs.declared.block_numbers.ResolvedBlockKind.{ResolvedBlockKind}
@@ -34,15 +33,13 @@ use Rattle.pli_sort.specs.Sorting.{in_order}
 use Rattle.pli_type.specs.Beginnings.{area_meant}
 use Rattle.pli_type.specs.InitialScalars.{InitialItem, template_of}
 use Rattle.pli_type.specs.Names.{NamedAs, AVariable, AFunction, AProcedure, ALabel, Untyped}
-use Rattle.pli_type.specs.Names.{NamedUnit, NamedStorage, Begins, IsBased, LocatorVariable}
+use Rattle.pli_type.specs.Names.{NamedStorage, Begins, IsBased, LocatorVariable}
 use Rattle.pli_type.specs.References.{part_on, locator_at, reference_to, whole_part}
 use Rattle.pli_type.specs.declared.beginning.Beginning.{Beginning}
 use Rattle.pli_type_tree.specs.Templates.{Template}
 use Rattle.pli_type_tree.specs.TypedTree.{Callee, OfBlock, OfEntry, Global, OwnVariable, ExternalVariable}
 use Rattle.pli_type_tree.specs.TypedTree.{EntryPoint, Root, InSlot, OfProgram, NewestOf, TypedReference}
-use Rattle.pli_type_tree.specs.TypedTree.{TypedUnit}
 pub use Rattle.pli_type_unit.specs.Found.{◌>>=◌, where_holds}
-use Rattle.pli_type_unit.specs.Statements.{unit_typed}
 
 -- symbols
 
@@ -383,26 +380,3 @@ abbrev pub globals_of : ResolvedUnit → List Global
 globals_of r =
     flat_map (λ p. global_at (block_symbols r p.key.block) p.key.number p.symbol.identifier.name p.symbol.kind)
     (globals_in r)
-
--- the unit
-
--- the unit as types see it; numbers have at most 63 binary digits
-abbrev pub unit_named : ResolvedUnit → NamedUnit
-unit_named r = record {
-  tree = r.tree;
-  is_based = λ at. names_based r (meaning_at r at);
-  naming = λ blocks. record {
-    greatest = 63;
-    based = templates_in r is_based;
-    returned_area = λ block. area_named r blocks (returns_at r block).1;
-    meaning = λ at. named_as r blocks (meaning_at r at);
-  };
-  parameters = parameters_of r;
-  returned = λ block. (returns_at r block).0;
-  automatic = templates_in r is_automatic;
-  globals = globals_of r;
-}
-
--- the typed unit, or its faults of types
-unfoldable pub typed_unit : ResolvedUnit → Result TypedUnit (List Fault)
-typed_unit r = unit_typed (unit_named r)

@@ -1,5 +1,5 @@
 -- What changes where values are put into storage of the program.
-use Rattle.std.specs.Prelude.{◌≡◌, ◌≤◌, ℕ, ◌+◌, Bool, true, false, Some, List, [], ◌∷◌, ◌++◌, length}
+use Rattle.std.specs.Prelude.{◌≡◌, ◌≤◌, ◌<◌, ℕ, ◌+◌, Bool, true, false, Some, List, [], ◌∷◌, ◌++◌, length}
 use Rattle.std.specs.Prelude.{slice_get, slice_set}
 use Rattle.pli_bytes.specs.Contents.{values_of, bytes_from, with_bytes_at}
 use Rattle.pli_map.specs.Description.{Description, Varying}
@@ -64,3 +64,12 @@ abbrev pub LengthenedOrSame : Bool → (old new : List plain.Generation) → Gen
     → (more : List ℕ) → (room : ℕ) → Type 0
 LengthenedOrSame true old new part greatest more room = IsLengthened old new part greatest more room
 LengthenedOrSame false old new part greatest more room = new ≡ old
+
+-- characters and those of a string of CHARACTER VARYING that stands there are more than it may hold, or than
+-- so many
+abbrev pub IsTooLong : List plain.Generation → GenerationPart → (greatest : ℕ) → (more : List ℕ) → (room : ℕ)
+    → Type 0
+IsTooLong gs part greatest more room =
+    (there : PartStands gs part (Varying greatest)) (text : List ℕ) →
+    values_from there.scalar 1 there.generation.values ≡ Characters text ∷ [] →
+    length (text ++ more) ≤ greatest → room < length (text ++ more)

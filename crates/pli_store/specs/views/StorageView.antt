@@ -1,7 +1,7 @@
 -- What storage of the program says.
 use Rattle.std.specs.Prelude.{◌≡◌, ◌≤◌, ◌<◌, ℕ, ℤ, ◌+◌, Bool, true, false, List, ◌++◌, length, map}
 use Rattle.pli_run.specs.declared.ending.RunError.TheVariants.{StorageLimit}
-use Rattle.pli_map.specs.Description.{Description}
+use Rattle.pli_map.specs.Description.{Description, FixedBinary, Varying}
 use Rattle.pli_map.specs.Sizes.{size_of}
 use Rattle.pli_map.specs.Values.{holds}
 use Rattle.pli_map.specs.Variables.{byte_limit}
@@ -10,10 +10,11 @@ use Rattle.pli_world.specs.Targets as target
 use Rattle.pli_world.specs.World.{World, Yields, Raises, held, stored, made_of}
 use Rattle.pli_world.specs.Storage as plain
 use Rattle.pli_world.specs.Storage.{live_bytes, generation_limit}
-use Rattle.pli_store.specs.answers.Found.{LeadsToNone}
+use Rattle.pli_store.specs.answers.Found.{LeadsTo, LeadsToNone}
 use Rattle.pli_store.specs.views.GenerationView.{generation_view, made_view}
 use Rattle.pli_value.specs.Value.{Value, Number, Characters}
 use Rattle.pli_store.specs.declared.living.Target.{Target}
+use Rattle.pli_store.specs.declared.part.GenerationPart.{GenerationPart}
 use Rattle.pli_store.specs.declared.place.Place.{Place}
 use Rattle.pli_store.specs.declared.storage.Storage.{Storage}
 
@@ -62,6 +63,11 @@ CannotPut s p v = holds p.description v ≡ true → LeadsToNone (storage_view s
 abbrev pub NumberPut : Bool → (old new : Storage) → plain.Place → ℤ → Type 0
 NumberPut b old new p x = ValuePut b old new p (Number x)
 
+-- a number may not be put at a place of numbers of at most 63 binary digits
+abbrev pub CannotPutNumber : Storage → plain.Place → ℤ → Type 0
+CannotPutNumber s p x =
+    (precision : ℕ) → p.description ≡ FixedBinary precision → precision ≤ 63 → CannotPut s p (Number x)
+
 -- characters are put after those that a place holds, and both are no more than so many
 pub record IsAppended (old new : Storage) (p : plain.Place) (more : List ℕ) (room : ℕ) : Type 0 where
   pub text : List ℕ
@@ -74,6 +80,15 @@ pub record IsAppended (old new : Storage) (p : plain.Place) (more : List ℕ) (r
 abbrev pub Appended : Bool → (old new : Storage) → plain.Place → (more : List ℕ) → (room : ℕ) → Type 0
 Appended true old new p more room = IsAppended old new p more room
 Appended false old new p more room = SameStorage old new
+
+-- characters may not be put after those that a place outside areas holds: it is no place of CHARACTER
+-- VARYING, it leads to no part, or both are more than the string may hold, or than so many
+abbrev pub CannotAppend : Storage → plain.Place → (more : List ℕ) → (room : ℕ) → Type 0
+CannotAppend s p more room =
+    (greatest : ℕ) → p.description ≡ Varying greatest →
+    (part : GenerationPart) → LeadsTo (storage_view s) p part →
+    (w : World) (text : List ℕ) → held p (with_storage s w) ≡ Yields (Characters text) (with_storage s w) →
+    length (text ++ more) ≤ greatest → room < length (text ++ more)
 
 -- there is room for a new generation of a description, or a limit is passed, whatever it is to begin with
 abbrev pub RoomFor : Bool → Storage → Description → Type 0

@@ -4,7 +4,7 @@ use Rattle.pli_base.specs.Statements.{ExternalProcedure}
 use Rattle.pli_declare.specs.Resolution.{resolution_faults}
 use Rattle.pli_resolve.specs.ResolvedUnits.{resolved_unit_of}
 use Rattle.pli_type.specs.NamedUnits.{checked_unit}
-use Rattle.pli_type_unit.specs.UnitNames.{typed_unit}
+use Rattle.pli_type_unit.specs.Statements.{typed_unit}
 
 -- where the declarations of a unit have no fault, what it is typed as, or its faults of types, is what the type
 -- checker gives, which looks for the limits of the language itself and counts as it goes

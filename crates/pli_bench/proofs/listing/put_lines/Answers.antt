@@ -2,7 +2,8 @@ use Rattle.std.specs.Prelude.{◌+◌, ◌<◌, ◌++◌, length, drop}
 use Rattle.std.proofs.Common.{rules, arith, ap, sym, ◌∙◌}
 use Rattle.std.proofs.lemmas.List.{drop_all}
 use Rattle.std.proofs.lemmas.Result.{err_from_is_err_and}
-use Rattle.pli_bench.specs.Session.{numbered_line, numbered_lines}
+use Rattle.pli_bench.proofs.LinesListed.{numbered_line}
+use Rattle.pli_bench.specs.Session.{numbered_lines}
 use Rattle.pli_bench.proofs.BytesWaiting.{has_put_more, breaks_in, writes_all}
 use Rattle.pli_bench.proofs.LinesListed.{lines_from, line_parts}
 use Rattle.pli_bench.proofs.listing.put_lines.Goals as goal

@@ -1,5 +1,5 @@
 use Rattle.std.proofs.Common.{sym, subst}
-use Rattle.pli_meaning.specs.Scratch.{coded_from}
+use Rattle.pli_meaning.specs.MemberParts.{coded_from}
 use Rattle.pli_deck.specs.answers.Outcomes.{Compiles}
 use Rattle.pli_deck.proofs.passes.compile_resolved.Goals as goal
 

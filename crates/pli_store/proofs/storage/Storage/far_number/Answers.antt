@@ -1,4 +1,4 @@
-use Rattle.std.proofs.Common.{refl}
+use Rattle.std.proofs.Common.{refl, arith}
 use Rattle.pli_map.specs.Description.{FixedBinary}
 use Rattle.pli_value.specs.Value.{Number}
 use Rattle.pli_store.specs.views.StorageView.{place_view}
@@ -8,4 +8,4 @@ use Rattle.pli_store.proofs.storage.Storage.far_number.Goals as goal
 pub returns-in-Some : goal.returns-in-Some
 returns-in-Some c = λ w.
     scalar_read c.args.self.now (place_view c.args.place) c.in-Some.part c.in-Some.ensures c.index.result.now c.index.ensures c.deref.result.now c.deref.ensures.value
-    (FixedBinary c.args.precision) c.requires refl c.number_at.result Number (λ within short. tt) (λ x holds. holds w) c.number_at.ensures
+    (FixedBinary c.args.precision) c.requires refl c.number_at.result Number (λ within short. absurd (omega (arith, within, short))) (λ x holds. holds w) c.number_at.ensures

@@ -12,7 +12,7 @@ use Rattle.pli_store.proofs.storage.Storage.free_block.Goals as goal
 
 pub index_mut-requires : goal.index_mut-requires
 index_mut-requires c =
-    let inside = within_store c.args.self.now.generations.items c.args.generation c.in-Some.at c.in-Some.ensures in
+    let inside = within_store c.args.self.now.generations.items c.args.block.generation c.in-Some.at c.in-Some.ensures in
     omega (arith, inside)
 
 pub invariant_of-self : goal.invariant_of-self
@@ -20,9 +20,9 @@ invariant_of-self c =
     let items = c.args.self.now.generations.items in
     let at = c.in-Some.at in
     let g = c.index_mut.result.now in
-    let here : slice_get items at ≡ Some g = slice_get_read items (length items) at g refl (within_store items c.args.generation at c.in-Some.ensures) c.index_mut.ensures.value in
+    let here : slice_get items at ≡ Some g = slice_get_read items (length items) at g refl (within_store items c.args.block.generation at c.in-Some.ensures) c.index_mut.ensures.value in
     let kept = blocks_kept items at g c.end_block.new.generation here c.args.self.now.made c.args.self.now.rising
-    (others_of g c.end_block.new.generation (λ bs. without_block bs c.args.position) c.end_block.ensures) in
+    (others_of g c.end_block.new.generation (λ bs. without_block bs c.args.block.position) c.end_block.ensures) in
     record { counted = c.args.self.now.counted ∙ sym kept.counted; limited = c.args.self.now.limited; rising = kept.rising }
 
 pub returns-in-Some-clause-storage : goal.returns-in-Some-clause-storage
@@ -30,11 +30,11 @@ returns-in-Some-clause-storage c =
     let items = c.args.self.now.generations.items in
     let at = c.in-Some.at in
     let g = c.index_mut.result.now in
-    let here : slice_get items at ≡ Some g = slice_get_read items (length items) at g refl (within_store items c.args.generation at c.in-Some.ensures) c.index_mut.ensures.value in
-    let change : List Block → List Block = λ bs. without_block bs c.args.position in
-    blocks_said items at g c.end_block.new.generation here c.args.self.now.made c.args.self.now.rising change c.end_block.ensures c.args.generation
-    (number_found (storage_view c.args.self.now) c.args.generation (generation_view g) (stored_one items c.args.generation at g c.in-Some.ensures here))
+    let here : slice_get items at ≡ Some g = slice_get_read items (length items) at g refl (within_store items c.args.block.generation at c.in-Some.ensures) c.index_mut.ensures.value in
+    let change : List Block → List Block = λ bs. without_block bs c.args.block.position in
+    blocks_said items at g c.end_block.new.generation here c.args.self.now.made c.args.self.now.rising change c.end_block.ensures c.args.block.generation
+    (number_found (storage_view c.args.self.now) c.args.block.generation (generation_view g) (stored_one items c.args.block.generation at g c.in-Some.ensures here))
 
 pub returns-in_default-clause-storage : goal.returns-in_default-clause-storage
 returns-in_default-clause-storage c =
-    sym (no_blocks_changed (storage_view c.args.self.now) c.args.generation (λ bs. without_block bs c.args.position) c.in_default.ensures)
+    sym (no_blocks_changed (storage_view c.args.self.now) c.args.block.generation (λ bs. without_block bs c.args.block.position) c.in_default.ensures)

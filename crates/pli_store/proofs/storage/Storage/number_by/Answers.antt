@@ -20,5 +20,5 @@ returns c =
     let o = c.in_ok-at.ensures in
     let at = c.in_ok-at.at in
     scalar_read s (part_place s k c.args.locator at o) (record { at = at; offset = k.offset }) (part_leads s k c.args.locator at o c.index.result.now c.index.ensures) c.index.result.now c.index.ensures c.deref.result.now c.deref.ensures.value
-    (FixedBinary c.in_ok-precision.precision) c.in_ok-precision.ensures refl c.number_at.result Number (λ within short. tt) (λ x holds. read_by s k c.args.locator at o (Number x) holds)
+    (FixedBinary c.in_ok-precision.precision) c.in_ok-precision.ensures refl c.number_at.result Number (λ within short. absurd (omega (arith, within, short))) (λ x holds. read_by s k c.args.locator at o (Number x) holds)
     c.number_at.ensures

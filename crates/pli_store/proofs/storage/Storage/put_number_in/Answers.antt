@@ -17,12 +17,24 @@ invariant_of-self c =
     let fits : SFits w64 c.args.number = search rules in
     let whole = to_z-of_z w64 c.args.number fits in
     let kept = kept_or_same (storage_view c.args.self.now) (map generation_view c.put_number.new.generations.items) c.args.part
-    c.args.self.now.made c.args.self.now.rising c.put_number.result (FixedBinary c.args.precision) (Number c.args.number ∷ []) (rw whole at c.put_number.ensures) in
+    c.args.self.now.made c.args.self.now.rising c.put_number.result (FixedBinary c.args.precision) (Number c.args.number ∷ []) (rw whole at c.put_number.ensures.put) in
     record { counted = c.args.self.now.counted ∙ sym kept.counted; limited = c.args.self.now.limited; rising = kept.rising }
 
-pub returns : goal.returns
-returns c =
+pub returns-clause-put : goal.returns-clause-put
+returns-clause-put c =
     let fits : SFits w64 c.args.number = search rules in
     let whole = to_z-of_z w64 c.args.number fits in
     value_is_put c.args.self.now _ (place_view c.args.place) c.args.part (FixedBinary c.args.precision) c.requires.precision refl c.requires.leads
-    c.put_number.result (Number c.args.number) (rw whole at (c.if-not-holds_number.ensures.0 refl)).1 (rw whole at c.put_number.ensures)
+    c.put_number.result (Number c.args.number) (rw whole at (c.if-not-holds_number.ensures.0 refl)).1 (rw whole at c.put_number.ensures.put)
+
+pub returns-clause-held : goal.returns-clause-held
+returns-clause-held c =
+    let fits : SFits w64 c.args.number = search rules in
+    let whole = to_z-of_z w64 c.args.number fits in
+    (λ e. rw whole at (c.if-not-holds_number.ensures.0 refl), λ h. (rw whole at c.put_number.ensures.room) h.1)
+
+pub returns-then-not-holds_number-clause-held : goal.returns-then-not-holds_number-clause-held
+returns-then-not-holds_number-clause-held c =
+    let fits : SFits w64 c.args.number = search rules in
+    let whole = to_z-of_z w64 c.args.number fits in
+    rw whole at c.if-not-holds_number.ensures

@@ -1,0 +1,15 @@
+use Rattle.std.proofs.Common.{SFits, w64, rules}
+use Rattle.std.proofs.lemmas.Int.{to_z-of_z}
+use Rattle.pli_store.specs.views.StorageView.{place_view, storage_view}
+use Rattle.pli_store.proofs.PartAnswers.{leads_to_none}
+use Rattle.pli_store.proofs.PutAnswers.{number_refused}
+use Rattle.pli_store.proofs.storage.Storage.put_walked_number.Goals as goal
+
+pub returns-in-Ok-clause-refused : goal.returns-in-Ok-clause-refused
+returns-in-Ok-clause-refused c = λ e.
+    let fits : SFits w64 c.args.number = search rules in
+    let whole = to_z-of_z w64 c.args.number fits in
+    number_refused c.args.self.now (place_view c.args.place) c.args.precision c.args.number c.requires c.put_number_in.result (rw whole at c.put_number_in.ensures.held) e
+
+pub returns-in-Err-clause-refused : goal.returns-in-Err-clause-refused
+returns-in-Err-clause-refused c = λ e precision is few held. leads_to_none (storage_view c.args.self.now) (place_view c.args.place) c.in-Err._fault c.in-Err.ensures
