@@ -1,5 +1,6 @@
 //! The trees of statements. Tokens are counted from 0, and the statements of a unit from 1, in the order in which they
 //! begin; PROCEDURE, DECLARE, END, IF, ON and the statements inside them count (own).
+
 use crate::declaration::{DescribedAttribute, Item};
 use crate::syntax::{Expression, Identifier, Reference};
 

@@ -1,4 +1,5 @@
 //! The trees of expressions and references.
+
 use crate::name::Name;
 use crate::string::{BitString, CharacterString};
 

@@ -8,7 +8,7 @@ use Rattle.pli_map.specs.Parts.{PlacedPart}
 use Rattle.pli_map.specs.Sizes.{size_of}
 use Rattle.pli_map.specs.StoredValues.{loaded_value}
 use Rattle.pli_value.specs.Value.{Value, Number}
-pub use Rattle.pli_bytes.specs.ScalarPlaces.{begins_on, scalars_at, scalars_after, spread, with_value_on}
+pub use Rattle.pli_map.specs.ScalarPlaces.{begins_on, scalars_at, scalars_after, spread, with_value_on}
 
 -- the one of these scalars that begins on a byte, if one does
 abbrev pub scalar_on : (offset : ℕ) → List PlacedPart → Option PlacedPart

@@ -1,5 +1,4 @@
 pub mod answers
 pub mod Changes
 pub mod Contents
-pub mod ScalarPlaces
 pub mod laws

@@ -10,7 +10,8 @@ ghost use Rattle.pli_map.specs.views.DescriptionView.{description_view, members_
 ghost use Rattle.pli_value.specs.Value.{value_view};
 
 use crate::putting::put_value_at;
-use pli_map::{Bounds, Description, alignment, far_size, holds, scalars_in};
+use crate::values::holds;
+use pli_map::{Bounds, Description, alignment, far_size, scalars_in};
 use pli_value::Value;
 
 /// Lays values down, one for each scalar of a description, in as many bytes as it takes; false exactly where they are

@@ -9,6 +9,8 @@ mod putting;
 mod reading;
 mod scalar;
 mod short;
+mod stored;
+mod values;
 
 pub use beginning::lay_first;
 pub use laws::{parts_are_their_bytes, scalars_are_places};
@@ -17,3 +19,5 @@ pub use putting::{append_at, put_number_at, put_value_at};
 pub use reading::{number_at, text_at, value_at};
 pub use scalar::put_on;
 pub use short::{put_short_at, short_at, short_bits};
+pub use stored::{load_value, store_value};
+pub use values::{first_values, holds};

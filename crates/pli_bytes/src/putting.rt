@@ -9,8 +9,9 @@ ghost use Rattle.pli_map.specs.views.DescriptionView.{description_view};
 ghost use Rattle.pli_value.specs.Numbers.{has_digits};
 ghost use Rattle.pli_value.specs.Value.{value_view, Number, Characters};
 
+use crate::stored::store_value;
 use byteorder::{BigEndian, ByteOrder};
-use pli_map::{Description, store_value};
+use pli_map::Description;
 use pli_value::Value;
 
 /// A value put where a scalar of this description lies, which holds it. Of CHARACTER VARYING only the length and the

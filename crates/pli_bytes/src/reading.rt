@@ -10,8 +10,9 @@ ghost use Rattle.pli_value.specs.Packing.{unpacked};
 ghost use Rattle.pli_value.specs.Value as plain;
 ghost use Rattle.pli_value.specs.Value.{value_view, Number, Characters};
 
+use crate::stored::load_value;
 use byteorder::{BigEndian, ByteOrder};
-use pli_map::{Description, load_value};
+use pli_map::Description;
 use pli_value::Value;
 use pli_value::bit::Bits;
 use pli_value::character::{STRING_LIMIT, fit_varying, roomy_copy};

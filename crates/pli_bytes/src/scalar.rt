@@ -10,7 +10,8 @@ ghost use Rattle.pli_map.specs.views.PartView.{part_view};
 ghost use Rattle.pli_value.specs.Value.{value_view};
 
 use crate::putting::put_value_at;
-use pli_map::{Bounds, Description, PlacedPart, alignment, far_size, holds};
+use crate::values::holds;
+use pli_map::{Bounds, Description, PlacedPart, alignment, far_size};
 use pli_value::Value;
 
 /// Puts a value in the place of that of the scalar which begins on a byte. Nothing changes where none does, or where it

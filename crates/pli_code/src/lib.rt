@@ -2,6 +2,7 @@
 #![tactic(auto)]
 
 mod code;
+mod copying;
 mod decoding;
 mod encoding;
 mod fault;
@@ -14,6 +15,7 @@ mod operands;
 mod version;
 
 pub use code::{Block, BlockKind, Code, CodedGlobal, CodedSignature, CodedTemplate, Deck};
+pub use copying::copied_deck;
 pub use decoding::decode;
 pub use encoding::encode;
 pub use fault::DeckFault;

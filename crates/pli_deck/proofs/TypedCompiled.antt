@@ -24,8 +24,8 @@ use Rattle.pli_gen_emit.specs.Encoding.{code_of}
 use Rattle.pli_gen_emit.proofs.ItemsMake.{code_same}
 use Rattle.pli_grammar.proofs.UnitsAlike.{unit_same}
 use Rattle.pli_parse_statement.specs.StatementReading.{unit_of}
-use Rattle.pli_resolve.specs.ResolvedUnits.{resolved_unit_of}
-use Rattle.pli_type.specs.NamedUnits.{checked_unit}
+use Rattle.pli_declare.specs.ResolvedUnits.{resolved_unit_of}
+use Rattle.pli_type_rules.specs.NamedUnits.{checked_unit}
 use Rattle.pli_meaning.proofs.DeclaredUnits.{declared_units}
 use Rattle.pli_meaning.proofs.LimitsAlike.{limits_alike}
 use Rattle.pli_type_tree.specs.TypedTree.{TypedUnit}

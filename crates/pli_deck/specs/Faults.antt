@@ -1,7 +1,7 @@
 -- The faults of what compiling gives.
 use Rattle.std.specs.Prelude.{Result, Ok, Err, List, []}
 use Rattle.pli_base.specs.declared.token.Fault.{Fault}
-use Rattle.pli_type.specs.laws.Laws.{IsFault}
+use Rattle.pli_type_rules.specs.laws.Laws.{IsFault}
 
 -- all faults; none where there is a deck
 abbrev pub faults_of : {A : Type 0} → Result A (List Fault) → List Fault

@@ -3,7 +3,6 @@
 
 mod compiled;
 mod compiler;
-mod copying;
 mod passes;
 mod spelled;
 

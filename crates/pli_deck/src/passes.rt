@@ -2,8 +2,8 @@
 ghost use Rattle.std.specs.Prelude.{◌≡◌, ◌≤◌, length};
 ghost use Rattle.pli_base.specs.views.StatementView.{unit_view};
 ghost use Rattle.pli_code.specs.views.CodeView.{deck_view};
-ghost use Rattle.pli_resolve.specs.ResolvedUnits.{resolved_unit_of};
-ghost use Rattle.pli_type.specs.NamedUnits.{checked_unit};
+ghost use Rattle.pli_declare.specs.ResolvedUnits.{resolved_unit_of};
+ghost use Rattle.pli_type_rules.specs.NamedUnits.{checked_unit};
 ghost use Rattle.pli_declare.specs.Resolution.{resolution_faults};
 ghost use Rattle.pli_type_tree.specs.views.TypedView as typed;
 ghost use Rattle.pli_meaning.specs.Scratch.{coded, compiled_texts, short_deck, typed_unless};

@@ -4,8 +4,7 @@ ghost use Rattle.pli_code.specs.views.CodeView.{deck_view};
 ghost use Rattle.pli_deck_write.specs.Spelling.{deck_bytes};
 ghost use Rattle.pli_meaning.specs.Scratch.{is_long};
 
-use crate::copying::copied_deck;
-use pli_code::Deck;
+use pli_code::{Deck, copied_deck};
 use pli_deck_write::write_deck;
 use std::alloc::{AllocError, Global};
 use std::marker::Model;

@@ -12,8 +12,9 @@ ghost use Rattle.pli_deck_faults.specs.Counted.{counted_of, keep_limits};
 
 use crate::places::{DescriptionExtent, Places, placed_scalars, scalar_at};
 use crate::standing::has_description;
+use pli_bytes::holds;
 use pli_code::{Code, CodedTemplate};
-use pli_map::{ParameterType, holds};
+use pli_map::ParameterType;
 use pli_type_tree::InitialScalar;
 use std::alloc::{AllocError, Global};
 

@@ -9,12 +9,12 @@ use Rattle.pli_base.specs.declared.declaration.WrittenLength.TheVariants as leng
 use Rattle.pli_map.specs.Description as types
 use Rattle.pli_map.specs.ParameterTypes.{ParameterType, Stated, AnyString}
 use Rattle.pli_map.specs.declared.parameter.StringForm.TheVariants as forms
-use Rattle.pli_declare_attributes.specs.declared.place.ItemPlace.{ItemPlace}
-use Rattle.pli_declare_attributes.specs.declared.place.Position.{Position}
-use Rattle.pli_declare_attributes.specs.declared.place.Position.TheVariants.{AtLevelOne, Member, Parameter, Result}
-use Rattle.pli_declare_attributes.specs.Sets as sets
-use Rattle.pli_declare_attributes.specs.Agreement as old
-use Rattle.pli_declare_attributes.specs.Types as old_types
+use Rattle.pli_declare.specs.declared.place.ItemPlace.{ItemPlace}
+use Rattle.pli_declare.specs.declared.place.Position.{Position}
+use Rattle.pli_declare.specs.declared.place.Position.TheVariants.{AtLevelOne, Member, Parameter, Result}
+use Rattle.pli_declare.specs.Sets as sets
+use Rattle.pli_declare.specs.Agreement as old
+use Rattle.pli_declare.specs.Types as old_types
 use Rattle.pli_declarations.specs.Attributes.{kind_of, set_of, each_once, has, has_none, data_attributes, is_at, excluded_at, may_be_open, is_variable, agree_as_other, agree_as_variable, is_missing}
 use Rattle.pli_declarations.specs.Types.{extent_of, stated, number_of, has_star, is_up_to, is_bad_length, scalar_of, element_of}
 

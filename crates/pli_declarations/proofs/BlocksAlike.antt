@@ -5,10 +5,10 @@ use Rattle.std.specs.Option.{unwrap_or}
 use Rattle.std.proofs.Common.{sym, ap, ap₂, ◌∙◌, arith}
 use Rattle.std.proofs.lemmas.List.{append_assoc, append-nil}
 use Rattle.pli_declare_outline.specs.Outlines.{Region}
-use Rattle.pli_resolve.specs.BlockNumbers as old
-use Rattle.pli_resolve.specs.BlockNumbers.{block_kind}
-use Rattle.pli_resolve.specs.declared.block_numbers.BlockRegion.{BlockRegion}
-use Rattle.pli_resolve.specs.declared.block_numbers.ResolvedBlockKind.{ResolvedBlockKind}
+use Rattle.pli_declare.specs.BlockNumbers as old
+use Rattle.pli_declare.specs.BlockNumbers.{block_kind}
+use Rattle.pli_declare.specs.declared.block_numbers.BlockRegion.{BlockRegion}
+use Rattle.pli_declare.specs.declared.block_numbers.ResolvedBlockKind.{ResolvedBlockKind}
 use Rattle.pli_declarations.specs.Blocks.{block_regions, numbers_after, block_numbers}
 
 begun : (number : ℕ) (r : Region) (kind : Option ResolvedBlockKind) (bs : List BlockRegion)

@@ -17,19 +17,19 @@ use Rattle.pli_base.specs.declared.token.Fault.{Fault}
 use Rattle.pli_base.specs.Declarations.{SimpleAttribute, DescribedAttribute, ParameterDescription, Plain, AnyEntry, AnyReturns, Fixed, Binary, Character, Bit, Varying, Pointer, Offset, Area, Based, Controlled, Static, Automatic, External, Internal, Builtin, Initial, Attribute, Simple, Entry, Returns}
 use Rattle.pli_base.specs.Statements.{Heading}
 use Rattle.pli_declare_outline.specs.Outlines.{Mark, Declared, Labelled, Entered, Used, Jumped, PlacedMark, Outline}
-use Rattle.pli_declare_attributes.specs.Faults as attributes
+use Rattle.pli_declare.specs.Faults as attributes
 use Rattle.pli_declare_scopes.specs.declared.found.ReferenceMeaning.{ReferenceMeaning}
 use Rattle.pli_declare_scopes.specs.declared.found.ReferenceMeaning.TheVariants.{Item as Means, Ambiguous as Several, NotDeclared as Nothing}
 use Rattle.pli_declare_scopes.specs.declared.repeat.Verdict.{Verdict}
 use Rattle.pli_declare_scopes.specs.declared.repeat.Verdict.TheVariants.{Counts, Twice, Beneath}
-use Rattle.pli_declare_tables.specs.Tables as tables
-use Rattle.pli_declare_tables.specs.Tables.{Entity, AsItem, AsLabel, AsProcedure, no_entry}
+use Rattle.pli_declare.specs.Tables as tables
+use Rattle.pli_declare.specs.Tables.{Entity, AsItem, AsLabel, AsProcedure, no_entry}
 use Rattle.pli_declare_constructs.specs.Reach as reach
-use Rattle.pli_declare_variables.specs.AttributeNames.{plain_of}
-use Rattle.pli_declare_variables.specs.Places as places
-use Rattle.pli_declare_variables.specs.Places.{stands_alone}
-use Rattle.pli_declare_variables.specs.Declarations.{returned_by}
-use Rattle.pli_declare_variables.specs.Descriptions as descriptions
+use Rattle.pli_declare.specs.AttributeNames.{plain_of}
+use Rattle.pli_declare.specs.Places as places
+use Rattle.pli_declare.specs.Places.{stands_alone}
+use Rattle.pli_declare.specs.Declarations.{returned_by}
+use Rattle.pli_declare.specs.Descriptions as descriptions
 use Rattle.pli_declare.specs.Resolution as old
 use Rattle.pli_declare.specs.Resolution.{at_token, is_main, parameters_of}
 use Rattle.pli_declarations.specs.Items.{first_fault, least, result_fault}

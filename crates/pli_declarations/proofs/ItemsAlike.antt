@@ -13,24 +13,24 @@ use Rattle.pli_base.specs.declared.declaration.WrittenBounds.{WrittenBounds}
 use Rattle.pli_base.specs.declared.declaration.InitialValue.{InitialValue}
 use Rattle.pli_base.specs.declared.declaration.InitialValue.TheVariants as initial
 use Rattle.pli_map.specs.ParameterTypes.{ParameterType}
-use Rattle.pli_declare_attributes.specs.Sets as sets
-use Rattle.pli_declare_attributes.specs.Sets.{outermost}
-use Rattle.pli_declare_attributes.specs.Agreement as agreement
-use Rattle.pli_declare_attributes.specs.Types as types
-use Rattle.pli_declare_attributes.specs.Extents.{are_bad_bounds, are_bad_stars, all_bounds, is_array}
-use Rattle.pli_declare_attributes.specs.Extents as extents
-use Rattle.pli_declare_attributes.specs.Initials as initials
-use Rattle.pli_declare_attributes.specs.Initials.{values_in, fits, elements_of}
-use Rattle.pli_declare_attributes.specs.Faults as old
-use Rattle.pli_declare_attributes.specs.Faults.{parameters_in, returned_in, with_dimensions, is_too_large_type}
-use Rattle.pli_declare_attributes.specs.Completed as completed
-use Rattle.pli_declare_attributes.specs.Completed.{Variable, Completed, OfVariable, OfEntry, OfBuiltIn}
-use Rattle.pli_declare_attributes.specs.declared.place.ItemPlace.{ItemPlace}
-use Rattle.pli_declare_attributes.specs.declared.place.Position.{Position}
-use Rattle.pli_declare_attributes.specs.declared.place.Position.TheVariants.{AtLevelOne, Member, Parameter, Result}
-use Rattle.pli_declare_attributes.specs.declared.completed.DeclaredStorage.{DeclaredStorage}
-use Rattle.pli_declare_attributes.specs.declared.completed.DeclaredStorage.TheVariants as storage
-use Rattle.pli_declare_attributes.specs.declared.completed.ScopeAttribute.TheVariants as scopes
+use Rattle.pli_declare.specs.Sets as sets
+use Rattle.pli_declare.specs.Sets.{outermost}
+use Rattle.pli_declare.specs.Agreement as agreement
+use Rattle.pli_declare.specs.Types as types
+use Rattle.pli_declare.specs.Extents.{are_bad_bounds, are_bad_stars, all_bounds, is_array}
+use Rattle.pli_declare.specs.Extents as extents
+use Rattle.pli_declare.specs.Initials as initials
+use Rattle.pli_declare.specs.Initials.{values_in, fits, elements_of}
+use Rattle.pli_declare.specs.Faults as old
+use Rattle.pli_declare.specs.Faults.{parameters_in, returned_in, with_dimensions, is_too_large_type}
+use Rattle.pli_declare.specs.Completed as completed
+use Rattle.pli_declare.specs.Completed.{Variable, Completed, OfVariable, OfEntry, OfBuiltIn}
+use Rattle.pli_declare.specs.declared.place.ItemPlace.{ItemPlace}
+use Rattle.pli_declare.specs.declared.place.Position.{Position}
+use Rattle.pli_declare.specs.declared.place.Position.TheVariants.{AtLevelOne, Member, Parameter, Result}
+use Rattle.pli_declare.specs.declared.completed.DeclaredStorage.{DeclaredStorage}
+use Rattle.pli_declare.specs.declared.completed.DeclaredStorage.TheVariants as storage
+use Rattle.pli_declare.specs.declared.completed.ScopeAttribute.TheVariants as scopes
 use Rattle.pli_declarations.specs.Attributes.{is_at, may_be_open}
 use Rattle.pli_declarations.specs.Types.{scalar_of, has_star}
 use Rattle.pli_declarations.specs.Items.{first_fault, lesser, least, shape_faults, area_fault, elements_given, is_bad_initial, own_fault, description_fault, result_fault, type_taken, parameter_of, item_fault, storage_of, variable_of, completed_of}

@@ -10,10 +10,10 @@ use Rattle.pli_declare_outline.specs.Outlines.{Mark, Declared, Labelled, Entered
 use Rattle.pli_declare_scopes.specs.Scopes as scopes
 use Rattle.pli_declare_scopes.specs.declared.found.ReferenceMeaning.{ReferenceMeaning}
 use Rattle.pli_declare_scopes.specs.declared.found.ReferenceMeaning.TheVariants.{Item as Means, Ambiguous as Several, NotDeclared as Nothing}
-use Rattle.pli_declare_tables.specs.Tables.{unit_entries, inner_marks, numbers_from}
-use Rattle.pli_declare_variables.specs.AttributeNames.{plain_of, simple_of, area_in, locator_in}
-use Rattle.pli_declare_variables.specs.Declarations.{returned_by}
-use Rattle.pli_declare_tables.specs.Tables as tables
+use Rattle.pli_declare.specs.Tables.{unit_entries, inner_marks, numbers_from}
+use Rattle.pli_declare.specs.AttributeNames.{plain_of, simple_of, area_in, locator_in}
+use Rattle.pli_declare.specs.Declarations.{returned_by}
+use Rattle.pli_declare.specs.Tables as tables
 use Rattle.pli_declare.specs.Resolution as resolution
 use Rattle.pli_declare.specs.Resolution.{parameters_of}
 use Rattle.pli_declare.specs.Resolved as old

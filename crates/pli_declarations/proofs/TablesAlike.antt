@@ -17,8 +17,8 @@ use Rattle.pli_declare_scopes.specs.declared.level.Numbered.{Numbered}
 use Rattle.pli_declare_scopes.specs.declared.repeat.Verdict.{Verdict}
 use Rattle.pli_declare_scopes.specs.declared.repeat.Verdict.TheVariants.{Counts, Twice, Beneath}
 use Rattle.pli_declare_constructs.specs.Regions.{blocks_round}
-use Rattle.pli_declare_tables.specs.Tables as old
-use Rattle.pli_declare_tables.specs.Tables.{Entry, no_entry, item_entry, inner_marks, unit_entries, unit_block}
+use Rattle.pli_declare.specs.Tables as old
+use Rattle.pli_declare.specs.Tables.{Entry, no_entry, item_entry, inner_marks, unit_entries, unit_block}
 use Rattle.pli_declarations.specs.Regions.{block_of}
 use Rattle.pli_declarations.specs.Tables.{last_where, standing, standings_after, declared_entries, entries_of, entries_among, entries_in, repeats, verdicts_after, verdicts_in, block_in, scope_of, tables_of, entry_at}
 use Rattle.pli_declarations.proofs.RegionsAlike as regions_alike

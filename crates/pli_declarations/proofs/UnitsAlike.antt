@@ -10,9 +10,9 @@ use Rattle.pli_base.specs.Statements.{ExternalProcedure}
 use Rattle.pli_base.specs.declared.syntax.Identifier.{Identifier}
 use Rattle.pli_declare_outline.specs.Outlines.{Mark, Declared, Labelled, Entered, Used, Jumped, PlacedMark}
 use Rattle.pli_declare_outline.specs.Outlines as outlines
-use Rattle.pli_declare_attributes.specs.Completed.{OfVariable, OfEntry, OfBuiltIn}
-use Rattle.pli_declare_tables.specs.Tables.{inner_marks}
-use Rattle.pli_declare_variables.specs.Declarations.{Declaration, DeclaredKind, OfItem, OfLabel, OfProcedure}
+use Rattle.pli_declare.specs.Completed.{OfVariable, OfEntry, OfBuiltIn}
+use Rattle.pli_declare.specs.Tables.{inner_marks}
+use Rattle.pli_declare.specs.Declarations.{Declaration, DeclaredKind, OfItem, OfLabel, OfProcedure}
 use Rattle.pli_declare.specs.Resolution as faults
 use Rattle.pli_declare.specs.Resolved as declare
 use Rattle.pli_declare.specs.Resolved.{BlockDeclarations}
@@ -21,16 +21,16 @@ use Rattle.pli_declare.specs.declared.block.Target.{Target}
 use Rattle.pli_declare.specs.declared.block.Target.TheVariants.{Name as AName, Function as AFunction}
 use Rattle.pli_map.specs.Description as described
 use Rattle.pli_map.specs.ParameterTypes.{ParameterType}
-use Rattle.pli_resolve.specs.BuiltIns as built_ins
-use Rattle.pli_resolve.specs.ResolvedUnits as old
-use Rattle.pli_resolve.specs.StatementPlaces as places
-use Rattle.pli_resolve.specs.Symbols as symbols
-use Rattle.pli_resolve.specs.Symbols.{SymbolKind, Variable, OpenParameter, Way, ways_of, class_of}
-use Rattle.pli_resolve.specs.declared.block_numbers.BlockRegion.{BlockRegion}
-use Rattle.pli_resolve.specs.declared.built_in.BuiltInFunction.{BuiltInFunction}
-use Rattle.pli_resolve.specs.declared.statement_places.StatementPlace.{StatementPlace}
-use Rattle.pli_resolve.specs.declared.symbol.NameMeaning.TheVariants as meanings
-use Rattle.pli_resolve.specs.declared.symbol.SymbolKey.{SymbolKey}
+use Rattle.pli_declare.specs.BuiltIns as built_ins
+use Rattle.pli_declare.specs.ResolvedUnits as old
+use Rattle.pli_declare.specs.StatementPlaces as places
+use Rattle.pli_declare.specs.Symbols as symbols
+use Rattle.pli_declare.specs.Symbols.{SymbolKind, Variable, OpenParameter, Way, ways_of, class_of}
+use Rattle.pli_declare.specs.declared.block_numbers.BlockRegion.{BlockRegion}
+use Rattle.pli_declare.specs.declared.built_in.BuiltInFunction.{BuiltInFunction}
+use Rattle.pli_declare.specs.declared.statement_places.StatementPlace.{StatementPlace}
+use Rattle.pli_declare.specs.declared.symbol.NameMeaning.TheVariants as meanings
+use Rattle.pli_declare.specs.declared.symbol.SymbolKey.{SymbolKey}
 use Rattle.pli_declarations.specs.Blocks.{block_regions, block_numbers}
 use Rattle.pli_declarations.specs.Names.{blocks_of, outermost_of, use_at, areas_at, locators_at, all_uses}
 use Rattle.pli_declarations.specs.Tables.{last_where}

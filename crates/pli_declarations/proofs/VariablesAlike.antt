@@ -8,22 +8,22 @@ use Rattle.pli_base.specs.Words.{same_name}
 use Rattle.pli_base.specs.declared.code.Code.{Code}
 use Rattle.pli_base.specs.Declarations.{Item, DescribedAttribute}
 use Rattle.pli_map.specs.Description.{Description, Structure, Members, NoMembers, MemberThen}
-use Rattle.pli_declare_attributes.specs.Sets as sets
-use Rattle.pli_declare_attributes.specs.Sets.{outermost}
-use Rattle.pli_declare_attributes.specs.Extents.{all_bounds, is_array}
-use Rattle.pli_declare_attributes.specs.Extents as extents
-use Rattle.pli_declare_attributes.specs.Faults as faults
-use Rattle.pli_declare_attributes.specs.Faults.{with_bounds, is_too_large}
-use Rattle.pli_declare_attributes.specs.declared.place.ItemPlace.{ItemPlace}
-use Rattle.pli_declare_attributes.specs.declared.place.Position.{Position}
-use Rattle.pli_declare_attributes.specs.declared.place.Position.TheVariants.{AtLevelOne, Member, Parameter}
-use Rattle.pli_declare_tables.specs.Tables.{Entity, AsItem, AsLabel, AsProcedure, Entry, no_entry, numbers_from}
-use Rattle.pli_declare_variables.specs.Places as places
-use Rattle.pli_declare_variables.specs.Places.{owners_of, members_of, item_of, is_bad_level, stands_alone, elements_through, is_unsubscripted}
-use Rattle.pli_declare_variables.specs.Descriptions as descriptions
-use Rattle.pli_declare_variables.specs.Descriptions.{is_of_shape}
-use Rattle.pli_declare_variables.specs.Declarations as declarations
-use Rattle.pli_declare_variables.specs.Declarations.{Declaration, DeclaredKind, OfItem, OfLabel, OfProcedure, returned_by}
+use Rattle.pli_declare.specs.Sets as sets
+use Rattle.pli_declare.specs.Sets.{outermost}
+use Rattle.pli_declare.specs.Extents.{all_bounds, is_array}
+use Rattle.pli_declare.specs.Extents as extents
+use Rattle.pli_declare.specs.Faults as faults
+use Rattle.pli_declare.specs.Faults.{with_bounds, is_too_large}
+use Rattle.pli_declare.specs.declared.place.ItemPlace.{ItemPlace}
+use Rattle.pli_declare.specs.declared.place.Position.{Position}
+use Rattle.pli_declare.specs.declared.place.Position.TheVariants.{AtLevelOne, Member, Parameter}
+use Rattle.pli_declare.specs.Tables.{Entity, AsItem, AsLabel, AsProcedure, Entry, no_entry, numbers_from}
+use Rattle.pli_declare.specs.Places as places
+use Rattle.pli_declare.specs.Places.{owners_of, members_of, item_of, is_bad_level, stands_alone, elements_through, is_unsubscripted}
+use Rattle.pli_declare.specs.Descriptions as descriptions
+use Rattle.pli_declare.specs.Descriptions.{is_of_shape}
+use Rattle.pli_declare.specs.Declarations as declarations
+use Rattle.pli_declare.specs.Declarations.{Declaration, DeclaredKind, OfItem, OfLabel, OfProcedure, returned_by}
 use Rattle.pli_declarations.specs.Types.{scalar_of, has_star}
 use Rattle.pli_declarations.specs.Variables.{is_built_in, place_in, own_code, attributes_in, is_variable_item, is_locator, is_area, members_made, inside, described, description_of, is_whole, is_too_large_variable, kind_at, declared_in}
 use Rattle.pli_declarations.proofs.AttributesAlike.{set_alike, star_alike, scalar_alike}

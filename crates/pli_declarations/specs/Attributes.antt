@@ -5,10 +5,10 @@ use Rattle.std.specs.List.{list_any, fold}
 use Rattle.pli_base.specs.Declarations.{DescribedAttribute, Plain, AnyEntry, AnyReturns}
 use Rattle.pli_base.specs.Declarations.{Fixed, Binary, Character, Bit, Varying, Pointer, Offset, Area, Based}
 use Rattle.pli_base.specs.Declarations.{Controlled, Static, Automatic, External, Internal, Builtin, Initial}
-use Rattle.pli_declare_attributes.specs.declared.place.ItemPlace.{ItemPlace}
-use Rattle.pli_declare_attributes.specs.declared.place.Position.{Position}
-use Rattle.pli_declare_attributes.specs.declared.place.Position.TheVariants.{AtLevelOne, Member, Parameter}
-use Rattle.pli_declare_attributes.specs.declared.place.Position.TheVariants.{Result}
+use Rattle.pli_declare.specs.declared.place.ItemPlace.{ItemPlace}
+use Rattle.pli_declare.specs.declared.place.Position.{Position}
+use Rattle.pli_declare.specs.declared.place.Position.TheVariants.{AtLevelOne, Member, Parameter}
+use Rattle.pli_declare.specs.declared.place.Position.TheVariants.{Result}
 
 -- sets
 

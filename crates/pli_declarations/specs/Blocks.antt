@@ -5,8 +5,8 @@ use Rattle.std.specs.Prelude.{ℕ, ◌+◌, is_some, option_map, List, [], ◌�
 use Rattle.std.specs.List.{filter_map, enumerate_from}
 use Rattle.std.specs.Option.{unwrap_or}
 use Rattle.pli_declare_outline.specs.Outlines.{Region}
-use Rattle.pli_resolve.specs.BlockNumbers.{block_kind}
-use Rattle.pli_resolve.specs.declared.block_numbers.BlockRegion.{BlockRegion}
+use Rattle.pli_declare.specs.BlockNumbers.{block_kind}
+use Rattle.pli_declare.specs.declared.block_numbers.BlockRegion.{BlockRegion}
 
 -- the blocks of a unit, each under its number
 abbrev pub block_regions : List Region → List BlockRegion

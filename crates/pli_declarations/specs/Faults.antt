@@ -1,6 +1,7 @@
 -- The faults of the declarations of a unit: for each declared name and each reference the least code, in the
 -- order of their tokens.
-use Rattle.std.specs.Prelude.{ℕ, Bool, true, false, not, ◌&&◌, ◌||◌, nat_lt, Option, Some, None, List, [], ◌∷◌}
+use Rattle.std.specs.Prelude.{ℕ, Bool, true, false, not, ◌&&◌, ◌||◌, nat_lt, Option, Some, None, List, []}
+use Rattle.std.specs.Prelude.{◌∷◌}
 use Rattle.std.specs.Prelude.{◌++◌, map, length, get_or, if◌then◌else◌}
 use Rattle.std.specs.List.{flat_map, list_any, list_all, enumerate_from}
 use Rattle.std.specs.Option.{unwrap_or}
@@ -22,11 +23,11 @@ use Rattle.pli_declare_scopes.specs.declared.found.ReferenceMeaning.TheVariants.
 use Rattle.pli_declare_scopes.specs.declared.found.ReferenceMeaning.TheVariants.{NotDeclared as Nothing}
 use Rattle.pli_declare_scopes.specs.declared.repeat.Verdict.{Verdict}
 use Rattle.pli_declare_scopes.specs.declared.repeat.Verdict.TheVariants.{Counts, Twice}
-use Rattle.pli_declare_tables.specs.Tables as tables
-use Rattle.pli_declare_tables.specs.Tables.{Entity, AsItem, AsLabel, AsProcedure, no_entry}
-use Rattle.pli_declare_variables.specs.AttributeNames.{plain_of}
-use Rattle.pli_declare_variables.specs.Places.{stands_alone}
-use Rattle.pli_declare_variables.specs.Declarations.{returned_by}
+use Rattle.pli_declare.specs.Tables as tables
+use Rattle.pli_declare.specs.Tables.{Entity, AsItem, AsLabel, AsProcedure, no_entry}
+use Rattle.pli_declare.specs.AttributeNames.{plain_of}
+use Rattle.pli_declare.specs.Places.{stands_alone}
+use Rattle.pli_declare.specs.Declarations.{returned_by}
 use Rattle.pli_declare.specs.Resolution.{at_token, is_main, parameters_of}
 use Rattle.pli_declarations.specs.Items.{first_fault, least, result_fault}
 use Rattle.pli_declarations.specs.Regions.{block_of, reaches}

@@ -10,26 +10,27 @@ use Rattle.pli_base.specs.declared.code.Code.TheVariants.{AttributesConflict, At
 use Rattle.pli_base.specs.declared.code.Code.TheVariants.{BadLength, BadBounds, BadInitial}
 use Rattle.pli_base.specs.declared.code.Code.TheVariants.{AreaNotAllowedHere, TooManyParameters}
 use Rattle.pli_base.specs.declared.code.Code.TheVariants.{GenerationTooLarge}
-use Rattle.pli_base.specs.Declarations.{Item, DescribedAttribute, ParameterDescription, Plain, AnyEntry, Fixed}
+use Rattle.pli_base.specs.Declarations.{Item, DescribedAttribute, ParameterDescription, Plain, AnyEntry}
+use Rattle.pli_base.specs.Declarations.{Fixed}
 use Rattle.pli_base.specs.Declarations.{Area, Initial, Static, Builtin}
 use Rattle.pli_base.specs.Declarations as written
 use Rattle.pli_base.specs.declared.declaration.WrittenBounds.{WrittenBounds}
 use Rattle.pli_base.specs.declared.declaration.InitialValue.{InitialValue}
 use Rattle.pli_base.specs.declared.declaration.InitialValue.TheVariants as initial
 use Rattle.pli_map.specs.ParameterTypes.{ParameterType}
-use Rattle.pli_declare_attributes.specs.Sets.{outermost}
-use Rattle.pli_declare_attributes.specs.Extents.{are_bad_bounds, are_bad_stars, all_bounds, is_array}
-use Rattle.pli_declare_attributes.specs.Extents as extents
-use Rattle.pli_declare_attributes.specs.Initials.{values_in, fits, elements_of}
-use Rattle.pli_declare_attributes.specs.Faults.{parameters_in, returned_in, with_dimensions, is_too_large_type}
-use Rattle.pli_declare_attributes.specs.Completed.{Variable, Completed, OfVariable, OfEntry, OfBuiltIn}
-use Rattle.pli_declare_attributes.specs.declared.place.ItemPlace.{ItemPlace}
-use Rattle.pli_declare_attributes.specs.declared.place.Position.{Position}
-use Rattle.pli_declare_attributes.specs.declared.place.Position.TheVariants.{AtLevelOne, Member, Parameter}
-use Rattle.pli_declare_attributes.specs.declared.place.Position.TheVariants.{Result}
-use Rattle.pli_declare_attributes.specs.declared.completed.DeclaredStorage.{DeclaredStorage}
-use Rattle.pli_declare_attributes.specs.declared.completed.DeclaredStorage.TheVariants as storage
-use Rattle.pli_declare_attributes.specs.declared.completed.ScopeAttribute.TheVariants as scopes
+use Rattle.pli_declare.specs.Sets.{outermost}
+use Rattle.pli_declare.specs.Extents.{are_bad_bounds, are_bad_stars, all_bounds, is_array}
+use Rattle.pli_declare.specs.Extents as extents
+use Rattle.pli_declare.specs.Initials.{values_in, fits, elements_of}
+use Rattle.pli_declare.specs.Faults.{parameters_in, returned_in, with_dimensions, is_too_large_type}
+use Rattle.pli_declare.specs.Completed.{Variable, Completed, OfVariable, OfEntry, OfBuiltIn}
+use Rattle.pli_declare.specs.declared.place.ItemPlace.{ItemPlace}
+use Rattle.pli_declare.specs.declared.place.Position.{Position}
+use Rattle.pli_declare.specs.declared.place.Position.TheVariants.{AtLevelOne, Member, Parameter}
+use Rattle.pli_declare.specs.declared.place.Position.TheVariants.{Result}
+use Rattle.pli_declare.specs.declared.completed.DeclaredStorage.{DeclaredStorage}
+use Rattle.pli_declare.specs.declared.completed.DeclaredStorage.TheVariants as storage
+use Rattle.pli_declare.specs.declared.completed.ScopeAttribute.TheVariants as scopes
 use Rattle.pli_declarations.specs.Attributes.{each_once, has, is_at, may_be_open, agree_as_other}
 use Rattle.pli_declarations.specs.Attributes.{agree_as_variable, is_missing}
 use Rattle.pli_declarations.specs.Types.{number_of, has_star, is_up_to, is_bad_length, scalar_of, element_of}

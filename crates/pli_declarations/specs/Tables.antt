@@ -14,8 +14,8 @@ use Rattle.pli_declare_scopes.specs.declared.level.ItemStanding.{ItemStanding}
 use Rattle.pli_declare_scopes.specs.declared.repeat.Verdict.{Verdict}
 use Rattle.pli_declare_scopes.specs.declared.repeat.Verdict.TheVariants.{Counts, Twice, Beneath}
 use Rattle.pli_declare_constructs.specs.Regions.{blocks_round}
-use Rattle.pli_declare_tables.specs.Tables.{AsLabel, AsProcedure, Entry, no_entry, item_entry, inner_marks}
-use Rattle.pli_declare_tables.specs.Tables.{unit_entries, unit_block}
+use Rattle.pli_declare.specs.Tables.{AsLabel, AsProcedure, Entry, no_entry, item_entry, inner_marks}
+use Rattle.pli_declare.specs.Tables.{unit_entries, unit_block}
 use Rattle.pli_declarations.specs.Regions.{block_of}
 
 -- levels

@@ -9,24 +9,24 @@ use Rattle.pli_base.specs.Name.{Name}
 use Rattle.pli_base.specs.Words.{same_name}
 use Rattle.pli_base.specs.Statements.{ExternalProcedure}
 use Rattle.pli_declare_outline.specs.Outlines.{PlacedMark, Mark, Used}
-use Rattle.pli_declare_attributes.specs.Completed.{OfVariable, OfEntry, OfBuiltIn}
-use Rattle.pli_declare_tables.specs.Tables.{inner_marks}
-use Rattle.pli_declare_variables.specs.Declarations.{Declaration, DeclaredKind, OfItem, OfLabel, OfProcedure}
+use Rattle.pli_declare.specs.Completed.{OfVariable, OfEntry, OfBuiltIn}
+use Rattle.pli_declare.specs.Tables.{inner_marks}
+use Rattle.pli_declare.specs.Declarations.{Declaration, DeclaredKind, OfItem, OfLabel, OfProcedure}
 use Rattle.pli_declare.specs.Resolved.{BlockDeclarations}
 use Rattle.pli_declare.specs.declared.block.Use.{Use}
 use Rattle.pli_declare.specs.declared.block.Target.{Target}
 use Rattle.pli_declare.specs.declared.block.Target.TheVariants.{Name as AName, Function as AFunction}
 use Rattle.pli_base.specs.declared.token.Fault.{Fault}
 use Rattle.pli_map.specs.Description as described
-use Rattle.pli_resolve.specs.BuiltIns.{built_in_functions}
-use Rattle.pli_resolve.specs.ResolvedUnits.{ResolvedUnit, ResolvedBlock}
-use Rattle.pli_resolve.specs.Symbols.{Symbol, SymbolKind, Variable, OpenParameter, Member, Label, Procedure}
-use Rattle.pli_resolve.specs.Symbols.{Entry, BuiltIn, Way, ways_of, class_of}
-use Rattle.pli_resolve.specs.declared.block_numbers.BlockRegion.{BlockRegion}
-use Rattle.pli_resolve.specs.declared.built_in.BuiltInFunction.{BuiltInFunction}
-use Rattle.pli_resolve.specs.declared.symbol.NameMeaning.{NameMeaning}
-use Rattle.pli_resolve.specs.declared.symbol.NameMeaning.TheVariants as meanings
-use Rattle.pli_resolve.specs.declared.symbol.SymbolKey.{SymbolKey}
+use Rattle.pli_declare.specs.BuiltIns.{built_in_functions}
+use Rattle.pli_declare.specs.ResolvedUnits.{ResolvedUnit, ResolvedBlock}
+use Rattle.pli_declare.specs.Symbols.{Symbol, SymbolKind, Variable, OpenParameter, Member, Label, Procedure}
+use Rattle.pli_declare.specs.Symbols.{Entry, BuiltIn, Way, ways_of, class_of}
+use Rattle.pli_declare.specs.declared.block_numbers.BlockRegion.{BlockRegion}
+use Rattle.pli_declare.specs.declared.built_in.BuiltInFunction.{BuiltInFunction}
+use Rattle.pli_declare.specs.declared.symbol.NameMeaning.{NameMeaning}
+use Rattle.pli_declare.specs.declared.symbol.NameMeaning.TheVariants as meanings
+use Rattle.pli_declare.specs.declared.symbol.SymbolKey.{SymbolKey}
 use Rattle.pli_declarations.specs.Blocks.{block_regions, block_numbers}
 use Rattle.pli_declarations.specs.Faults.{outline_faults}
 use Rattle.pli_declarations.specs.Names.{blocks_of, outermost_of, use_at, areas_at, locators_at, all_uses}

@@ -10,20 +10,20 @@ use Rattle.pli_base.specs.Words.{same_name}
 use Rattle.pli_base.specs.declared.code.Code.{Code}
 use Rattle.pli_base.specs.Declarations.{DescribedAttribute, Plain, Pointer, Offset, Area, Based}
 use Rattle.pli_map.specs.Description.{Description, Structure, Members, NoMembers, MemberThen}
-use Rattle.pli_declare_attributes.specs.Sets.{outermost}
-use Rattle.pli_declare_attributes.specs.Extents.{all_bounds, is_array}
-use Rattle.pli_declare_attributes.specs.Extents as extents
-use Rattle.pli_declare_attributes.specs.Faults.{with_bounds, is_too_large}
-use Rattle.pli_declare_attributes.specs.declared.place.ItemPlace.{ItemPlace}
-use Rattle.pli_declare_attributes.specs.declared.place.Position.TheVariants.{AtLevelOne, Member, Parameter}
-use Rattle.pli_declare_tables.specs.Tables.{Entity, AsItem, AsLabel, AsProcedure, Entry, no_entry}
-use Rattle.pli_declare_tables.specs.Tables.{numbers_from}
-use Rattle.pli_declare_variables.specs.Places.{owners_of, members_of, item_of, is_bad_level, stands_alone}
-use Rattle.pli_declare_variables.specs.Places.{elements_through, is_unsubscripted}
-use Rattle.pli_declare_variables.specs.Descriptions.{is_of_shape}
-use Rattle.pli_declare_variables.specs.Declarations.{Declaration, DeclaredKind, OfItem, OfLabel, OfProcedure}
-use Rattle.pli_declare_variables.specs.Declarations.{returned_by}
-use Rattle.pli_resolve.specs.BuiltIns.{built_in_functions}
+use Rattle.pli_declare.specs.Sets.{outermost}
+use Rattle.pli_declare.specs.Extents.{all_bounds, is_array}
+use Rattle.pli_declare.specs.Extents as extents
+use Rattle.pli_declare.specs.Faults.{with_bounds, is_too_large}
+use Rattle.pli_declare.specs.declared.place.ItemPlace.{ItemPlace}
+use Rattle.pli_declare.specs.declared.place.Position.TheVariants.{AtLevelOne, Member, Parameter}
+use Rattle.pli_declare.specs.Tables.{Entity, AsItem, AsLabel, AsProcedure, Entry, no_entry}
+use Rattle.pli_declare.specs.Tables.{numbers_from}
+use Rattle.pli_declare.specs.Places.{owners_of, members_of, item_of, is_bad_level, stands_alone}
+use Rattle.pli_declare.specs.Places.{elements_through, is_unsubscripted}
+use Rattle.pli_declare.specs.Descriptions.{is_of_shape}
+use Rattle.pli_declare.specs.Declarations.{Declaration, DeclaredKind, OfItem, OfLabel, OfProcedure}
+use Rattle.pli_declare.specs.Declarations.{returned_by}
+use Rattle.pli_declare.specs.BuiltIns.{built_in_functions}
 use Rattle.pli_declarations.specs.Attributes.{has, has_none, is_variable}
 use Rattle.pli_declarations.specs.Types.{has_star, scalar_of}
 use Rattle.pli_declarations.specs.Items.{item_fault, completed_of}

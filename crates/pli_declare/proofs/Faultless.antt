@@ -11,12 +11,12 @@ use Rattle.pli_base.specs.Declarations.{DescribedAttribute}
 use Rattle.pli_base.specs.Statements.{Heading}
 use Rattle.pli_declare_outline.specs.Outlines.{Mark, Declared, Labelled, Entered, Used, Jumped, PlacedMark, Outline}
 use Rattle.pli_declare_constructs.specs.Regions.{block_of}
-use Rattle.pli_declare_tables.specs.Tables.{Entity, AsItem, AsLabel, AsProcedure, Entry, no_entry, entries_of, entries_in, inner_marks, heading_entries, unit_entries}
-use Rattle.pli_declare_attributes.specs.Faults.{result_fault, first_of, lesser}
-use Rattle.pli_declare_attributes.proofs.LeastFaults.{no_lesser}
-use Rattle.pli_declare_variables.specs.Places.{own_code}
-use Rattle.pli_declare_variables.specs.Descriptions.{is_too_large_variable}
-use Rattle.pli_declare_variables.specs.Declarations.{returned_by, AreSound, IsGood, AreGood}
+use Rattle.pli_declare.specs.Tables.{Entity, AsItem, AsLabel, AsProcedure, Entry, no_entry, entries_of, entries_in, inner_marks, heading_entries, unit_entries}
+use Rattle.pli_declare.specs.Faults.{result_fault, first_of, lesser}
+use Rattle.pli_declare.proofs.LeastFaults.{no_lesser}
+use Rattle.pli_declare.specs.Places.{own_code}
+use Rattle.pli_declare.specs.Descriptions.{is_too_large_variable}
+use Rattle.pli_declare.specs.Declarations.{returned_by, AreSound, IsGood, AreGood}
 use Rattle.pli_declare.specs.Resolution.{at_token, least, described_is_good, returned_are, names_nothing, heading_code, parameters_of, entity_codes, item_code, codes_from, parameter_faults, used_faults, mark_faults, declared_by, faults_after, heading_faults, unit_faults, outline_faults}
 use Rattle.pli_declare.proofs.MarkWalkLemmas.{how_many_declared, counted_elsewhere, counted_here}
 

@@ -11,7 +11,7 @@ use Rattle.pli_base.specs.declared.syntax.Identifier.{Identifier}
 use Rattle.pli_base.specs.declared.token.Fault.{Fault}
 use Rattle.pli_declare_outline.specs.Outlines.{Region, Mark, Declared, Labelled, Entered, Used, Jumped, PlacedMark, Outline, outline_of}
 use Rattle.pli_declare_constructs.specs.Regions.{block_of}
-use Rattle.pli_declare_tables.specs.Tables.{Entry, no_entry, entries_of, entries_after, entries_in, inner_marks}
+use Rattle.pli_declare.specs.Tables.{Entry, no_entry, entries_of, entries_after, entries_in, inner_marks}
 use Rattle.pli_declare.specs.Resolution.{at_token, item_code, codes_from, parameter_code, parameter_codes, parameter_faults, used_faults, mark_faults, declared_by, faults_after, heading_faults, unit_faults, outline_faults, resolution_faults}
 use Rattle.pli_declare.specs.laws.FaultLaws.{AtName, no_identifier, HasParameter, AtParameter, HasUse, AtUse, HasHeading, AtUnit, FaultsAreLeastCodes}
 use Rattle.pli_declare.proofs.MarkWalkLemmas.{how_many_declared, entries_both, entries_grow, counted_elsewhere, counted_here}

@@ -5,3 +5,11 @@ pub mod ParametersOfBlocks
 pub mod MarkWalkLemmas
 pub mod Faultless
 pub mod FaultsAreExact
+pub mod BitLemmas
+pub mod ItemsStandAfter
+pub mod LeastFaults
+pub mod MembersFound
+pub mod MembersStandAfter
+pub mod NumberListLemmas
+pub mod OwnerLemmas
+pub mod ShapeLemmas

@@ -10,7 +10,7 @@ use Rattle.pli_declare_constructs.specs.Regions.{block_of}
 use Rattle.pli_declare_scopes.specs.Levels.{standings_of, standings_after, level_of}
 use Rattle.pli_declare_scopes.specs.declared.level.Numbered.{Numbered}
 use Rattle.pli_declare_scopes.specs.declared.level.ItemStanding.{ItemStanding}
-use Rattle.pli_declare_tables.specs.Tables.{Entry, named, item_entry, item_entries, declared_entries, entries_of, entries_after}
+use Rattle.pli_declare.specs.Tables.{Entry, named, item_entry, item_entries, declared_entries, entries_of, entries_after}
 use Rattle.pli_declare.specs.Resolution.{declared_by}
 use Rattle.pli_declare.proofs.ParametersOfBlocks.{not_equal}
 use Rattle.pli_declare.specs.DeclaredNames.{declared_names}

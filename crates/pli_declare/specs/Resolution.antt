@@ -17,7 +17,7 @@ use Rattle.pli_base.specs.Declarations.{ParameterDescription, Attribute, Simple,
 use Rattle.pli_base.specs.Statements as options
 use Rattle.pli_base.specs.Statements.{Heading, ProcedureOption, ExternalProcedure}
 use Rattle.pli_declare_outline.specs.Outlines.{Mark, Entered, Used, Jumped, PlacedMark, Outline, outline_of}
-use Rattle.pli_declare_attributes.specs.Faults.{first_of, lesser, result_fault}
+use Rattle.pli_declare.specs.Faults.{first_of, lesser, result_fault}
 use Rattle.pli_declare_scopes.specs.Scopes.{meant}
 use Rattle.pli_declare_scopes.specs.declared.found.ReferenceMeaning.{ReferenceMeaning}
 use Rattle.pli_declare_scopes.specs.declared.found.ReferenceMeaning.TheVariants.{Item as Means}
@@ -25,14 +25,14 @@ use Rattle.pli_declare_scopes.specs.declared.found.ReferenceMeaning.TheVariants.
 use Rattle.pli_declare_scopes.specs.declared.found.ReferenceMeaning.TheVariants.{NotDeclared as Nothing}
 use Rattle.pli_declare_scopes.specs.declared.repeat.Verdict.{Verdict}
 use Rattle.pli_declare_scopes.specs.declared.repeat.Verdict.TheVariants.{Counts, Twice, Beneath}
-use Rattle.pli_declare_tables.specs.Tables as tables
+use Rattle.pli_declare.specs.Tables as tables
 use Rattle.pli_declare_constructs.specs.Regions.{block_of}
-use Rattle.pli_declare_tables.specs.Tables.{Entity, AsItem, AsLabel, AsProcedure, no_entry, entries_in}
-use Rattle.pli_declare_tables.specs.Tables.{entries_of, verdicts_in, scope_of, tables_of, entry_at}
+use Rattle.pli_declare.specs.Tables.{Entity, AsItem, AsLabel, AsProcedure, no_entry, entries_in}
+use Rattle.pli_declare.specs.Tables.{entries_of, verdicts_in, scope_of, tables_of, entry_at}
 use Rattle.pli_declare_constructs.specs.Reach.{reaches}
-use Rattle.pli_declare_variables.specs.Places.{stands_alone, is_built_in, own_code, is_locator, is_area}
-use Rattle.pli_declare_variables.specs.Descriptions.{is_too_large_variable}
-use Rattle.pli_declare_variables.specs.Declarations.{returned_by}
+use Rattle.pli_declare.specs.Places.{stands_alone, is_built_in, own_code, is_locator, is_area}
+use Rattle.pli_declare.specs.Descriptions.{is_too_large_variable}
+use Rattle.pli_declare.specs.Declarations.{returned_by}
 
 -- a code at a token, if there is one
 abbrev pub at_token : ℕ → Option Code → List Fault

@@ -14,9 +14,9 @@ use Rattle.pli_declare_scopes.specs.declared.found.ReferenceMeaning.{ReferenceMe
 use Rattle.pli_declare_scopes.specs.declared.found.ReferenceMeaning.TheVariants.{Item as Means}
 use Rattle.pli_declare_scopes.specs.declared.found.ReferenceMeaning.TheVariants.{Ambiguous as Several}
 use Rattle.pli_declare_scopes.specs.declared.found.ReferenceMeaning.TheVariants.{NotDeclared as Nothing}
-use Rattle.pli_declare_tables.specs.Tables.{entries_in, unit_entries, inner_marks, numbers_from, scope_of}
-use Rattle.pli_declare_variables.specs.AttributeNames.{plain_of, simple_of, area_in, locator_in}
-use Rattle.pli_declare_variables.specs.Declarations.{Declaration, declared_in, returned_by}
+use Rattle.pli_declare.specs.Tables.{entries_in, unit_entries, inner_marks, numbers_from, scope_of}
+use Rattle.pli_declare.specs.AttributeNames.{plain_of, simple_of, area_in, locator_in}
+use Rattle.pli_declare.specs.Declarations.{Declaration, declared_in, returned_by}
 use Rattle.pli_declare.specs.Resolution.{is_function, names_of, parameters_of}
 use Rattle.pli_declare.specs.declared.block.Use.{Use}
 use Rattle.pli_declare.specs.declared.block.Target.{Target}

@@ -1,2 +1,5 @@
 pub mod BlockView
 pub mod ResolvedView
+pub mod CompletedView
+pub mod DeclarationView
+pub mod SymbolView

@@ -1,10 +1,10 @@
 //! What blocks declare, and what names mean.
 ghost use Rattle.std.specs.Prelude.{◌≡◌, map, IfOk};
-ghost use Rattle.pli_declare_variables.specs.views.DeclarationView.{declaration_view};
+ghost use Rattle.pli_declare.specs.views.DeclarationView.{declaration_view};
 ghost use Rattle.pli_declare.specs.views.BlockView.{block_view};
 
+use crate::declaration::Declaration;
 use pli_base::Name;
-use pli_declare_variables::Declaration;
 use std::alloc::{AllocError, Global};
 
 /// What a name means.

@@ -3,15 +3,15 @@ ghost use Rattle.std.specs.Prelude.{◌≡◌, ℕ, nat_eq, map, IfOk};
 ghost use Rattle.indexmap.specs.IndexMap.{get};
 ghost use Rattle.pli_base.specs.views.StatementView.{unit_view};
 ghost use Rattle.pli_declare_outline.specs.views.OutlineView.{regions_view};
-ghost use Rattle.pli_declare_variables.specs.views.DeclarationView.{declaration_view};
+ghost use Rattle.pli_declare.specs.views.DeclarationView.{declaration_view};
 ghost use Rattle.pli_declare.specs.Resolved.{resolved_of, meaning_at};
 ghost use Rattle.pli_declare.specs.views.BlockView.{block_view, IsResolvedOf};
 
 use crate::block::{BlockDeclarations, Target, copied_blocks, copied_declarations};
+use crate::declaration::Declaration;
 use indexmap::IndexMap;
 use pli_base::statement::Procedure;
 use pli_declare_outline::Region;
-use pli_declare_variables::Declaration;
 use std::alloc::{AllocError, Global};
 use std::marker::Model;
 

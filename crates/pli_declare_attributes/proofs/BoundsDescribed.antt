@@ -4,7 +4,7 @@ use Rattle.std.specs.List.{list_all}
 use Rattle.std.proofs.lemmas.List.{drop_more, take_more, map_push}
 use Rattle.pli_base.specs.declared.declaration.WrittenBounds.{WrittenBounds}
 use Rattle.pli_map.specs.declared.description.Bounds.{Bounds}
-use Rattle.pli_declare_attributes.specs.Extents.{are_good, bounds_of, all_bounds}
+use Rattle.pli_declare.specs.Extents.{are_good, bounds_of, all_bounds}
 
 both : (a b : Bool) → (a && b) ≡ true → (a ≡ true) × (b ≡ true)
 both true b h = (refl, h)

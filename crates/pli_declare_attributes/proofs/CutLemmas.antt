@@ -8,17 +8,17 @@ use Rattle.pli_base.specs.Declarations as tree
 use Rattle.pli_base.specs.declared.code.Code.TheVariants.{BadInitial}
 use Rattle.pli_base.specs.declared.declaration.WrittenBounds.{WrittenBounds}
 use Rattle.pli_map.specs.Sizes.{count_of}
-use Rattle.pli_declare_attributes.specs.Sets.{set_of, each_once, outermost, has, area}
-use Rattle.pli_declare_attributes.specs.Sets as sets
-use Rattle.pli_declare_attributes.specs.Types.{number_of, scalar_of}
-use Rattle.pli_declare_attributes.specs.Types as types
-use Rattle.pli_declare_attributes.specs.Extents.{all_bounds, are_unknown}
-use Rattle.pli_declare_attributes.specs.Agreement.{set_agrees, is_missing}
-use Rattle.pli_declare_attributes.specs.Initials.{values_in, fits, all_given, is_more_than, elements_inside, is_bad_initial}
-use Rattle.pli_declare_attributes.specs.Faults.{first_of, lesser, shape_fault, is_bad_area, area_fault, own_fault, attributes_fault, item_fault, parameters_fault, parameters_in, returned_fault, returned_in, entry_fault}
-use Rattle.pli_declare_attributes.specs.Completed.{variable_of, completed_of}
+use Rattle.pli_declare.specs.Sets.{set_of, each_once, outermost, has, area}
+use Rattle.pli_declare.specs.Sets as sets
+use Rattle.pli_declare.specs.Types.{number_of, scalar_of}
+use Rattle.pli_declare.specs.Types as types
+use Rattle.pli_declare.specs.Extents.{all_bounds, are_unknown}
+use Rattle.pli_declare.specs.Agreement.{set_agrees, is_missing}
+use Rattle.pli_declare.specs.Initials.{values_in, fits, all_given, is_more_than, elements_inside, is_bad_initial}
+use Rattle.pli_declare.specs.Faults.{first_of, lesser, shape_fault, is_bad_area, area_fault, own_fault, attributes_fault, item_fault, parameters_fault, parameters_in, returned_fault, returned_in, entry_fault}
+use Rattle.pli_declare.specs.Completed.{variable_of, completed_of}
 use Rattle.pli_declare_attributes.specs.answers.Cuts.{most_elements, cut, cut_place}
-use Rattle.pli_declare_attributes.specs.declared.place.ItemPlace.{ItemPlace}
+use Rattle.pli_declare.specs.declared.place.ItemPlace.{ItemPlace}
 use Rattle.pli_declare_attributes.proofs.CountLemmas.{cut_factor}
 
 over : (a m given : ℕ) → most_elements < a → given ≤ most_elements → nat_lt (min a most_elements * suc m) given ≡ nat_lt (a * suc m) given

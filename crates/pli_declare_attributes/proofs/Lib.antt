@@ -1,11 +1,8 @@
-pub mod BitLemmas
 pub mod BoundsDescribed
 pub mod BoundsFit
 pub mod CountLemmas
 pub mod CutLemmas
-pub mod LeastFaults
 pub mod LimitLemmas
 pub mod LimitsOfItems
-pub mod ShapeLemmas
 pub mod TakenLemmas
 pub mod WorkedExamples

@@ -4,11 +4,11 @@ use Rattle.std.specs.Int.{next_multiple_of}
 use Rattle.std.specs.Int.RustNames.{bit_and}
 use Rattle.std.proofs.lemmas.Bool.Decides.{nat_tests}
 use Rattle.std.proofs.lemmas.Nat.{and_assoc}
-use Rattle.pli_declare_attributes.specs.Sets.{has, none_of, is_one_of, data_attributes, fixed, binary, entry, built_in, returns}
-use Rattle.pli_declare_attributes.specs.Agreement.{data_types, agrees_as_variable, is_missing}
-use Rattle.pli_declare_attributes.specs.Types.{is_up_to, number_or, is_bad_precision, is_bad_length, scalar_of}
+use Rattle.pli_declare.specs.Sets.{has, none_of, is_one_of, data_attributes, fixed, binary, entry, built_in, returns}
+use Rattle.pli_declare.specs.Agreement.{data_types, agrees_as_variable, is_missing}
+use Rattle.pli_declare.specs.Types.{is_up_to, number_or, is_bad_precision, is_bad_length, scalar_of}
 use Rattle.pli_declare_attributes.specs.laws.Laws.{IsScalar}
-use Rattle.pli_declare_attributes.specs.declared.place.ItemPlace.{ItemPlace}
+use Rattle.pli_declare.specs.declared.place.ItemPlace.{ItemPlace}
 
 -- the sets of one whole data type
 abbrev pub IsWhole : ℕ → Type 0

@@ -6,17 +6,17 @@ use Rattle.pli_base.specs.declared.code.Code.TheVariants.{AttributesConflict, At
 use Rattle.pli_base.specs.declared.declaration.WrittenBounds.{WrittenBounds}
 use Rattle.pli_map.specs.Description.{Description}
 use Rattle.pli_map.specs.ParameterTypes.{ParameterType}
-use Rattle.pli_declare_attributes.specs.Sets.{has, entry, built_in, outermost, set_of, each_once}
-use Rattle.pli_declare_attributes.specs.Agreement.{may_be_open, set_agrees, agrees_as_entry, agrees_as_built_in, agrees_as_variable, is_missing, is_plain}
-use Rattle.pli_declare_attributes.specs.Types.{number_of, scalar_of, is_bad_precision, is_bad_length, is_bad_star}
-use Rattle.pli_declare_attributes.specs.Types as types
-use Rattle.pli_declare_attributes.specs.Extents.{is_array, are_bad_bounds, are_bad_stars}
-use Rattle.pli_declare_attributes.specs.Faults.{first_of, shape_fault, description_fault, own_fault, attributes_fault, item_fault, entry_fault, parameters_in, parameter_place, result_place}
-use Rattle.pli_declare_attributes.specs.Completed.{Variable, OfVariable, OfEntry, OfBuiltIn, variable_of, completed_of}
+use Rattle.pli_declare.specs.Sets.{has, entry, built_in, outermost, set_of, each_once}
+use Rattle.pli_declare.specs.Agreement.{may_be_open, set_agrees, agrees_as_entry, agrees_as_built_in, agrees_as_variable, is_missing, is_plain}
+use Rattle.pli_declare.specs.Types.{number_of, scalar_of, is_bad_precision, is_bad_length, is_bad_star}
+use Rattle.pli_declare.specs.Types as types
+use Rattle.pli_declare.specs.Extents.{is_array, are_bad_bounds, are_bad_stars}
+use Rattle.pli_declare.specs.Faults.{first_of, shape_fault, description_fault, own_fault, attributes_fault, item_fault, entry_fault, parameters_in, parameter_place, result_place}
+use Rattle.pli_declare.specs.Completed.{Variable, OfVariable, OfEntry, OfBuiltIn, variable_of, completed_of}
 use Rattle.pli_declare_attributes.specs.laws.Laws.{IsScalar, ResultsAreScalars, ParametersAreOfScalars, VariablesAreOfScalars}
-use Rattle.pli_declare_attributes.specs.declared.place.ItemPlace.{ItemPlace}
+use Rattle.pli_declare.specs.declared.place.ItemPlace.{ItemPlace}
 use Rattle.pli_declare_attributes.proofs.LimitLemmas.{variable_whole, scalar_whole}
-use Rattle.pli_declare_attributes.proofs.ShapeLemmas.{shape_sound, or_none, parts_none}
+use Rattle.pli_declare.proofs.ShapeLemmas.{shape_sound, or_none, parts_none}
 
 first_pair : (a b c d e : Bool) (t u v w x : Code) → first_of ((not a, t) ∷ (b, u) ∷ (c, v) ∷ (d, w) ∷ (e, x) ∷ []) ≡ None → (a ≡ true) × (b ≡ false)
 first_pair false b c d e t u v w x h = cc

@@ -6,15 +6,15 @@ use Rattle.pli_base.specs.declared.code.Code.TheVariants.{AttributesConflict, At
 use Rattle.pli_base.specs.declared.declaration.WrittenBounds.{WrittenBounds}
 use Rattle.pli_map.specs.ParameterTypes.{ParameterType, Stated, AnyArray}
 use Rattle.std.specs.List.{list_all}
-use Rattle.pli_declare_attributes.specs.Agreement.{may_be_open, set_agrees, is_missing}
-use Rattle.pli_declare_attributes.specs.Completed.{open_type, variable_of}
-use Rattle.pli_declare_attributes.specs.Extents.{are_bad_bounds, are_bad_stars, has_star, is_star, is_array, all_bounds}
-use Rattle.pli_declare_attributes.specs.Faults.{first_of, shape_fault, own_fault, type_taken, with_bounds}
-use Rattle.pli_declare_attributes.specs.Sets.{has, area, outermost, set_of, each_once}
-use Rattle.pli_declare_attributes.specs.Types.{number_of, is_bad_precision, is_bad_length, is_bad_star, scalar_of}
-use Rattle.pli_declare_attributes.specs.Types as types
-use Rattle.pli_declare_attributes.specs.declared.place.ItemPlace.{ItemPlace}
-use Rattle.pli_declare_attributes.proofs.ShapeLemmas.{or_none}
+use Rattle.pli_declare.specs.Agreement.{may_be_open, set_agrees, is_missing}
+use Rattle.pli_declare.specs.Completed.{open_type, variable_of}
+use Rattle.pli_declare.specs.Extents.{are_bad_bounds, are_bad_stars, has_star, is_star, is_array, all_bounds}
+use Rattle.pli_declare.specs.Faults.{first_of, shape_fault, own_fault, type_taken, with_bounds}
+use Rattle.pli_declare.specs.Sets.{has, area, outermost, set_of, each_once}
+use Rattle.pli_declare.specs.Types.{number_of, is_bad_precision, is_bad_length, is_bad_star, scalar_of}
+use Rattle.pli_declare.specs.Types as types
+use Rattle.pli_declare.specs.declared.place.ItemPlace.{ItemPlace}
+use Rattle.pli_declare.proofs.ShapeLemmas.{or_none}
 
 last_two : (a b c d e : Bool) (t u v w x : Code) → first_of ((a, t) ∷ (b, u) ∷ (c, v) ∷ (d, w) ∷ (e, x) ∷ []) ≡ None → (d ≡ false) × (e ≡ false)
 last_two true b c d e t u v w x h = cc

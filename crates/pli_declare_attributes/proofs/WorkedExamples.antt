@@ -1,11 +1,11 @@
 -- The worked examples compute.
 use Rattle.std.proofs.Common.{refl}
-use Rattle.pli_declare_attributes.specs.Agreement.{set_agrees, is_missing}
-use Rattle.pli_declare_attributes.specs.Types.{is_bad_precision, is_bad_length, scalar_of}
-use Rattle.pli_declare_attributes.specs.Extents.{are_bad_bounds}
-use Rattle.pli_declare_attributes.specs.Initials.{is_bad_initial}
-use Rattle.pli_declare_attributes.specs.Faults.{is_bad_area, shape_fault, description_fault, own_fault, parameter_of, attributes_fault, item_fault}
-use Rattle.pli_declare_attributes.specs.Completed.{variable_of, completed_of}
+use Rattle.pli_declare.specs.Agreement.{set_agrees, is_missing}
+use Rattle.pli_declare.specs.Types.{is_bad_precision, is_bad_length, scalar_of}
+use Rattle.pli_declare.specs.Extents.{are_bad_bounds}
+use Rattle.pli_declare.specs.Initials.{is_bad_initial}
+use Rattle.pli_declare.specs.Faults.{is_bad_area, shape_fault, description_fault, own_fault, parameter_of, attributes_fault, item_fault}
+use Rattle.pli_declare.specs.Completed.{variable_of, completed_of}
 use Rattle.pli_declare_attributes.specs.examples.Examples.{Defaults, StorageClasses, Arrays, Structures, Entries, Asterisks, BadLengthStars, BadBoundStars, TypesConflict, StorageConflicts, OtherConflicts, Missing, BadNumbers, BadInitials, BadAreas, PartsOfEntries}
 
 pub defaults : Defaults

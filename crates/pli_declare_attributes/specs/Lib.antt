@@ -1,11 +1,3 @@
-pub mod Agreement
-pub mod Completed
-pub mod Extents
-pub mod Faults
-pub mod Initials
-pub mod Sets
-pub mod Types
 pub mod answers
 pub mod examples
 pub mod laws
-pub mod views

@@ -1,16 +1,16 @@
 //! Which attributes agree, and which are missing.
 ghost use Rattle.std.specs.Prelude.{◌≡◌, [], ◌∷◌};
 ghost use Rattle.std.specs.Int.RustNames.{bit_and};
-ghost use Rattle.pli_declare_attributes.specs.Sets.{fixed, binary, automatic, static, based, controlled, internal};
-ghost use Rattle.pli_declare_attributes.specs.Sets.{external, is_one_of, data_attributes, storage_attributes};
-ghost use Rattle.pli_declare_attributes.specs.Sets.{scope_attributes};
-ghost use Rattle.pli_declare_attributes.specs.Agreement.{is_at_level_one, may_have_members, excluded_at, data_types};
-ghost use Rattle.pli_declare_attributes.specs.Agreement.{is_plain, agrees_as_entry, agrees_as_built_in};
-ghost use Rattle.pli_declare_attributes.specs.Agreement.{agrees_as_variable, set_agrees, is_missing};
+ghost use Rattle.pli_declare.specs.Sets.{fixed, binary, automatic, static, based, controlled, internal};
+ghost use Rattle.pli_declare.specs.Sets.{external, is_one_of, data_attributes, storage_attributes};
+ghost use Rattle.pli_declare.specs.Sets.{scope_attributes};
+ghost use Rattle.pli_declare.specs.Agreement.{is_at_level_one, may_have_members, excluded_at, data_types};
+ghost use Rattle.pli_declare.specs.Agreement.{is_plain, agrees_as_entry, agrees_as_built_in};
+ghost use Rattle.pli_declare.specs.Agreement.{agrees_as_variable, set_agrees, is_missing};
 
-use crate::place::{ItemPlace, Position};
 use crate::set::AttributeSet;
 use bitflags::Flags;
+use pli_declare::{ItemPlace, Position};
 
 /// Whether the data attributes are those of one data type. Of FIXED and BINARY one may be missing, and so may all:
 /// these are faults of their own.
@@ -134,7 +134,7 @@ fn variable_agrees(place: ItemPlace, set: AttributeSet) -> bool
 }
 
 /// Whether attributes that stand once each agree.
-#[tactic(auto, unfolding(crate::specs::Agreement::set_agrees))]
+#[tactic(auto, unfolding(pli_declare::specs::Agreement::set_agrees))]
 pub(crate) fn agree(place: ItemPlace, array: bool, set: AttributeSet) -> bool
     ensures { result ≡ set_agrees place array set.0 }
 {
@@ -158,7 +158,7 @@ fn lacks_data(set: AttributeSet) -> bool
 }
 
 /// Whether an attribute is missing.
-#[tactic(auto, unfolding(crate::specs::Agreement::is_missing))]
+#[tactic(auto, unfolding(pli_declare::specs::Agreement::is_missing))]
 pub(crate) fn missing(place: ItemPlace, set: AttributeSet) -> bool
     ensures { result ≡ is_missing place set.0 }
 {

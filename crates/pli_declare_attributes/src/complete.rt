@@ -4,31 +4,30 @@ ghost use Rattle.std.specs.List.{list_any};
 ghost use Rattle.pli_base.specs.views.DeclarationView.{described_view, parameter_view, attribute_view, item_view};
 ghost use Rattle.pli_map.specs.views.DescriptionView.{description_view};
 ghost use Rattle.pli_map.specs.views.ParameterView.{type_view};
-ghost use Rattle.pli_declare_attributes.specs.Agreement as agreement;
-ghost use Rattle.pli_declare_attributes.specs.Types.{is_bad_precision, is_bad_length};
-ghost use Rattle.pli_declare_attributes.specs.Extents.{are_bad_bounds};
-ghost use Rattle.pli_declare_attributes.specs.Faults.{parameter_of, parameter_fault, parameters_fault};
-ghost use Rattle.pli_declare_attributes.specs.Faults.{described_scalar, is_too_large_type, with_bounds};
-ghost use Rattle.pli_declare_attributes.specs.Faults.{with_type_bounds, type_taken, own_fault, returned_fault};
-ghost use Rattle.pli_declare_attributes.specs.Faults.{returned_in};
-ghost use Rattle.pli_declare_attributes.specs.Faults as spec;
-ghost use Rattle.pli_declare_attributes.specs.Completed.{storage_at, storage_of, scope_of, open_type, variable_of};
-ghost use Rattle.pli_declare_attributes.specs.Completed.{completed_of};
-ghost use Rattle.pli_declare_attributes.specs.views.CompletedView.{variable_view, completed_view, IsCompleted};
-ghost use Rattle.pli_declare_attributes.specs.views.CompletedView.{IsResult};
+ghost use Rattle.pli_declare.specs.Agreement as agreement;
+ghost use Rattle.pli_declare.specs.Types.{is_bad_precision, is_bad_length};
+ghost use Rattle.pli_declare.specs.Extents.{are_bad_bounds};
+ghost use Rattle.pli_declare.specs.Faults.{parameter_of, parameter_fault, parameters_fault};
+ghost use Rattle.pli_declare.specs.Faults.{described_scalar, is_too_large_type, with_bounds};
+ghost use Rattle.pli_declare.specs.Faults.{with_type_bounds, type_taken, own_fault, returned_fault};
+ghost use Rattle.pli_declare.specs.Faults.{returned_in};
+ghost use Rattle.pli_declare.specs.Faults as spec;
+ghost use Rattle.pli_declare.specs.Completed.{storage_at, storage_of, scope_of, open_type, variable_of};
+ghost use Rattle.pli_declare.specs.Completed.{completed_of};
+ghost use Rattle.pli_declare.specs.views.CompletedView.{variable_view, completed_view, IsCompleted};
+ghost use Rattle.pli_declare.specs.views.CompletedView.{IsResult};
 
-use crate::completed::{Completed, DeclaredStorage, ScopeAttribute, Variable};
 use crate::extents::{all_described, any_star};
 use crate::facts::ItemFacts;
 use crate::faults::{item_fault, may_be_open, result_fault};
 use crate::initials::values_of;
 use crate::parts::{parameters_of, returned_of};
-use crate::place::{ItemPlace, Position};
 use crate::set::AttributeSet;
 use crate::summary::Summary;
 use crate::types::{element, scalar};
 use pli_base::declaration::{Attribute, DescribedAttribute, ParameterDescription, WrittenBounds};
 use pli_base::{Code, Failure};
+use pli_declare::{Completed, DeclaredStorage, ItemPlace, Position, ScopeAttribute, Variable};
 use pli_map::{Bounds, Description, ParameterType, array_of, size};
 use std::alloc::{AllocError, Global};
 
@@ -103,7 +102,7 @@ fn bounded_type(
 }
 
 /// The type of a parameter of these dimensions and attributes.
-#[tactic(auto, using(crate::proofs::ShapeLemmas::bounds_good, crate::proofs::ShapeLemmas::few_dimensions))]
+#[tactic(auto, using(pli_declare::proofs::ShapeLemmas::bounds_good, pli_declare::proofs::ShapeLemmas::few_dimensions))]
 fn type_taken(
     alloc: Global,
     dimensions: &[WrittenBounds],
@@ -218,7 +217,7 @@ pub fn completed_result(attributes: &[DescribedAttribute]) -> Result<Description
 }
 
 /// What the attributes of a variable or member say, where they have no fault.
-#[tactic(auto, unfolding(crate::specs::Completed::variable_of))]
+#[tactic(auto, unfolding(pli_declare::specs::Completed::variable_of))]
 fn variable<'a>(
     alloc: Global,
     place: ItemPlace,

@@ -2,12 +2,12 @@
 ghost use Rattle.std.specs.Prelude.{◌≡◌, ◌||◌, false, map, IfOk};
 ghost use Rattle.pli_base.specs.views.DeclarationView.{attribute_view};
 ghost use Rattle.pli_map.specs.views.DescriptionView.{description_view};
-ghost use Rattle.pli_declare_attributes.specs.Sets.{set_of, outermost};
-ghost use Rattle.pli_declare_attributes.specs.Extents.{are_bad_bounds, all_bounds};
-ghost use Rattle.pli_declare_attributes.specs.Faults.{with_bounds, described_scalar};
-ghost use Rattle.pli_declare_attributes.specs.Types.{number_of, is_bad_precision, is_bad_length};
-ghost use Rattle.pli_declare_attributes.specs.Types as types;
-ghost use Rattle.pli_declare_attributes.specs.Extents as extents;
+ghost use Rattle.pli_declare.specs.Sets.{set_of, outermost};
+ghost use Rattle.pli_declare.specs.Extents.{are_bad_bounds, all_bounds};
+ghost use Rattle.pli_declare.specs.Faults.{with_bounds, described_scalar};
+ghost use Rattle.pli_declare.specs.Types.{number_of, is_bad_precision, is_bad_length};
+ghost use Rattle.pli_declare.specs.Types as types;
+ghost use Rattle.pli_declare.specs.Extents as extents;
 
 use crate::complete::bounded;
 use crate::extents::{all_described, any_star};
@@ -37,7 +37,7 @@ pub fn scalar_description(attributes: &[Attribute]) -> Description
 }
 
 /// An array of these dimensions, which are good, and of this element; or the element itself where there are none.
-#[tactic(auto, using(crate::proofs::ShapeLemmas::bounds_good))]
+#[tactic(auto, using(pli_declare::proofs::ShapeLemmas::bounds_good))]
 pub fn array_description(
     alloc: Global,
     dimensions: &[WrittenBounds],

@@ -2,8 +2,8 @@
 ghost use Rattle.std.specs.Prelude.{◌≡◌, ◌≤ℤ◌, negsuc, pos, IsTrue, true, IfOk};
 ghost use Rattle.std.specs.List.{list_all};
 ghost use Rattle.pli_base.specs.declared.declaration.WrittenBounds.TheVariants.{Stated};
-ghost use Rattle.pli_declare_attributes.specs.Extents.{low_of, bounds_of, are_good, are_bad_bounds, is_star, has_star};
-ghost use Rattle.pli_declare_attributes.specs.Extents.{are_bad_stars, all_bounds};
+ghost use Rattle.pli_declare.specs.Extents.{low_of, bounds_of, are_good, are_bad_bounds, is_star, has_star};
+ghost use Rattle.pli_declare.specs.Extents.{are_bad_stars, all_bounds};
 
 use pli_base::declaration::{Integer, WrittenBounds};
 use std::alloc::{AllocError, Global};
@@ -85,7 +85,7 @@ pub(crate) fn bad_stars(is_parameter: bool, dimensions: &[WrittenBounds]) -> boo
 }
 
 /// Whether there are more than 8 dimensions, or one with bad bounds.
-#[tactic(auto, unfolding(crate::specs::Extents::are_bad_bounds))]
+#[tactic(auto, unfolding(pli_declare::specs::Extents::are_bad_bounds))]
 pub(crate) fn bad_bounds(dimensions: &[WrittenBounds]) -> bool
     ensures { result ≡ are_bad_bounds dimensions.now }
 {

@@ -3,11 +3,11 @@ ghost use Rattle.std.specs.Prelude.{◌≡◌, ◌≤◌, false, None, map, IfOk
 ghost use Rattle.std.specs.List.{list_all};
 ghost use Rattle.pli_base.specs.views.DeclarationView.{attribute_view, parameter_view, item_view};
 ghost use Rattle.pli_map.specs.views.DescriptionView.{description_view};
-ghost use Rattle.pli_declare_attributes.specs.Sets.{set_of, each_once, outermost};
-ghost use Rattle.pli_declare_attributes.specs.Types.{number_of, has_star, is_bad_precision, is_bad_length, scalar_of};
-ghost use Rattle.pli_declare_attributes.specs.Initials.{values_in, fits, all_given};
-ghost use Rattle.pli_declare_attributes.specs.Faults.{parameters_in, returned_in, parameters_fault, returned_fault};
-ghost use Rattle.pli_declare_attributes.specs.Faults as spec;
+ghost use Rattle.pli_declare.specs.Sets.{set_of, each_once, outermost};
+ghost use Rattle.pli_declare.specs.Types.{number_of, has_star, is_bad_precision, is_bad_length, scalar_of};
+ghost use Rattle.pli_declare.specs.Initials.{values_in, fits, all_given};
+ghost use Rattle.pli_declare.specs.Faults.{parameters_in, returned_in, parameters_fault, returned_fault};
+ghost use Rattle.pli_declare.specs.Faults as spec;
 
 use crate::complete::{any_too_large, parameters};
 use crate::faults::{lesser, parameters_fault, result_fault};
@@ -78,7 +78,7 @@ fn held_fault(attributes: &[Attribute]) -> Option<Code>
 }
 
 /// The fault of the number and of the sizes of parameters, where their descriptions have none.
-#[tactic(auto, using(crate::proofs::ShapeLemmas::too_many_parameters, crate::proofs::ShapeLemmas::too_large_parameter, crate::proofs::ShapeLemmas::good_parameters))]
+#[tactic(auto, using(pli_declare::proofs::ShapeLemmas::too_many_parameters, pli_declare::proofs::ShapeLemmas::too_large_parameter, pli_declare::proofs::ShapeLemmas::good_parameters))]
 fn sizes_fault(
     alloc: Global,
     descriptions: &[ParameterDescription],

@@ -1,24 +1,24 @@
 //! The least fault of attributes.
 ghost use Rattle.std.specs.Prelude.{◌≡◌, [], false, None, map};
 ghost use Rattle.pli_base.specs.views.DeclarationView.{described_view, parameter_view, item_view};
-ghost use Rattle.pli_declare_attributes.specs.Agreement.{may_be_open};
-ghost use Rattle.pli_declare_attributes.specs.Types.{is_bad_precision, is_bad_length};
-ghost use Rattle.pli_declare_attributes.specs.Extents.{are_bad_bounds};
-ghost use Rattle.pli_declare_attributes.specs.Initials.{is_bad_initial, values_in};
-ghost use Rattle.pli_declare_attributes.specs.Faults as spec;
+ghost use Rattle.pli_declare.specs.Agreement.{may_be_open};
+ghost use Rattle.pli_declare.specs.Types.{is_bad_precision, is_bad_length};
+ghost use Rattle.pli_declare.specs.Extents.{are_bad_bounds};
+ghost use Rattle.pli_declare.specs.Initials.{is_bad_initial, values_in};
+ghost use Rattle.pli_declare.specs.Faults as spec;
 ghost use Rattle.pli_declare_attributes.specs.answers.Cuts.{cut_place};
-ghost use Rattle.pli_declare_attributes.specs.declared.place.ItemPlace.{ItemPlace as SpecPlace};
+ghost use Rattle.pli_declare.specs.declared.place.ItemPlace.{ItemPlace as SpecPlace};
 
 use crate::agreement::{agree, missing};
 use crate::extents::{bad_bounds, bad_stars};
 use crate::facts::ItemFacts;
 use crate::initials::too_many;
-use crate::place::{ItemPlace, Position};
 use crate::set::AttributeSet;
 use crate::summary::Summary;
 use crate::types::{bad_length, bad_precision, bad_star};
 use pli_base::declaration::{DescribedAttribute, ParameterDescription, WrittenBounds};
 use pli_base::{Code, code_order};
+use pli_declare::{ItemPlace, Position};
 use std::cmp::Ordering;
 
 /// The fault of the lower number.
@@ -47,7 +47,7 @@ pub(crate) fn may_be_open(place: ItemPlace) -> bool
 }
 
 /// The first fault of agreement, of what is missing, of numbers and of bounds: A3 to A7.
-#[tactic(auto, unfolding(crate::specs::Faults::shape_fault))]
+#[tactic(auto, unfolding(pli_declare::specs::Faults::shape_fault))]
 fn shape_fault(place: ItemPlace, dimensions: &[WrittenBounds], summary: Summary) -> Option<Code>
     ensures { result ≡ spec.shape_fault place dimensions.now summary.once summary.set.0 summary.number summary.star }
 {
@@ -69,7 +69,7 @@ fn shape_fault(place: ItemPlace, dimensions: &[WrittenBounds], summary: Summary)
 }
 
 /// Whether an AREA is a member, in an array or BASED.
-#[tactic(auto, unfolding(crate::specs::Faults::is_bad_area))]
+#[tactic(auto, unfolding(pli_declare::specs::Faults::is_bad_area))]
 fn bad_area(place: ItemPlace, dimensions: &[WrittenBounds], set: AttributeSet) -> bool
     ensures { result ≡ spec.is_bad_area place dimensions.now set.0 }
 {
@@ -90,7 +90,7 @@ fn area_fault(place: ItemPlace, dimensions: &[WrittenBounds], set: AttributeSet)
 }
 
 /// The fault of the description of a parameter or of a result.
-#[tactic(auto, unfolding(crate::specs::Faults::description_fault))]
+#[tactic(auto, unfolding(pli_declare::specs::Faults::description_fault))]
 fn description_fault(
     place: ItemPlace,
     dimensions: &[WrittenBounds],
@@ -106,7 +106,7 @@ fn description_fault(
 }
 
 /// Whether INITIAL stands beside members or AREA, has a value that does not fit, or too many.
-#[tactic(auto, using(crate::proofs::ShapeLemmas::bounds_good), unfolding(crate::specs::Initials::is_bad_initial))]
+#[tactic(auto, using(pli_declare::proofs::ShapeLemmas::bounds_good), unfolding(pli_declare::specs::Initials::is_bad_initial))]
 fn bad_initial(place: ItemPlace, facts: &ItemFacts) -> bool
     requires precision { is_bad_precision facts.now.summary.set.0 facts.now.summary.number ≡ false }
     requires length { is_bad_length facts.now.summary.set.0 facts.now.summary.number ≡ false }
@@ -171,7 +171,7 @@ pub(crate) fn parameters_fault(descriptions: &[ParameterDescription]) -> Option<
 }
 
 /// The fault of an item's attributes, apart from what ENTRY and RETURNS hold.
-#[tactic(auto, using(crate::proofs::ShapeLemmas::shape_sound), unfolding(crate::specs::Faults::own_fault))]
+#[tactic(auto, using(pli_declare::proofs::ShapeLemmas::shape_sound), unfolding(pli_declare::specs::Faults::own_fault))]
 fn own_fault(place: ItemPlace, facts: &ItemFacts) -> Option<Code>
     ensures { result ≡ spec.own_fault place (item_view facts.now.item.now) }
 {
@@ -187,7 +187,7 @@ fn own_fault(place: ItemPlace, facts: &ItemFacts) -> Option<Code>
 }
 
 /// The least fault of an item's attributes, with those that ENTRY and RETURNS hold.
-#[tactic(auto, unfolding(crate::specs::Faults::attributes_fault))]
+#[tactic(auto, unfolding(pli_declare::specs::Faults::attributes_fault))]
 fn attributes_fault(place: ItemPlace, facts: &ItemFacts) -> Option<Code>
     ensures { result ≡ spec.attributes_fault place (item_view facts.now.item.now) }
 {

@@ -4,14 +4,14 @@ ghost use Rattle.std.specs.List.{list_all};
 ghost use Rattle.pli_base.specs.views.DeclarationView.{attribute_view};
 ghost use Rattle.pli_map.specs.Sizes.{count_of};
 ghost use Rattle.pli_map.specs.views.DescriptionView.{description_view};
-ghost use Rattle.pli_declare_attributes.specs.Extents.{are_good, all_bounds};
+ghost use Rattle.pli_declare.specs.Extents.{are_good, all_bounds};
 ghost use Rattle.pli_declare_attributes.specs.answers.Cuts.{cut};
-ghost use Rattle.pli_declare_attributes.specs.Initials.{values_in, fits, elements_given, all_given, is_more_than};
-ghost use Rattle.pli_declare_attributes.specs.Initials.{elements_of, elements_inside};
+ghost use Rattle.pli_declare.specs.Initials.{values_in, fits, elements_given, all_given, is_more_than};
+ghost use Rattle.pli_declare.specs.Initials.{elements_of, elements_inside};
 
 use crate::extents::{any_star, bad_bounds, described};
-use crate::place::ItemPlace;
 use pli_base::declaration::{Attribute, InitialValue, SimpleAttribute, WrittenBounds};
+use pli_declare::ItemPlace;
 use pli_map::Description;
 
 /// The values of an item's INITIAL, none without one.
@@ -115,7 +115,7 @@ pub(crate) fn too_many(place: ItemPlace, dimensions: &[WrittenBounds], given: u1
 /// How many elements the levels above and these dimensions make together, less than 2 to the 128th, the greatest number
 /// there standing for every greater one; `None` where one of them has bad bounds or a `*`. What the levels above make
 /// may be cut there too, which changes nothing.
-#[tactic(auto, using(crate::proofs::ShapeLemmas::bounds_good))]
+#[tactic(auto, using(pli_declare::proofs::ShapeLemmas::bounds_good))]
 pub fn elements_within(above: Option<u128>, dimensions: &[WrittenBounds]) -> Option<u128>
     ensures { result ≡ cut (elements_inside above dimensions.now) }
 {

@@ -4,10 +4,10 @@ ghost use Rattle.std.specs.Int.{next_multiple_of};
 ghost use Rattle.pli_base.specs.views.DeclarationView.{attribute_view};
 ghost use Rattle.pli_map.specs.Layouts.{IsLayout};
 ghost use Rattle.pli_map.specs.Sizes.{count_of, size_of, alignment_of};
-ghost use Rattle.pli_declare_attributes.specs.Sets.{outermost};
-ghost use Rattle.pli_declare_attributes.specs.Extents.{are_bad_bounds, all_bounds};
-ghost use Rattle.pli_declare_attributes.specs.Faults.{described_scalar};
-ghost use Rattle.pli_declare_attributes.specs.Types.{number_or, scalar_of};
+ghost use Rattle.pli_declare.specs.Sets.{outermost};
+ghost use Rattle.pli_declare.specs.Extents.{are_bad_bounds, all_bounds};
+ghost use Rattle.pli_declare.specs.Faults.{described_scalar};
+ghost use Rattle.pli_declare.specs.Types.{number_or, scalar_of};
 
 use crate::initials::elements;
 use crate::set::AttributeSet;
@@ -37,7 +37,7 @@ fn area_layout(size: u64) -> Option<Layout>
 }
 
 /// What a type takes, whatever the number in it is, or `None` where it is over the limit.
-#[tactic(auto, unfolding(crate::specs::Types::scalar_of))]
+#[tactic(auto, unfolding(pli_declare::specs::Types::scalar_of))]
 fn summary_layout(summary: Summary) -> Option<Layout>
     ensures { IsLayout result (size_of (scalar_of summary.set.0 summary.number))
         (alignment_of (scalar_of summary.set.0 summary.number)) }
@@ -74,7 +74,7 @@ pub fn scalar_layout(attributes: &[Attribute]) -> Option<Layout>
 
 /// What an array takes of these dimensions, which are good, and of elements of this layout; or `None` where it is over
 /// the limit.
-#[tactic(auto, using(crate::proofs::ShapeLemmas::bounds_good, crate::proofs::CountLemmas::enough))]
+#[tactic(auto, using(pli_declare::proofs::ShapeLemmas::bounds_good, crate::proofs::CountLemmas::enough))]
 pub fn array_layout(element: Layout, dimensions: &[WrittenBounds]) -> Option<Layout>
     requires { are_bad_bounds dimensions.now ≡ false }
     ensures { IsLayout result (count_of (all_bounds dimensions.now) * next_multiple_of element.bytes element.alignment)

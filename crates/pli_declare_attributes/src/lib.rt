@@ -4,7 +4,6 @@
 
 mod agreement;
 mod complete;
-mod completed;
 mod described;
 mod extents;
 mod facts;
@@ -14,13 +13,11 @@ mod laws;
 mod layout;
 mod named;
 mod parts;
-mod place;
 mod set;
 mod summary;
 mod types;
 
 pub use complete::{AttributeError, completed_item, completed_result};
-pub use completed::{Completed, DeclaredStorage, ScopeAttribute, Variable, copied_description};
 pub use described::{array_description, has_star, scalar_description};
 pub use facts::ItemFacts;
 pub use faults::{item_fault, lesser, result_fault};
@@ -28,4 +25,3 @@ pub use initials::elements_within;
 pub use laws::{sets_are_of_what_stands, types_are_within_limits, worked_examples};
 pub use layout::{array_layout, scalar_layout};
 pub use named::Named;
-pub use place::{ItemPlace, Position};

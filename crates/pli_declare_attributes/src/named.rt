@@ -1,8 +1,8 @@
 //! What an item is to BASED and OFFSET, which name others.
 ghost use Rattle.std.specs.Prelude.{◌≡◌, ◌+◌, ◌||◌, map};
 ghost use Rattle.pli_base.specs.views.DeclarationView.{item_view};
-ghost use Rattle.pli_declare_attributes.specs.Sets.{has, none_of, set_of, outermost, entry, built_in, based, pointer};
-ghost use Rattle.pli_declare_attributes.specs.Sets.{offset, area};
+ghost use Rattle.pli_declare.specs.Sets.{has, none_of, set_of, outermost, entry, built_in, based, pointer};
+ghost use Rattle.pli_declare.specs.Sets.{offset, area};
 
 use crate::facts::ItemFacts;
 use crate::set::AttributeSet;

@@ -1,7 +1,7 @@
 //! The parts of an item that ENTRY and RETURNS hold.
 ghost use Rattle.std.specs.Prelude.{◌≡◌, map, option_map};
 ghost use Rattle.pli_base.specs.views.DeclarationView.{described_view, parameter_view, attribute_view};
-ghost use Rattle.pli_declare_attributes.specs.Faults.{parameters_in, returned_in};
+ghost use Rattle.pli_declare.specs.Faults.{parameters_in, returned_in};
 
 use pli_base::declaration::{Attribute, DescribedAttribute, ParameterDescription};
 

@@ -2,7 +2,7 @@
 ghost use Rattle.std.specs.Prelude.{⊤, ◌≡◌, ◌==◌, [], ◌∷◌, codes, map};
 ghost use Rattle.std.specs.Int.RustNames.{bit_and, bit_or};
 ghost use Rattle.pli_base.specs.views.DeclarationView.{simple_view, described_view, attribute_view};
-ghost use Rattle.pli_declare_attributes.specs.Sets.{has, none_of, within, is_one_of, simple_kind, kind_of, outermost};
+ghost use Rattle.pli_declare.specs.Sets.{has, none_of, within, is_one_of, simple_kind, kind_of, outermost};
 
 use bitflags::{Flag, Flags, bitflag_items};
 use pli_base::declaration::{Attribute, DescribedAttribute, SimpleAttribute};

@@ -3,10 +3,10 @@ ghost use Rattle.std.specs.Prelude.{◌≡◌, ◌&&◌, ◌||◌, true, false, 
 ghost use Rattle.std.specs.Int.RustNames.{bit_or};
 ghost use Rattle.std.specs.Option.{option_or};
 ghost use Rattle.pli_base.specs.views.DeclarationView.{simple_view, described_view, attribute_view};
-ghost use Rattle.pli_declare_attributes.specs.Sets.{none_of, set_of, each_once, outermost};
-ghost use Rattle.pli_declare_attributes.specs.Types.{stated_number, written_number, simple_number, described_number};
-ghost use Rattle.pli_declare_attributes.specs.Types.{number_of, is_any, is_written_any, simple_star, described_star};
-ghost use Rattle.pli_declare_attributes.specs.Types.{has_star};
+ghost use Rattle.pli_declare.specs.Sets.{none_of, set_of, each_once, outermost};
+ghost use Rattle.pli_declare.specs.Types.{stated_number, written_number, simple_number, described_number};
+ghost use Rattle.pli_declare.specs.Types.{number_of, is_any, is_written_any, simple_star, described_star};
+ghost use Rattle.pli_declare.specs.Types.{has_star};
 
 use crate::set::AttributeSet;
 use bitflags::Flags;

@@ -2,8 +2,8 @@
 ghost use Rattle.std.specs.Prelude.{◌≡◌, true, false};
 ghost use Rattle.pli_map.specs.views.DescriptionView.{description_view};
 ghost use Rattle.pli_map.specs.views.ParameterView.{type_view};
-ghost use Rattle.pli_declare_attributes.specs.Types.{is_up_to, number_or, is_bad_precision, is_bad_length, is_bad_star};
-ghost use Rattle.pli_declare_attributes.specs.Types.{scalar_of, form_of, element_of};
+ghost use Rattle.pli_declare.specs.Types.{is_up_to, number_or, is_bad_precision, is_bad_length, is_bad_star};
+ghost use Rattle.pli_declare.specs.Types.{scalar_of, form_of, element_of};
 
 use crate::set::AttributeSet;
 use crate::summary::Summary;
@@ -29,7 +29,7 @@ fn up_to(limit: u64, number: Option<u64>) -> bool
 }
 
 /// Whether there is a precision that is not from 1 to 63.
-#[tactic(auto, unfolding(crate::specs::Types::is_bad_precision))]
+#[tactic(auto, unfolding(pli_declare::specs::Types::is_bad_precision))]
 pub(crate) fn bad_precision(summary: Summary) -> bool
     ensures { result ≡ is_bad_precision summary.set.0 summary.number }
 {
@@ -37,7 +37,7 @@ pub(crate) fn bad_precision(summary: Summary) -> bool
 }
 
 /// Whether there is a length that is not from 1 to 32,767, or an area's size that is not from 1 to 1,000,000.
-#[tactic(auto, unfolding(crate::specs::Types::is_bad_length))]
+#[tactic(auto, unfolding(pli_declare::specs::Types::is_bad_length))]
 pub(crate) fn bad_length(summary: Summary) -> bool
     ensures { result ≡ is_bad_length summary.set.0 summary.number }
 {
@@ -90,7 +90,7 @@ fn area_size(number: Option<u64>) -> u32
 }
 
 /// The type that data attributes say, with its defaults.
-#[tactic(auto, unfolding(crate::specs::Types::is_bad_precision, crate::specs::Types::is_bad_length, crate::specs::Types::scalar_of))]
+#[tactic(auto, unfolding(pli_declare::specs::Types::is_bad_precision, pli_declare::specs::Types::is_bad_length, pli_declare::specs::Types::scalar_of))]
 pub(crate) fn scalar(summary: Summary) -> Description
     requires precision { is_bad_precision summary.set.0 summary.number ≡ false }
     requires length { is_bad_length summary.set.0 summary.number ≡ false }

@@ -14,9 +14,9 @@ use Rattle.pli_base.specs.views.DeclarationView.{described_view, attribute_view}
 use Rattle.pli_base.specs.views.StatementView.{option_view}
 use Rattle.pli_declare_outline.specs.Outlines.{Outline}
 use Rattle.pli_declare_scopes.specs.Scopes.{meant}
-use Rattle.pli_declare_tables.specs.Tables.{scope_of}
-use Rattle.pli_declare_variables.specs.AttributeNames.{plain_of, simple_of, area_in, locator_in}
-use Rattle.pli_declare_variables.specs.Declarations.{returned_by}
+use Rattle.pli_declare.specs.Tables.{scope_of}
+use Rattle.pli_declare.specs.AttributeNames.{plain_of, simple_of, area_in, locator_in}
+use Rattle.pli_declare.specs.Declarations.{returned_by}
 use Rattle.pli_declare.specs.Resolution.{described_is_good, attribute_is_good}
 use Rattle.pli_declare.specs.Resolved.{used_as, use_of}
 use Rattle.pli_declare.proofs.LookUpLemmas.{no_names}

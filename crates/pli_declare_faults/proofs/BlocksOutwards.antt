@@ -12,8 +12,8 @@ use Rattle.pli_declare_scopes.specs.declared.repeat.Verdict.{Verdict}
 use Rattle.pli_declare_scopes.specs.Scopes.{BlockItems, Scope, declares_first, found_in, meant_there, meant_from, meant}
 use Rattle.pli_declare_outline.specs.Outlines.{Region, Outline}
 use Rattle.pli_declare_constructs.specs.Regions.{first_of, innermost, blocks_round, blocks_from}
-use Rattle.pli_declare_tables.specs.Tables.{Entry, with_verdicts, entries_in, verdicts_in, block_in, unit_entries, unit_block, numbers_from, table_in, scope_of, tables_of}
-use Rattle.pli_declare_tables.specs.Tables as plain
+use Rattle.pli_declare.specs.Tables.{Entry, with_verdicts, entries_in, verdicts_in, block_in, unit_entries, unit_block, numbers_from, table_in, scope_of, tables_of}
+use Rattle.pli_declare.specs.Tables as plain
 use Rattle.pli_declare_tables.specs.views.TableView.{table_view}
 use Rattle.pli_declare_tables.specs.declared.table.Table.{Table}
 use Rattle.pli_declare_tables.specs.declared.table.Tables.{Tables}

@@ -2,10 +2,10 @@
 use Rattle.std.proofs.Common.{◌≡◌, ℕ, zero, suc, get_or, Bool, false, Option, List, [], ◌∷◌, refl, ap, ◌∙◌}
 use Rattle.pli_base.specs.Name.{Name}
 use Rattle.pli_declare_outline.specs.Outlines.{Outline, Mark, Declared, Labelled, Entered, Used, Jumped, PlacedMark}
-use Rattle.pli_declare_tables.specs.Tables.{Entry, no_entry, heading_entries, unit_entries, scope_of}
+use Rattle.pli_declare.specs.Tables.{Entry, no_entry, heading_entries, unit_entries, scope_of}
 use Rattle.pli_declare_scopes.specs.Scopes.{meant}
 use Rattle.pli_declare_scopes.specs.declared.found.ReferenceMeaning.TheVariants.{Ambiguous as Several, NotDeclared as Nothing}
-use Rattle.pli_declare_variables.specs.Places.{is_variable, is_locator, is_area}
+use Rattle.pli_declare.specs.Places.{is_variable, is_locator, is_area}
 use Rattle.pli_declare.specs.Resolution.{names_fit, is_good}
 use Rattle.pli_declare_faults.specs.answers.Answers.{entries_at, IsFound}
 

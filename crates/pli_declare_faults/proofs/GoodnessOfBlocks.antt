@@ -5,7 +5,7 @@ use Rattle.std.proofs.lemmas.Bool.{eq-eqb}
 use Rattle.std.proofs.lemmas.List.{map-append, append-nil}
 use Rattle.pli_declare_outline.specs.Outlines.{Mark, Declared, Labelled, Entered, Used, Jumped, PlacedMark, Outline}
 use Rattle.pli_declare_constructs.specs.Regions.{block_of}
-use Rattle.pli_declare_tables.specs.Tables.{Entry, entries_of, entries_after, numbers_from}
+use Rattle.pli_declare.specs.Tables.{Entry, entries_of, entries_after, numbers_from}
 use Rattle.pli_declare.specs.Resolution.{attribute_is_good}
 use Rattle.pli_declare_faults.specs.answers.Walks.{entity_is_good, mark_goodness}
 use Rattle.pli_declare_faults.proofs.NumberLists.{number_at, set_of_numbers}

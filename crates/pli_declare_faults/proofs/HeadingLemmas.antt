@@ -1,7 +1,7 @@
 -- The headings of procedures, by the parts of their trees; the least of codes.
 use Rattle.std.proofs.Common.{◌≡◌, Option, Some, None, refl, ap}
 use Rattle.pli_base.specs.declared.code.Code.{Code}
-use Rattle.pli_declare_attributes.specs.Faults.{lesser}
+use Rattle.pli_declare.specs.Faults.{lesser}
 use Rattle.pli_base.specs.laws.StatementLaws.{unit_out}
 use Rattle.pli_base.specs.views.StatementView.{unit_view}
 use Rattle.pli_base.specs.declared.statement.Procedure.{Procedure, out-Procedure}

@@ -11,7 +11,7 @@ use Rattle.pli_declare_outline.specs.Outlines.{PlacedMark, Outline}
 use Rattle.pli_declare_outline.specs.views.OutlineView.{placed_view, marks_view}
 use Rattle.pli_declare_outline.specs.declared.region.PlacedMark as written
 use Rattle.pli_declare_constructs.specs.Regions.{block_of}
-use Rattle.pli_declare_tables.specs.Tables.{Entry, entries_of, entries_after, entries_in, inner_marks, numbers_from}
+use Rattle.pli_declare.specs.Tables.{Entry, entries_of, entries_after, entries_in, inner_marks, numbers_from}
 use Rattle.pli_declare.specs.Resolution.{at_token, item_code, codes_from, parameter_faults, used_faults, declared_by, faults_after}
 use Rattle.pli_declare.specs.DeclaredNames.{declared_names}
 use Rattle.pli_declare_faults.specs.answers.Walks.{of_blocks, block_codes, name_faults}

@@ -10,9 +10,9 @@ use Rattle.pli_declare_constructs.specs.Regions.{blocks_round}
 use Rattle.pli_declare_scopes.specs.Scopes.{meant}
 use Rattle.pli_declare_scopes.specs.declared.found.ReferenceMeaning.{ReferenceMeaning}
 use Rattle.pli_declare_scopes.specs.declared.found.ReferenceMeaning.TheVariants.{Item as Means, Ambiguous as Several, NotDeclared as Nothing}
-use Rattle.pli_declare_tables.specs.Tables.{block_in, unit_block, scope_of}
-use Rattle.pli_declare_variables.specs.AttributeNames.{plain_of, simple_of, area_in, locator_in}
-use Rattle.pli_declare_variables.specs.Declarations.{returned_by}
+use Rattle.pli_declare.specs.Tables.{block_in, unit_block, scope_of}
+use Rattle.pli_declare.specs.AttributeNames.{plain_of, simple_of, area_in, locator_in}
+use Rattle.pli_declare.specs.Declarations.{returned_by}
 use Rattle.pli_declare.specs.Resolved.{use_of, used_as, named_at, item_names, areas_at, locators_at}
 use Rattle.pli_declare.specs.declared.block.Use.{Use}
 

@@ -1,7 +1,7 @@
 -- Lists of what belongs to each of some numbers.
 use Rattle.std.proofs.Common.{◌≡◌, ℕ, zero, suc, ◌+◌, ◌<◌, ◌≤◌, List, [], ◌∷◌, ◌++◌, map, length, get_or, set, replicate, refl, sym, ap, ◌∙◌, add-zero, zero-add, add-one, arith}
 use Rattle.std.proofs.lemmas.List.{map-append}
-use Rattle.pli_declare_tables.specs.Tables.{numbers_from}
+use Rattle.pli_declare.specs.Tables.{numbers_from}
 
 pub numbers_more : (first count : ℕ) → numbers_from first (suc count) ≡ numbers_from first count ++ (first + count) ∷ []
 numbers_more first zero = ap (λ (n : ℕ). n ∷ []) (sym (add-zero first))

@@ -8,7 +8,7 @@ use Rattle.pli_base.specs.Words.{same_name}
 use Rattle.pli_base.specs.declared.syntax.Identifier.{Identifier}
 use Rattle.pli_base.specs.declared.token.Fault.{Fault}
 use Rattle.pli_declare_outline.specs.Outlines.{Outline}
-use Rattle.pli_declare_tables.specs.Tables.{entries_in}
+use Rattle.pli_declare.specs.Tables.{entries_in}
 use Rattle.pli_declare.specs.Resolution.{at_token, is_item_named, parameter_code, parameter_codes}
 use Rattle.pli_declare_faults.specs.answers.Walks.{code_of_parameter}
 

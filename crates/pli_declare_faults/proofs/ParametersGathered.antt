@@ -9,7 +9,7 @@ use Rattle.pli_base.specs.Statements.{Heading}
 use Rattle.pli_declare_outline.specs.Outlines.{Entered, PlacedMark}
 use Rattle.pli_declare_outline.specs.views.OutlineView.{placed_view, marks_view}
 use Rattle.pli_declare_outline.specs.declared.region.PlacedMark as written
-use Rattle.pli_declare_tables.specs.Tables.{numbers_from}
+use Rattle.pli_declare.specs.Tables.{numbers_from}
 use Rattle.pli_declare.specs.Resolution.{headed}
 use Rattle.pli_declare_faults.proofs.NumberLists.{number_at, length_of_numbers, same_of_numbers, set_of_numbers}
 use Rattle.pli_declare.proofs.ParametersOfBlocks.{gathered, headed_elsewhere, headed_here}

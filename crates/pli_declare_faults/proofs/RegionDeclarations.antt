@@ -3,7 +3,7 @@ use Rattle.std.proofs.Common.{◌≡◌, ℕ, ◌+◌, ◌<◌, List, map, lengt
 use Rattle.std.proofs.lemmas.List.{get_or-map, length-map}
 use Rattle.pli_base.specs.Name.{Name}
 use Rattle.pli_declare_outline.specs.Outlines.{Outline}
-use Rattle.pli_declare_tables.specs.Tables.{entries_in, all_tables}
+use Rattle.pli_declare.specs.Tables.{entries_in, all_tables}
 use Rattle.pli_declare_tables.specs.views.TableView.{entries_view, table_view}
 use Rattle.pli_declare_tables.specs.declared.table.Table.{Table}
 use Rattle.pli_declare.specs.Resolution.{parameters_of}

@@ -4,7 +4,7 @@ use Rattle.std.proofs.lemmas.List.{length-map, get_or-map, append-nil}
 use Rattle.pli_declare_outline.specs.Outlines.{Region, PlacedMark, Outline}
 use Rattle.pli_declare_constructs.specs.Regions.{innermost, first_or_unit, block_of}
 use Rattle.pli_declare_constructs.proofs.BlocksAround.{finds}
-use Rattle.pli_declare_tables.specs.Tables.{Entry, entries_of, entries_after, entries_in, inner_marks, table_in, all_tables}
+use Rattle.pli_declare.specs.Tables.{Entry, entries_of, entries_after, entries_in, inner_marks, table_in, all_tables}
 use Rattle.pli_declare_tables.specs.views.TableView.{table_view}
 use Rattle.pli_declare_tables.specs.declared.table.Table.{Table}
 use Rattle.pli_declare_faults.proofs.NumberLists.{number_at, length_of_numbers}

@@ -1,11 +1,11 @@
 //! The least code of a procedure's heading.
 ghost use Rattle.std.specs.Prelude.{◌≡◌, length, map};
 ghost use Rattle.std.specs.List.{list_any, list_all};
-ghost use Rattle.pli_declare_attributes.specs.Faults as faults;
+ghost use Rattle.pli_declare.specs.Faults as faults;
 ghost use Rattle.pli_base.specs.views.DeclarationView.{described_view};
 ghost use Rattle.pli_base.specs.views.StatementView.{option_view, unit_view};
 ghost use Rattle.pli_declare.specs.Resolution.{returned_are, names_nothing};
-ghost use Rattle.pli_declare_variables.specs.Declarations.{returned_by};
+ghost use Rattle.pli_declare.specs.Declarations.{returned_by};
 ghost use Rattle.pli_declare.specs.Resolution as spec;
 
 use crate::least::{code_if, least};

@@ -2,7 +2,7 @@
 ghost use Rattle.std.specs.Prelude.{◌≡◌, ◌+◌, ◌<◌, length, map, get_or, IfOk};
 ghost use Rattle.pli_declare_outline.specs.views.OutlineView.{outline_view};
 ghost use Rattle.pli_declare_scopes.specs.declared.repeat.Verdict.TheVariants as judgments;
-ghost use Rattle.pli_declare_tables.specs.Tables.{no_entry, entries_in, numbers_from};
+ghost use Rattle.pli_declare.specs.Tables.{no_entry, entries_in, numbers_from};
 ghost use Rattle.pli_declare_tables.specs.views.TableView.{entity_view};
 ghost use Rattle.pli_declare.specs.Resolution.{least as least_of, entity_codes, item_code, twice_code};
 ghost use Rattle.pli_declare_faults.specs.answers.Walks.{entity_is_good, block_goodness};

@@ -1,7 +1,7 @@
 //! The names of a unit, and what is known of each.
 ghost use Rattle.std.specs.Prelude.{◌≡◌, ◌+◌, ◌<◌, length, map};
 ghost use Rattle.pli_declare_outline.specs.views.OutlineView.{outline_view};
-ghost use Rattle.pli_declare_tables.specs.Tables.{entries_in, table_in};
+ghost use Rattle.pli_declare.specs.Tables.{entries_in, table_in};
 ghost use Rattle.pli_declare_tables.specs.views.TableView.{table_view};
 ghost use Rattle.pli_declare_variables.specs.Judging.{judged_at};
 ghost use Rattle.pli_declare.specs.Resolution.{parameters_of};

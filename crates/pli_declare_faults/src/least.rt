@@ -1,6 +1,6 @@
 //! The least of codes.
 ghost use Rattle.std.specs.Prelude.{◌≡◌, ◌∷◌, []};
-ghost use Rattle.pli_declare_attributes.specs.Faults.{first_of};
+ghost use Rattle.pli_declare.specs.Faults.{first_of};
 ghost use Rattle.pli_declare.specs.Resolution as spec;
 
 use pli_base::Code;

@@ -5,7 +5,7 @@ ghost use Rattle.pli_base.specs.views.DeclarationView.{item_view};
 ghost use Rattle.pli_declare_outline.specs.Outlines.{Used, Jumped};
 ghost use Rattle.pli_declare_outline.specs.views.OutlineView.{mark_view, marks_view, regions_view, outline_view};
 ghost use Rattle.pli_declare_constructs.specs.Regions.{block_of};
-ghost use Rattle.pli_declare_tables.specs.Tables.{inner_marks};
+ghost use Rattle.pli_declare.specs.Tables.{inner_marks};
 ghost use Rattle.pli_declare.specs.Resolution.{parameter_faults, used_faults, faults_after};
 ghost use Rattle.pli_declare.specs.DeclaredNames.{declared_names};
 ghost use Rattle.pli_declare.specs.Resolved.{of_marks, uses_at};

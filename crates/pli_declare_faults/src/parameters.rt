@@ -4,7 +4,7 @@ ghost use Rattle.std.specs.List.{list_any};
 ghost use Rattle.pli_base.specs.Name.{Name as Characters};
 ghost use Rattle.pli_base.specs.Words.{same_name};
 ghost use Rattle.pli_declare_outline.specs.views.OutlineView.{outline_view};
-ghost use Rattle.pli_declare_tables.specs.Tables.{entries_in};
+ghost use Rattle.pli_declare.specs.Tables.{entries_in};
 ghost use Rattle.pli_declare_tables.specs.views.TableView.{entries_view};
 ghost use Rattle.pli_declare_tables.specs.answers.Answers.{AreOf};
 ghost use Rattle.pli_declare.specs.Resolution.{at_token, is_item_named, parameter_codes};

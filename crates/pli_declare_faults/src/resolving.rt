@@ -3,10 +3,10 @@ ghost use Rattle.std.specs.Prelude.{◌≡◌, ◌<◌, [], length, map, IfOk};
 ghost use Rattle.pli_base.specs.views.StatementView.{unit_view};
 ghost use Rattle.pli_declare_outline.specs.Outlines.{outline_of};
 ghost use Rattle.pli_declare_outline.specs.views.OutlineView.{outline_view, regions_view};
-ghost use Rattle.pli_declare_tables.specs.Tables.{numbers_from, inner_marks, unit_entries};
+ghost use Rattle.pli_declare.specs.Tables.{numbers_from, inner_marks, unit_entries};
 ghost use Rattle.pli_declare_tables.specs.answers.Answers.{AreOf};
-ghost use Rattle.pli_declare_variables.specs.Declarations.{declared_in};
-ghost use Rattle.pli_declare_variables.specs.views.DeclarationView.{declaration_view};
+ghost use Rattle.pli_declare.specs.Declarations.{declared_in};
+ghost use Rattle.pli_declare.specs.views.DeclarationView.{declaration_view};
 ghost use Rattle.pli_declare.specs.Resolution.{outline_faults};
 ghost use Rattle.pli_declare.specs.Resolved.{block_at, of_marks, uses_at, areas_at, locators_at};
 ghost use Rattle.pli_declare.specs.views.BlockView.{block_view, AreMeanings};
@@ -19,12 +19,12 @@ use crate::scopes::Scopes;
 use crate::unit::{Told, outline_told};
 use pli_base::statement::Procedure;
 use pli_base::{Failure, Fault, Name};
-use pli_declare::{BlockDeclarations, NamedMeanings, Resolved, UnitMeanings};
+use pli_declare::{BlockDeclarations, Declaration, NamedMeanings, Resolved, UnitMeanings};
 use pli_declare_constructs::Nesting;
 use pli_declare_found::searched_tables;
 use pli_declare_outline::Outline;
 use pli_declare_tables::{Tables, owners_stand_before};
-use pli_declare_variables::{Declaration, declare};
+use pli_declare_variables::declare;
 use std::alloc::{AllocError, Global};
 
 /// Why there is no resolved unit: all faults of declarations and uses, in the order of their tokens, or that memory was

@@ -2,7 +2,7 @@
 ghost use Rattle.std.specs.Prelude.{◌≡◌, ◌++◌, map, IfOk, OnOk};
 ghost use Rattle.pli_declare_outline.specs.views.OutlineView.{outline_view, placed_view};
 ghost use Rattle.pli_declare_tables.specs.answers.Answers.{AreOf};
-ghost use Rattle.pli_declare_tables.specs.Tables.{inner_marks};
+ghost use Rattle.pli_declare.specs.Tables.{inner_marks};
 ghost use Rattle.pli_declare.specs.Resolution.{unit_faults, outline_faults};
 ghost use Rattle.pli_declare.specs.Resolved.{of_marks, uses_at, areas_at, locators_at};
 ghost use Rattle.pli_declare_faults.specs.answers.Walks.{AreCodes, AreGoodness};

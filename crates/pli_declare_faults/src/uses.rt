@@ -3,7 +3,7 @@ ghost use Rattle.std.specs.Prelude.{◌≡◌, ℕ, ◌++◌, [], ◌∷◌, IfO
 ghost use Rattle.pli_declare_outline.specs.Outlines.{Outline as Outlined};
 ghost use Rattle.pli_declare_outline.specs.views.OutlineView.{outline_view};
 ghost use Rattle.pli_declare_scopes.specs.Scopes.{meant};
-ghost use Rattle.pli_declare_tables.specs.Tables.{scope_of};
+ghost use Rattle.pli_declare.specs.Tables.{scope_of};
 ghost use Rattle.pli_declare.specs.Resolution.{names_of, reference_code, jump_code, is_function};
 ghost use Rattle.pli_declare.specs.Resolved.{used_as, function_use};
 ghost use Rattle.pli_declare_faults.specs.answers.Answers.{IsLookedUp};

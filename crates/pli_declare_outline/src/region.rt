@@ -1,4 +1,5 @@
 //! Outlines: what a unit declares and uses, apart from how its statements nest.
+
 use pli_base::declaration::Item;
 use pli_base::statement::Procedure;
 use pli_base::syntax::Identifier;

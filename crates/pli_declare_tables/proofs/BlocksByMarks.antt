@@ -6,7 +6,7 @@ use Rattle.std.proofs.lemmas.List.{length-map, map-set, get_or-map, get_or-set_s
 use Rattle.pli_declare_outline.specs.Outlines.{Region, PlacedMark}
 use Rattle.pli_declare_constructs.specs.Regions.{first_or_unit, block_of}
 use Rattle.pli_declare_scopes.specs.declared.repeat.Verdict.{Verdict}
-use Rattle.pli_declare_tables.specs.Tables.{Entry, entries_of, entries_after, with_verdicts, numbers_from}
+use Rattle.pli_declare.specs.Tables.{Entry, entries_of, entries_after, with_verdicts, numbers_from}
 use Rattle.pli_declare_tables.specs.views.TableView.{entries_view, blocks_view}
 use Rattle.pli_declare_tables.specs.declared.entry.Entry as declared
 

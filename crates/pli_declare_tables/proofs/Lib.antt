@@ -1,4 +1,2 @@
-pub mod ItemsStandAfter
-pub mod MembersStandAfter
 pub mod BlocksByMarks
 pub mod TablesOfUnits

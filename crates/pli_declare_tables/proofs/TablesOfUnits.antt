@@ -3,9 +3,9 @@ use Rattle.std.proofs.Common.{◌≡◌, ℕ, zero, suc, ◌+◌, true, List, []
 use Rattle.pli_declare_outline.specs.Outlines.{Mark, Declared, Labelled, Entered, Used, Jumped, PlacedMark, Outline}
 use Rattle.pli_declare_scopes.specs.Repeats.{verdicts_of}
 use Rattle.pli_declare_scopes.specs.Scopes.{BlockItems}
-use Rattle.pli_declare_tables.specs.Tables.{Entry, written, with_verdicts, entries_in, heading_entries, unit_entries, numbers_from, table_with, table_in}
-use Rattle.pli_declare_tables.specs.answers.Answers.{AllAfterOwners}
-use Rattle.pli_declare_tables.proofs.MembersStandAfter.{owners_stand_before}
+use Rattle.pli_declare.specs.Tables.{Entry, written, with_verdicts, entries_in, heading_entries, unit_entries, numbers_from, table_with, table_in}
+use Rattle.pli_declare.specs.answers.Owners.{AllAfterOwners}
+use Rattle.pli_declare.proofs.MembersStandAfter.{owners_stand_before}
 
 pub all_after : (o : Outline) (first count : ℕ) → AllAfterOwners (map (entries_in o) (numbers_from first count))
 all_after o first zero n lt = absurd (omega arith)

@@ -1,4 +1,2 @@
-pub mod Tables
 pub mod answers
-pub mod laws
 pub mod views

@@ -3,9 +3,9 @@ ghost use Rattle.std.specs.Prelude.{◌≡◌, ◌++◌, [], ◌∷◌, map, len
 ghost use Rattle.std.specs.List.{flat_map};
 ghost use Rattle.pli_base.specs.views.DeclarationView.{item_view};
 ghost use Rattle.pli_declare_outline.specs.views.OutlineView.{mark_view};
-ghost use Rattle.pli_declare_tables.specs.Tables.{named, item_entries, declared_entries, entries_of};
+ghost use Rattle.pli_declare.specs.Tables.{named, item_entries, declared_entries, entries_of};
 ghost use Rattle.pli_declare_tables.specs.views.TableView.{named_view, entity_view, entries_view};
-ghost use Rattle.pli_declare_tables.specs.answers.Answers.{StandAfterOwners};
+ghost use Rattle.pli_declare.specs.answers.Owners.{StandAfterOwners};
 
 use crate::entry::{Entity, Entry};
 use pli_base::declaration::Item;

@@ -1,4 +1,5 @@
 //! What a name is declared as.
+
 use pli_base::statement::Procedure;
 use pli_base::syntax::Identifier;
 use pli_declare_attributes::ItemFacts;

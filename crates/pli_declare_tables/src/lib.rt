@@ -1,4 +1,4 @@
-//! What each block of a unit declares.
+//! What each block of a unit declares: how its table is made.
 #![tactic(auto)]
 
 mod entries;

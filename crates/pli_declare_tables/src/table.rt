@@ -1,11 +1,12 @@
 //! The tables of a unit.
 ghost use Rattle.std.specs.Prelude.{◌≡◌, ℕ, ◌<◌, ◌+◌, ◌++◌, [], map, set, replicate, length, get_or, OnOk, IfOk};
 ghost use Rattle.pli_declare_outline.specs.views.OutlineView.{outline_view, regions_view, mark_view, marks_view};
-ghost use Rattle.pli_declare_tables.specs.Tables.{written, entries_of, entries_after, entries_in, unit_entries};
-ghost use Rattle.pli_declare_tables.specs.Tables.{with_verdicts, numbers_from, table_with};
+ghost use Rattle.pli_declare.specs.Tables.{written, entries_of, entries_after, entries_in, unit_entries};
+ghost use Rattle.pli_declare.specs.Tables.{with_verdicts, numbers_from, table_with};
 ghost use Rattle.pli_declare_scopes.specs.Repeats.{verdicts_of};
 ghost use Rattle.pli_declare_tables.specs.views.TableView.{table_view, entries_view, blocks_view};
-ghost use Rattle.pli_declare_tables.specs.answers.Answers.{AreOf, AreAfterOwners, AllAfterOwners};
+ghost use Rattle.pli_declare_tables.specs.answers.Answers.{AreOf};
+ghost use Rattle.pli_declare.specs.answers.Owners.{AreAfterOwners, AllAfterOwners};
 
 use crate::entries::{add_entry, declare};
 use crate::entry::{Entity, Entry};

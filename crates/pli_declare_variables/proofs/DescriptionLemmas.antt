@@ -11,14 +11,14 @@ use Rattle.pli_map.specs.views.DescriptionView as view
 use Rattle.pli_map.specs.declared.description.Description as program
 use Rattle.pli_map.specs.declared.description.Description.TheVariants as made
 use Rattle.pli_map.specs.declared.description.Description.TheFolds as folds
-use Rattle.pli_declare_attributes.specs.Extents.{all_bounds}
-use Rattle.pli_declare_attributes.specs.Faults.{with_bounds}
-use Rattle.pli_declare_tables.specs.answers.Answers.{AreAfterOwners}
-use Rattle.pli_declare_tables.specs.Tables.{Entry, numbers_from}
-use Rattle.pli_declare_variables.specs.Places.{members_of, item_of}
-use Rattle.pli_declare_variables.specs.Descriptions.{is_of_shape, scalar_at, member_then, members_made, inside, described}
-use Rattle.pli_declare_variables.proofs.NumberListLemmas.{map_at, length_numbers}
-use Rattle.pli_declare_variables.proofs.MembersFound.{members_stand, same_inside, enough}
+use Rattle.pli_declare.specs.Extents.{all_bounds}
+use Rattle.pli_declare.specs.Faults.{with_bounds}
+use Rattle.pli_declare.specs.answers.Owners.{AreAfterOwners}
+use Rattle.pli_declare.specs.Tables.{Entry, numbers_from}
+use Rattle.pli_declare.specs.Places.{members_of, item_of}
+use Rattle.pli_declare.specs.Descriptions.{is_of_shape, scalar_at, member_then, members_made, inside, described}
+use Rattle.pli_declare.proofs.NumberListLemmas.{map_at, length_numbers}
+use Rattle.pli_declare.proofs.MembersFound.{members_stand, same_inside, enough}
 
 -- members that are known, and others after them
 abbrev pub in_front : List Description → Option Members → Option Members

@@ -4,14 +4,14 @@ use Rattle.std.proofs.lemmas.List.{length-map}
 use Rattle.pli_base.specs.Name.{Name}
 use Rattle.pli_base.specs.declared.code.Code.{Code}
 use Rattle.pli_map.specs.Description.{Description}
-use Rattle.pli_declare_attributes.specs.Faults.{item_fault}
-use Rattle.pli_declare_attributes.specs.declared.place.ItemPlace.{ItemPlace}
-use Rattle.pli_declare_tables.specs.Tables.{Entity, AsItem, AsLabel, AsProcedure, Entry, no_entry, numbers_from}
+use Rattle.pli_declare.specs.Faults.{item_fault}
+use Rattle.pli_declare.specs.declared.place.ItemPlace.{ItemPlace}
+use Rattle.pli_declare.specs.Tables.{Entity, AsItem, AsLabel, AsProcedure, Entry, no_entry, numbers_from}
 use Rattle.pli_declare_tables.specs.views.TableView.{entry_view, entries_view}
 use Rattle.pli_declare_tables.specs.declared.entry.Entry as program
-use Rattle.pli_declare_variables.specs.Places.{item_in, place_in, own_code}
-use Rattle.pli_declare_variables.specs.Descriptions.{own_codes}
-use Rattle.pli_declare_variables.specs.Declarations.{DeclaredKind, OfItem, whole_description, kind_of, IsGood}
+use Rattle.pli_declare.specs.Places.{item_in, place_in, own_code}
+use Rattle.pli_declare.specs.Descriptions.{own_codes}
+use Rattle.pli_declare.specs.Declarations.{DeclaredKind, OfItem, whole_description, kind_of, IsGood}
 use Rattle.pli_declare_variables.specs.answers.Declaring.{kind_with, whole_at, IsFaultless, IsFaultlessCut}
 use Rattle.pli_declare_variables.specs.answers.Walks.{cut_place_in}
 use Rattle.pli_declare_attributes.proofs.CutLemmas.{cut_completed}

@@ -1,20 +1,20 @@
 -- What an item and those that it is a member of are, by what is known of its owner.
 use Rattle.std.proofs.Common.{◌≡◌, ℕ, ◌<◌, ◌&&◌, ◌||◌, Bool, Option, Some, None, List, length, get_or, map, sym, ap, ◌∙◌, arith}
 use Rattle.std.proofs.lemmas.List.{length-map}
-use Rattle.pli_declare_attributes.specs.Sets.{set_of, has, outermost, area, pointer, offset}
+use Rattle.pli_declare.specs.Sets.{set_of, has, outermost, area, pointer, offset}
 use Rattle.pli_declare_attributes.specs.declared.named.Named.{Named}
-use Rattle.pli_declare_tables.specs.answers.Answers.{AreAfterOwners}
+use Rattle.pli_declare.specs.answers.Owners.{AreAfterOwners}
 use Rattle.pli_declare_tables.specs.views.TableView.{entry_view, entries_view}
-use Rattle.pli_declare_tables.specs.Tables as plain
-use Rattle.pli_declare_tables.specs.Tables.{no_entry, numbers_from}
+use Rattle.pli_declare.specs.Tables as plain
+use Rattle.pli_declare.specs.Tables.{no_entry, numbers_from}
 use Rattle.pli_declare_tables.specs.declared.entry.Entry.{Entry}
-use Rattle.pli_declare_variables.specs.Places.{owners_of, item_in, is_variable}
+use Rattle.pli_declare.specs.Places.{owners_of, item_in, is_variable}
 use Rattle.pli_declare_variables.specs.answers.Walks.{chain_of, chain_at, chain_above, chain_with, no_chain, nameable_at}
 use Rattle.pli_declare_variables.specs.declared.locators.Chain.{Chain}
 use Rattle.pli_declare_variables.specs.declared.locators.Nameable.{Nameable}
 use Rattle.pli_declare_variables.proofs.LevelLemmas.{view_at, owner_before}
 use Rattle.pli_declare_variables.proofs.NumberLemmas.{mapped_at}
-use Rattle.pli_declare_variables.proofs.OwnerLemmas.{Below, owners_next, owners_none}
+use Rattle.pli_declare.proofs.OwnerLemmas.{Below, owners_next, owners_none}
 
 one_above : (entries : List plain.Entry) → AreAfterOwners entries → (i : ℕ) → i < length entries → (chains : List Chain)
     → chains ≡ map (chain_at entries) (numbers_from 0 i) → (owner : Option ℕ) → (get_or entries i no_entry).owner ≡ owner → Below owner i

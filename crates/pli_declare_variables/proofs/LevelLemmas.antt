@@ -1,20 +1,20 @@
 -- What the levels above an item make, by what is known of its owner.
 use Rattle.std.proofs.Common.{◌≡◌, ℕ, ◌<◌, ◌||◌, Option, Some, None, List, ◌∷◌, length, get_or, map, sym, ap, subst, ◌∙◌, arith}
 use Rattle.std.proofs.lemmas.List.{get_or-map, length-map}
-use Rattle.pli_declare_attributes.specs.Extents.{is_array}
-use Rattle.pli_declare_attributes.specs.Initials.{elements_inside}
+use Rattle.pli_declare.specs.Extents.{is_array}
+use Rattle.pli_declare.specs.Initials.{elements_inside}
 use Rattle.pli_declare_attributes.specs.answers.Cuts.{cut}
 use Rattle.pli_declare_attributes.proofs.CutLemmas.{cut_inside}
-use Rattle.pli_declare_tables.specs.answers.Answers.{AreAfterOwners}
+use Rattle.pli_declare.specs.answers.Owners.{AreAfterOwners}
 use Rattle.pli_declare_tables.specs.views.TableView.{entry_view, entries_view}
-use Rattle.pli_declare_tables.specs.Tables as plain
-use Rattle.pli_declare_tables.specs.Tables.{no_entry, numbers_from}
+use Rattle.pli_declare.specs.Tables as plain
+use Rattle.pli_declare.specs.Tables.{no_entry, numbers_from}
 use Rattle.pli_declare_tables.specs.declared.entry.Entry.{Entry}
-use Rattle.pli_declare_variables.specs.Places.{item_of, owners_of, elements_through}
+use Rattle.pli_declare.specs.Places.{item_of, owners_of, elements_through}
 use Rattle.pli_declare_variables.specs.answers.Walks.{made_by, above_at, above_owner, nothing_above}
 use Rattle.pli_declare_variables.specs.declared.places.LevelsAbove.{LevelsAbove}
 use Rattle.pli_declare_variables.proofs.NumberLemmas.{mapped_at}
-use Rattle.pli_declare_variables.proofs.OwnerLemmas.{Below, owner_below, owners_next, owners_none}
+use Rattle.pli_declare.proofs.OwnerLemmas.{Below, owner_below, owners_next, owners_none}
 
 -- an entry of the program, as it is seen
 pub view_at : (entries : List Entry) (i : ℕ) (e : Entry) → i < length entries → e ≡ get_or entries i e → get_or (entries_view entries) i no_entry ≡ entry_view e

@@ -1,5 +1,4 @@
 pub mod NumberLemmas
-pub mod OwnerLemmas
 pub mod MarkLemmas
 pub mod LevelLemmas
 pub mod PlaceLemmas
@@ -7,7 +6,6 @@ pub mod ItemPathLemmas
 pub mod LimitsHaveFaults
 pub mod SizeLemmas
 pub mod MembersFound
-pub mod NumberListLemmas
 pub mod DescriptionLemmas
 pub mod OptionLemmas
 pub mod Faultless

@@ -13,18 +13,18 @@ use Rattle.pli_base.specs.declared.code.Code.{Code}
 use Rattle.pli_base.specs.declared.code.Code.TheVariants.{AttributesConflict, AttributesMissing, BadPrecision, BadLength, BadBounds, BadInitial}
 use Rattle.pli_base.specs.Declarations as tree
 use Rattle.pli_base.specs.declared.declaration.WrittenBounds.{WrittenBounds}
-use Rattle.pli_declare_attributes.specs.Agreement.{may_be_open, set_agrees, is_missing}
-use Rattle.pli_declare_attributes.specs.Extents.{are_bad_bounds, are_bad_stars, is_array}
-use Rattle.pli_declare_attributes.specs.Faults.{first_of, first_in_order, lesser, shape_fault, area_fault, own_fault, parameters_in, parameters_fault, returned_in, returned_fault, entry_fault, attributes_fault, item_fault}
-use Rattle.pli_declare_attributes.specs.Initials.{values_in, is_bad_initial}
-use Rattle.pli_declare_attributes.specs.Sets.{outermost, set_of, each_once}
-use Rattle.pli_declare_attributes.specs.Types.{number_of, is_bad_precision, is_bad_length, is_bad_star}
-use Rattle.pli_declare_attributes.specs.Types as types
-use Rattle.pli_declare_attributes.specs.declared.place.ItemPlace.{ItemPlace}
-use Rattle.pli_declare_attributes.proofs.ShapeLemmas.{shape_sound}
-use Rattle.pli_declare_tables.specs.Tables.{Entry, no_entry}
-use Rattle.pli_declare_variables.specs.Places.{item_in, item_of, no_item, own_code, place_in}
-use Rattle.pli_declare_variables.specs.Descriptions.{is_of_shape, own_codes, IsSoundItem, ShapesAreSound}
+use Rattle.pli_declare.specs.Agreement.{may_be_open, set_agrees, is_missing}
+use Rattle.pli_declare.specs.Extents.{are_bad_bounds, are_bad_stars, is_array}
+use Rattle.pli_declare.specs.Faults.{first_of, first_in_order, lesser, shape_fault, area_fault, own_fault, parameters_in, parameters_fault, returned_in, returned_fault, entry_fault, attributes_fault, item_fault}
+use Rattle.pli_declare.specs.Initials.{values_in, is_bad_initial}
+use Rattle.pli_declare.specs.Sets.{outermost, set_of, each_once}
+use Rattle.pli_declare.specs.Types.{number_of, is_bad_precision, is_bad_length, is_bad_star}
+use Rattle.pli_declare.specs.Types as types
+use Rattle.pli_declare.specs.declared.place.ItemPlace.{ItemPlace}
+use Rattle.pli_declare.proofs.ShapeLemmas.{shape_sound}
+use Rattle.pli_declare.specs.Tables.{Entry, no_entry}
+use Rattle.pli_declare.specs.Places.{item_in, item_of, no_item, own_code, place_in}
+use Rattle.pli_declare.specs.Descriptions.{is_of_shape, own_codes, IsSoundItem, ShapesAreSound}
 use Rattle.pli_declare_variables.proofs.NumberLemmas.{mapped_at}
 
 first_five : (a b c d e : Bool)

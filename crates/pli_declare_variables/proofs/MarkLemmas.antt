@@ -5,8 +5,8 @@ use Rattle.std.specs.Option.{unwrap_or}
 use Rattle.std.proofs.lemmas.Bool.Decides.{nat_tests}
 use Rattle.std.proofs.lemmas.List.{ext_get_or, take_more, get_or-set_same, get_or-set_other}
 use Rattle.std.proofs.lemmas.List.Folds.{list_any-append}
-use Rattle.pli_declare_tables.specs.Tables.{Entry, no_entry, numbers_from}
-use Rattle.pli_declare_variables.specs.Places.{owner_is}
+use Rattle.pli_declare.specs.Tables.{Entry, no_entry, numbers_from}
+use Rattle.pli_declare.specs.Places.{owner_is}
 use Rattle.pli_declare_variables.specs.answers.Walks.{has_members_at}
 use Rattle.pli_declare_variables.proofs.NumberLemmas.{mapped_at, mapped_length}
 

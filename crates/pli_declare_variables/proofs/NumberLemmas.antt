@@ -1,7 +1,7 @@
 -- What is made of each of the numbers from 0 on.
 use Rattle.std.proofs.Common.{◌≡◌, ℕ, zero, suc, ◌+◌, ◌<◌, List, [], ◌∷◌, ◌++◌, length, get_or, map, refl, sym, ap, ◌∙◌, arith}
 use Rattle.std.proofs.lemmas.List.{map-append}
-use Rattle.pli_declare_tables.specs.Tables.{numbers_from}
+use Rattle.pli_declare.specs.Tables.{numbers_from}
 
 numbers_more : (first count : ℕ) → numbers_from first (suc count) ≡ numbers_from first count ++ (first + count) ∷ []
 numbers_more first zero = ap (λ n. n ∷ []) (omega arith)

@@ -3,12 +3,12 @@ use Rattle.std.proofs.Common.{◌≡◌, ℕ, ◌<◌, Bool, List, length, get_o
 use Rattle.std.specs.List.{list_any}
 use Rattle.pli_base.specs.Name.{Name}
 use Rattle.pli_base.specs.Words.{same_name}
-use Rattle.pli_declare_attributes.specs.declared.place.ItemPlace.{ItemPlace}
+use Rattle.pli_declare.specs.declared.place.ItemPlace.{ItemPlace}
 use Rattle.pli_declare_tables.specs.views.TableView.{entry_view, entries_view}
-use Rattle.pli_declare_tables.specs.Tables as plain
-use Rattle.pli_declare_tables.specs.Tables.{numbers_from}
+use Rattle.pli_declare.specs.Tables as plain
+use Rattle.pli_declare.specs.Tables.{numbers_from}
 use Rattle.pli_declare_tables.specs.declared.entry.Entry.{Entry}
-use Rattle.pli_declare_variables.specs.Places.{is_bad_level, stands_alone, position_of, is_built_in}
+use Rattle.pli_declare.specs.Places.{is_bad_level, stands_alone, position_of, is_built_in}
 use Rattle.pli_declare_variables.specs.answers.Walks.{has_members_at, above_at, placed, cut_place_in}
 use Rattle.pli_declare_variables.specs.declared.places.LevelsAbove.{LevelsAbove}
 use Rattle.pli_declare_variables.proofs.LevelLemmas.{view_at}

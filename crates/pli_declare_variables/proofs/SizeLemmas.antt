@@ -12,10 +12,10 @@ use Rattle.pli_map.specs.declared.layout.Layout.{Layout}
 use Rattle.pli_map.proofs.Members.{later}
 use Rattle.pli_map.proofs.Alignments.{members_positive}
 use Rattle.pli_base.specs.Declarations.{integer_of}
-use Rattle.pli_declare_attributes.specs.Extents.{low_of, are_good, are_bad_bounds, all_bounds, bounds_of}
-use Rattle.pli_declare_attributes.specs.Faults.{with_bounds}
-use Rattle.pli_declare_attributes.proofs.ShapeLemmas.{bounds_good}
-use Rattle.pli_declare_variables.specs.Descriptions.{member_then, members_made, inside}
+use Rattle.pli_declare.specs.Extents.{low_of, are_good, are_bad_bounds, all_bounds, bounds_of}
+use Rattle.pli_declare.specs.Faults.{with_bounds}
+use Rattle.pli_declare.proofs.ShapeLemmas.{bounds_good}
+use Rattle.pli_declare.specs.Descriptions.{member_then, members_made, inside}
 use Rattle.pli_declare_variables.specs.answers.Measures.{of_layout, IsMeasured, IsFront}
 use Rattle.pli_declare_variables.specs.declared.sizes.Measured.{Measured}
 use Rattle.pli_declare_variables.specs.declared.sizes.Measured.TheVariants.{Unknown, TooLarge, Takes}

@@ -1,9 +1,9 @@
 -- What is known of the items of a block.
 use Rattle.std.specs.Prelude.{ℕ, List, map, length}
 use Rattle.pli_base.specs.Name.{Name}
-use Rattle.pli_declare_tables.specs.Tables.{Entry, numbers_from}
-use Rattle.pli_declare_variables.specs.Places.{own_code, is_locator, is_area}
-use Rattle.pli_declare_variables.specs.Descriptions.{is_too_large_variable}
+use Rattle.pli_declare.specs.Tables.{Entry, numbers_from}
+use Rattle.pli_declare.specs.Places.{own_code, is_locator, is_area}
+use Rattle.pli_declare.specs.Descriptions.{is_too_large_variable}
 use Rattle.pli_declare_variables.specs.declared.judged.Judged.{Judged}
 
 -- what is judged of one entry

@@ -2,22 +2,23 @@
 ghost use Rattle.std.specs.Prelude.{◌≡◌, true, map, length, List, IfOk};
 ghost use Rattle.pli_base.specs.Name.{Name as Characters};
 ghost use Rattle.pli_base.specs.views.DeclarationView.{item_view};
-ghost use Rattle.pli_declare_attributes.specs.Faults as fault;
+ghost use Rattle.pli_declare.specs.Faults as fault;
 ghost use Rattle.pli_declare_attributes.specs.answers.Cuts.{cut_place};
-ghost use Rattle.pli_declare_attributes.specs.declared.place.ItemPlace.{ItemPlace as SpecPlace};
-ghost use Rattle.pli_declare_tables.specs.Tables.{numbers_from};
+ghost use Rattle.pli_declare.specs.declared.place.ItemPlace.{ItemPlace as SpecPlace};
+ghost use Rattle.pli_declare.specs.Tables.{numbers_from};
 ghost use Rattle.pli_declare_tables.specs.views.TableView.{entry_view, entries_view};
-ghost use Rattle.pli_declare_tables.specs.answers.Answers.{AreAfterOwners};
-ghost use Rattle.pli_declare_variables.specs.Places.{no_item, item_in};
-ghost use Rattle.pli_declare_variables.specs.Places as place;
-ghost use Rattle.pli_declare_variables.specs.Declarations.{AreGood};
+ghost use Rattle.pli_declare.specs.answers.Owners.{AreAfterOwners};
+ghost use Rattle.pli_declare.specs.Places.{no_item, item_in};
+ghost use Rattle.pli_declare.specs.Places as place;
+ghost use Rattle.pli_declare.specs.Declarations.{AreGood};
 ghost use Rattle.pli_declare_variables.specs.answers.Declaring.{IsFaultless};
 ghost use Rattle.pli_declare_variables.specs.answers.Walks.{cut_place_in};
 
 use crate::places;
 use pli_base::declaration::Item;
 use pli_base::{Code, Name};
-use pli_declare_attributes::{ItemFacts, ItemPlace, item_fault};
+use pli_declare::ItemPlace;
+use pli_declare_attributes::{ItemFacts, item_fault};
 use pli_declare_tables::{Entity, Entry};
 use std::alloc::{AllocError, Global};
 

@@ -1,11 +1,11 @@
 //! The descriptions of variables.
 ghost use Rattle.std.specs.Prelude.{◌≡◌, ◌<◌, map, option_map, length, IfOk};
 ghost use Rattle.pli_map.specs.views.DescriptionView.{description_view, members_view};
-ghost use Rattle.pli_declare_tables.specs.Tables.{numbers_from};
+ghost use Rattle.pli_declare.specs.Tables.{numbers_from};
 ghost use Rattle.pli_declare_tables.specs.views.TableView.{entries_view};
-ghost use Rattle.pli_declare_tables.specs.answers.Answers.{AreAfterOwners};
-ghost use Rattle.pli_declare_variables.specs.Places.{members_of};
-ghost use Rattle.pli_declare_variables.specs.Descriptions.{described, members_made, ShapesAreSound};
+ghost use Rattle.pli_declare.specs.answers.Owners.{AreAfterOwners};
+ghost use Rattle.pli_declare.specs.Places.{members_of};
+ghost use Rattle.pli_declare.specs.Descriptions.{described, members_made, ShapesAreSound};
 
 use crate::items::{attributes, dimensions};
 use crate::sizes::has_bad_shape;

@@ -2,9 +2,9 @@
 ghost use Rattle.std.specs.Prelude.{◌≡◌, map};
 ghost use Rattle.pli_base.specs.views.DeclarationView.{attribute_view};
 ghost use Rattle.pli_declare_tables.specs.views.TableView.{entry_view};
-ghost use Rattle.pli_declare_variables.specs.Descriptions.{is_starred};
-ghost use Rattle.pli_declare_variables.specs.Places.{item_in};
-ghost use Rattle.pli_declare_variables.specs.Places as places;
+ghost use Rattle.pli_declare.specs.Descriptions.{is_starred};
+ghost use Rattle.pli_declare.specs.Places.{item_in};
+ghost use Rattle.pli_declare.specs.Places as places;
 
 use pli_base::declaration::{Attribute, WrittenBounds};
 use pli_declare_attributes::{Named, has_star};

@@ -1,7 +1,7 @@
 //! What is known of the items of a block.
 ghost use Rattle.std.specs.Prelude.{◌≡◌, IfOk};
 ghost use Rattle.pli_declare_tables.specs.views.TableView.{entries_view};
-ghost use Rattle.pli_declare_tables.specs.answers.Answers.{AreAfterOwners};
+ghost use Rattle.pli_declare.specs.answers.Owners.{AreAfterOwners};
 ghost use Rattle.pli_declare_variables.specs.Judging.{all_judged};
 
 use crate::codes::own_codes;

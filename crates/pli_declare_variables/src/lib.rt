@@ -2,7 +2,6 @@
 #![tactic(auto)]
 
 mod codes;
-mod declaration;
 mod declared;
 mod descriptions;
 mod items;
@@ -14,7 +13,6 @@ mod returned;
 mod sizes;
 mod words;
 
-pub use declaration::{Declaration, DeclaredKind};
 pub use declared::declare;
 pub use judged::{Judged, judge};
 pub use laws::descriptions_are_of_members;

@@ -1,11 +1,11 @@
 //! Which items BASED and OFFSET may name.
 ghost use Rattle.std.specs.Prelude.{◌≡◌, ◌<◌, ◌&&◌, ◌||◌, not, map, length, IfOk, IfSome};
-ghost use Rattle.pli_declare_attributes.specs.Extents.{is_array};
-ghost use Rattle.pli_declare_attributes.specs.Sets.{set_of, has, none_of, outermost, area, based, pointer, offset};
-ghost use Rattle.pli_declare_tables.specs.Tables.{numbers_from};
+ghost use Rattle.pli_declare.specs.Extents.{is_array};
+ghost use Rattle.pli_declare.specs.Sets.{set_of, has, none_of, outermost, area, based, pointer, offset};
+ghost use Rattle.pli_declare.specs.Tables.{numbers_from};
 ghost use Rattle.pli_declare_tables.specs.views.TableView.{entry_view, entries_view};
-ghost use Rattle.pli_declare_tables.specs.answers.Answers.{AreAfterOwners};
-ghost use Rattle.pli_declare_variables.specs.Places.{item_in, is_variable};
+ghost use Rattle.pli_declare.specs.answers.Owners.{AreAfterOwners};
+ghost use Rattle.pli_declare.specs.Places.{item_in, is_variable};
 ghost use Rattle.pli_declare_variables.specs.answers.Walks as walk;
 
 use crate::items::dimensions;

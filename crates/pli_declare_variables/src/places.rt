@@ -3,13 +3,13 @@ ghost use Rattle.std.specs.Prelude.{◌≡◌, ◌<◌, ◌≤◌, ◌||◌, ◌
 ghost use Rattle.std.specs.List.{list_any};
 ghost use Rattle.pli_base.specs.Name.{Name};
 ghost use Rattle.pli_base.specs.Words.{same_name};
-ghost use Rattle.pli_declare_attributes.specs.Extents.{is_array};
-ghost use Rattle.pli_declare_attributes.specs.Initials.{elements_inside};
+ghost use Rattle.pli_declare.specs.Extents.{is_array};
+ghost use Rattle.pli_declare.specs.Initials.{elements_inside};
 ghost use Rattle.pli_declare_attributes.specs.answers.Cuts.{cut};
-ghost use Rattle.pli_declare_tables.specs.Tables.{no_entry, numbers_from};
+ghost use Rattle.pli_declare.specs.Tables.{no_entry, numbers_from};
 ghost use Rattle.pli_declare_tables.specs.views.TableView.{entry_view, entries_view};
-ghost use Rattle.pli_declare_tables.specs.answers.Answers.{AreAfterOwners};
-ghost use Rattle.pli_declare_variables.specs.Places.{item_in, is_bad_level, stands_alone, is_built_in, position_of};
+ghost use Rattle.pli_declare.specs.answers.Owners.{AreAfterOwners};
+ghost use Rattle.pli_declare.specs.Places.{item_in, is_bad_level, stands_alone, is_built_in, position_of};
 ghost use Rattle.pli_declare_variables.specs.answers.Walks.{has_members_at, above_at, above_owner, placed};
 ghost use Rattle.pli_declare_variables.specs.answers.Walks.{cut_place_in};
 
@@ -18,7 +18,8 @@ use crate::words::is_built_in;
 use indexmap::IndexSet;
 use pli_base::Name;
 use pli_base::declaration::WrittenBounds;
-use pli_declare_attributes::{ItemPlace, Position, elements_within};
+use pli_declare::{ItemPlace, Position};
+use pli_declare_attributes::elements_within;
 use pli_declare_tables::Entry;
 use std::alloc::{AllocError, AllocFailed, Global};
 

@@ -3,8 +3,8 @@ ghost use Rattle.std.specs.Prelude.{◌≡◌, None, map, option_map};
 ghost use Rattle.pli_base.specs.views.DeclarationView.{described_view};
 ghost use Rattle.pli_base.specs.views.StatementView.{option_view, unit_view};
 ghost use Rattle.pli_map.specs.views.DescriptionView.{description_view};
-ghost use Rattle.pli_declare_attributes.specs.Faults.{result_fault, described_scalar};
-ghost use Rattle.pli_declare_variables.specs.Declarations.{returned_by, described_result, AreSound};
+ghost use Rattle.pli_declare.specs.Faults.{result_fault, described_scalar};
+ghost use Rattle.pli_declare.specs.Declarations.{returned_by, described_result, AreSound};
 
 use pli_base::declaration::DescribedAttribute;
 use pli_base::statement::{Procedure, ProcedureOption};

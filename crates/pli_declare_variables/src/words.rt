@@ -2,7 +2,7 @@
 ghost use Rattle.std.specs.Prelude.{◌≡◌};
 ghost use Rattle.std.specs.List.{list_any};
 ghost use Rattle.pli_base.specs.Words.{same_name};
-ghost use Rattle.pli_declare_variables.specs.Places.{is_built_in};
+ghost use Rattle.pli_declare.specs.Places.{is_built_in};
 
 use pli_base::Name;
 
@@ -43,7 +43,7 @@ fn is_one_of(name: &Name, words: &[&[u8]]) -> bool
 }
 
 /// Whether a name is that of a built-in function (X3.74 and own). Abbreviations are of keywords only.
-#[tactic(auto, unfolding(crate::specs::Places::is_built_in))]
+#[tactic(auto, unfolding(pli_declare::specs::Places::is_built_in))]
 pub fn is_built_in(name: Name) -> bool
     ensures { result ≡ is_built_in name }
 {

@@ -11,22 +11,22 @@ use Rattle.pli_map.specs.Description.{Description}
 use Rattle.pli_map.specs.Scalars.{scalars_in}
 use Rattle.pli_declare.specs.Resolution.{parameters_of, resolution_faults}
 use Rattle.pli_declare.proofs.ListsByNumber.{made_at, made_length}
-use Rattle.pli_declare_attributes.specs.Completed.{OfVariable}
-use Rattle.pli_declare_attributes.specs.declared.completed.ScopeAttribute.{ScopeAttribute}
+use Rattle.pli_declare.specs.Completed.{OfVariable}
+use Rattle.pli_declare.specs.declared.completed.ScopeAttribute.{ScopeAttribute}
 use Rattle.pli_declare_outline.specs.Outlines.{outline_of}
-use Rattle.pli_declare_tables.specs.Tables.{Entry, no_entry, entries_in}
-use Rattle.pli_declare_variables.specs.Declarations.{Declaration, DeclaredKind, OfItem, declaration_at, declared_in}
-use Rattle.pli_resolve.specs.ResolvedUnits.{resolved_unit_of, all_symbols, facts_of, block_regions_of}
-use Rattle.pli_resolve.specs.Symbols.{Symbol, SymbolKind, SymbolFacts, Way, Variable, OpenParameter, Member, Label, Procedure, Entry as AnEntry, BuiltIn, no_way, symbol_kind, ways_of}
-use Rattle.pli_resolve.specs.declared.block_numbers.BlockRegion.{BlockRegion}
-use Rattle.pli_resolve.specs.declared.symbol.StorageClass.{StorageClass}
-use Rattle.pli_resolve.specs.declared.symbol.SymbolKey.{SymbolKey}
+use Rattle.pli_declare.specs.Tables.{Entry, no_entry, entries_in}
+use Rattle.pli_declare.specs.Declarations.{Declaration, DeclaredKind, OfItem, declaration_at, declared_in}
+use Rattle.pli_declare.specs.ResolvedUnits.{resolved_unit_of, all_symbols, facts_of, block_regions_of}
+use Rattle.pli_declare.specs.Symbols.{Symbol, SymbolKind, SymbolFacts, Way, Variable, OpenParameter, Member, Label, Procedure, Entry as AnEntry, BuiltIn, no_way, symbol_kind, ways_of}
+use Rattle.pli_declare.specs.declared.block_numbers.BlockRegion.{BlockRegion}
+use Rattle.pli_declare.specs.declared.symbol.StorageClass.{StorageClass}
+use Rattle.pli_declare.specs.declared.symbol.SymbolKey.{SymbolKey}
 use Rattle.pli_resolve.proofs.MembersAreParts.{found_of, members_are_parts, own_not_member, region_good, region_items, region_owners, symbol_nowhere, symbol_there}
 use Rattle.pli_resolve_bounds.specs.SymbolBounds.{IsLimited}
 use Rattle.pli_resolve_bounds.proofs.SymbolsWithin.{symbols_are_limited}
 use Rattle.pli_map.specs.Parts.{PlacedPart}
-use Rattle.pli_type.specs.InitialScalars.{each_with, initial_scalars, scalars_on, values_written, InitialItem, template_of}
-use Rattle.pli_type.specs.NamedUnits.{member_items}
+use Rattle.pli_type_rules.specs.InitialScalars.{each_with, initial_scalars, scalars_on, values_written, InitialItem, template_of}
+use Rattle.pli_type_rules.specs.NamedUnits.{member_items}
 use Rattle.pli_value.specs.Value.{Value}
 use Rattle.pli_initial_laws.specs.InitialCounts.{HasFewInitial, HaveFewInitial, InitialValuesAreFew}
 use Rattle.pli_initial_laws.proofs.ScalarCounts.{taken, Differs, AreDistinct, Reaches, AllReach, spread, scalars_take}

@@ -9,7 +9,7 @@ use Rattle.pli_map.specs.Sizes.{count_of, alignment_of, size_of, stride_of, end_
 use Rattle.pli_map.proofs.Places.{fits_stride}
 use Rattle.pli_resolve.specs.laws.MemberLaws.{member_of, part_on}
 use Rattle.pli_deck_laws.specs.Limits.{IsDescribed, AreDescribed}
-use Rattle.pli_type.specs.InitialScalars.{counted_from, scalars_on, scalars_in_member}
+use Rattle.pli_type_rules.specs.InitialScalars.{counted_from, scalars_on, scalars_in_member}
 
 -- ---- wherever a description begins
 

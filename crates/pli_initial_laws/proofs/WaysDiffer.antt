@@ -1,12 +1,12 @@
 -- Names whose ways are the same are the same.
 use Rattle.std.proofs.Common.{◌≡◌, ℕ, zero, suc, ◌<◌, Option, Some, None, List, [], ◌∷◌, ◌++◌, length, get_or, length-append, refl, sym, ap, ◌∙◌, arith}
 use Rattle.pli_base.specs.Name.{Name}
-use Rattle.pli_declare_tables.specs.Tables.{Entry, no_entry}
-use Rattle.pli_declare_tables.specs.answers.Answers.{AreAfterOwners}
-use Rattle.pli_declare_variables.specs.Declarations.{declared_in, AreGood}
-use Rattle.pli_declare_variables.specs.Places.{members_of}
-use Rattle.pli_declare_variables.proofs.MembersFound.{before}
-use Rattle.pli_resolve.specs.Symbols.{Way, no_way, ways_of}
+use Rattle.pli_declare.specs.Tables.{Entry, no_entry}
+use Rattle.pli_declare.specs.answers.Owners.{AreAfterOwners}
+use Rattle.pli_declare.specs.Declarations.{declared_in, AreGood}
+use Rattle.pli_declare.specs.Places.{members_of}
+use Rattle.pli_declare.proofs.MembersFound.{before}
+use Rattle.pli_declare.specs.Symbols.{Way, no_way, ways_of}
 use Rattle.pli_resolve.proofs.MembersAreParts.{way_is, member_here}
 use Rattle.pli_resolve.proofs.OwnersAreItems.{OwnersAreItems}
 use Rattle.pli_resolve.proofs.WaysToMembers.{hits, is_owner, way_by}

@@ -4,10 +4,10 @@ use Rattle.std.specs.List.{AllByRecursion}
 use Rattle.pli_base.specs.Statements.{ExternalProcedure}
 use Rattle.pli_declare.specs.Resolution.{resolution_faults}
 use Rattle.pli_map.specs.Scalars.{scalars_in}
-use Rattle.pli_resolve.specs.ResolvedUnits.{resolved_unit_of, all_symbols}
-use Rattle.pli_resolve.specs.Symbols.{Symbol, SymbolKind, Variable}
-use Rattle.pli_type.specs.InitialScalars.{template_of}
-use Rattle.pli_type.specs.NamedUnits.{member_items}
+use Rattle.pli_declare.specs.ResolvedUnits.{resolved_unit_of, all_symbols}
+use Rattle.pli_declare.specs.Symbols.{Symbol, SymbolKind, Variable}
+use Rattle.pli_type_rules.specs.InitialScalars.{template_of}
+use Rattle.pli_type_rules.specs.NamedUnits.{member_items}
 
 -- a variable under its number among the symbols of its block, with its members there: no more initial values
 -- than scalars, and no more scalars than the 1,000,000 bytes that it may take

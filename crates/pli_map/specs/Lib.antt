@@ -17,3 +17,4 @@ pub mod Variables
 pub mod examples
 pub mod laws
 pub mod views
+pub mod ScalarPlaces

@@ -12,13 +12,11 @@ mod parameter;
 mod parts;
 mod scalars;
 mod sizes;
-mod stored;
 mod table;
-mod values;
 
 pub use description::{Bounds, Description, are_same_scalars};
 pub use dimension::{Dimension, WhichBound, nth_dimension};
-pub use extents::{FAR, far_size};
+pub use extents::{FAR, every_element, far_size};
 pub use laws::{
     areas_are_rounded, elements_are_in_row_major_order, elements_are_within_bounds,
     filled_parts_take_bytes, first_values_are_held, four_alignments, offsets_are_sums,
@@ -32,6 +30,4 @@ pub use scalars::{
     first_scalar, is_aggregate, is_area, is_scalar, scalars_in, stands_among, stands_in,
 };
 pub use sizes::{alignment, fixed_binary_size, measure, size};
-pub use stored::{load_value, store_value};
 pub use table::Table;
-pub use values::{first_values, holds};

@@ -5,8 +5,8 @@ use Rattle.pli_base.specs.Statements.{ExternalProcedure}
 use Rattle.pli_declarations.specs.Units as declarations
 use Rattle.pli_declarations.proofs.UnitsAlike.{units_alike}
 use Rattle.pli_declare.specs.Resolution.{resolution_faults}
-use Rattle.pli_resolve.specs.ResolvedUnits.{resolved_unit_of}
-use Rattle.pli_type.specs.NamedUnits.{checked_unit}
+use Rattle.pli_declare.specs.ResolvedUnits.{resolved_unit_of}
+use Rattle.pli_type_rules.specs.NamedUnits.{checked_unit}
 use Rattle.pli_type_unit.proofs.LimitsAlike.{units_are_checked}
 use Rattle.pli_type_unit.specs.Statements.{typed_unit}
 

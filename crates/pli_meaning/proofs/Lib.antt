@@ -9,3 +9,11 @@ pub mod ScratchExamplesHold
 pub mod UnitTables
 pub mod UnitsOfTrees
 pub mod VariablesMade
+pub mod BelowLemmas
+pub mod DeclarationFaultsRise
+pub mod ExpressionFaultsStand
+pub mod MarksRise
+pub mod PlacesHold
+pub mod RisingLemmas
+pub mod StatementsBegin
+pub mod TypeFaultsStand

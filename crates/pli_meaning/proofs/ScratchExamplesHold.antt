@@ -3,7 +3,7 @@ use Rattle.std.specs.Prelude.{refl}
 use Rattle.pli_base.specs.Reading.{misfit, taken, misplaced}
 use Rattle.pli_base.specs.Words.{rest_after, name_first}
 use Rattle.pli_declarations.specs.Units.{resolution_faults}
-use Rattle.pli_declare_attributes.specs.Extents.{are_bad_bounds}
+use Rattle.pli_declare.specs.Extents.{are_bad_bounds}
 use Rattle.pli_declarations.specs.Walk.{outline_of}
 use Rattle.pli_deck_write.specs.DeckBytes.{type_bytes, code_bytes}
 use Rattle.pli_include.specs.Expansion.{read_pieces, included, expanded_within}

@@ -22,10 +22,10 @@ use Rattle.pli_meaning.proofs.LimitsAlike.{limits_alike}
 use Rattle.pli_gen.specs.WellNumbered.{IsWellNumbered}
 use Rattle.pli_gen_stands.specs.Laws.{AreWellNumbered}
 use Rattle.pli_meaning_typed.specs.TypedPrograms.{AreTypedUnits, IsTypedUnit}
-use Rattle.pli_resolve.specs.ResolvedUnits.{ResolvedUnit, resolved_unit_of}
-use Rattle.pli_type.specs.NamedUnits.{named_unit, checked_unit}
-use Rattle.pli_type.specs.laws.Laws.{IsFault, IsToldOfTypes}
-use Rattle.pli_type.proofs.FaultCodes.{faults_are_of_types}
+use Rattle.pli_declare.specs.ResolvedUnits.{ResolvedUnit, resolved_unit_of}
+use Rattle.pli_type_rules.specs.NamedUnits.{named_unit, checked_unit}
+use Rattle.pli_type_rules.specs.laws.Laws.{IsFault, IsToldOfTypes}
+use Rattle.pli_type_laws.proofs.FaultCodes.{faults_are_of_types}
 use Rattle.pli_type_laws.specs.TypedUnits.{MainTakesNothing}
 use Rattle.pli_type_laws.proofs.CheckedUnits.{checked_is_typed}
 use Rattle.pli_meaning.proofs.DeclaredUnits.{declared_units}

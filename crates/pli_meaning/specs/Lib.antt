@@ -5,3 +5,8 @@ pub mod Programs
 pub mod Scratch
 pub mod examples
 pub mod laws
+pub mod DiagnosticPlaces
+pub mod FaultOrder
+pub mod MarkTokens
+pub mod StatementStarts
+pub mod TypeFaultPlaces

@@ -3,7 +3,8 @@
 ghost use Rattle.std.specs.Prelude.{◌≡◌, ◌≤◌, ◌+◌, ◌<◌, [], ◌∷◌, List, Some, length, nat_eq, IfOk, MatchOption};
 ghost use Rattle.pli_base.specs.Words.{is_close, rest_after};
 ghost use Rattle.pli_parse_declaration.specs.DeclarationReading.{description_walk, parameters_walk, word_walk};
-ghost use Rattle.pli_parse_declaration.specs.DeclarationReading.{closed_walk, after_attributes_walk, step_at, is_over, nest_at};
+ghost use Rattle.pli_parse_declaration.specs.DeclarationReading.{closed_walk, after_attributes_walk, step_at, is_over};
+ghost use Rattle.pli_parse_declaration.specs.DeclarationReading.{nest_at};
 ghost use Rattle.pli_parse_declaration.specs.answers.DeclarationAnswers.{walk_view};
 ghost use Rattle.pli_base.specs.answers.FailureAnswers.{Gives};
 ghost use Rattle.pli_base.specs.answers.ReadingAnswers.{Advances, Continues, front_view};

@@ -11,15 +11,15 @@ use Rattle.pli_declare.specs.Resolved.{resolved_of, block_at}
 use Rattle.pli_declare.specs.Resolution.{headed}
 use Rattle.pli_declare.proofs.ListsByNumber.{made_at, made_length}
 use Rattle.pli_declare.proofs.ParametersOfBlocks.{gathered, headed_here, headed_elsewhere}
-use Rattle.pli_resolve.specs.BlockNumbers.{block_begun, block_kind, blocks_after, numbers_after}
-use Rattle.pli_resolve.specs.StatementPlaces.{statement_starts, body_starts, statements_starts, alternative_starts, unit_starts}
-use Rattle.pli_resolve.specs.Symbols.{number_declared}
-use Rattle.pli_resolve.specs.ResolvedUnits.{block_of, block_regions_of, numbers_of, region_block, no_block}
-use Rattle.pli_resolve.specs.TreeBlocks.{TreeBlock, inner_block, blocks_in, blocks_of, blocks_among, blocks_in_else, statement_blocks, body_blocks, statements_blocks, alternative_blocks}
+use Rattle.pli_declare.specs.BlockNumbers.{block_begun, block_kind, blocks_after, numbers_after}
+use Rattle.pli_declare.specs.StatementPlaces.{statement_starts, body_starts, statements_starts, alternative_starts, unit_starts}
+use Rattle.pli_declare.specs.Symbols.{number_declared}
+use Rattle.pli_declare.specs.ResolvedUnits.{block_of, block_regions_of, numbers_of, region_block, no_block}
+use Rattle.pli_declare.specs.TreeBlocks.{TreeBlock, inner_block, blocks_in, blocks_of, blocks_among, blocks_in_else, statement_blocks, body_blocks, statements_blocks, alternative_blocks}
 use Rattle.pli_resolve.specs.laws.BlockLaws.{in_tree, BlocksAreOfTheTree}
-use Rattle.pli_resolve.specs.declared.block_numbers.BlockRegion.{BlockRegion}
-use Rattle.pli_resolve.specs.declared.block_numbers.ResolvedBlockKind.{ResolvedBlockKind}
-use Rattle.pli_resolve.specs.declared.block_numbers.ResolvedBlockKind.TheVariants as kinds
+use Rattle.pli_declare.specs.declared.block_numbers.BlockRegion.{BlockRegion}
+use Rattle.pli_declare.specs.declared.block_numbers.ResolvedBlockKind.{ResolvedBlockKind}
+use Rattle.pli_declare.specs.declared.block_numbers.ResolvedBlockKind.TheVariants as kinds
 use Rattle.pli_resolve.proofs.EnteredRegions.{entered, entered_in, headed_from, entered_among}
 use Rattle.pli_resolve.proofs.RegionWalks.{statement_numbers, body_numbers, statements_numbers, alternative_numbers, statement_headings, body_headings, statements_headings, alternative_headings, list_regions_counted, starts_counted, headings_counted, list_headings_counted, numbers_counted, numbered_list}
 

@@ -11,18 +11,18 @@ use Rattle.pli_base.specs.declared.declaration.WrittenBounds.{WrittenBounds}
 use Rattle.pli_base.specs.declared.code.Code.TheVariants.{AttributesConflict, AttributesMissing, BadPrecision, BadLength, BadBounds}
 use Rattle.pli_map.specs.Description.{Description}
 use Rattle.pli_map.specs.ParameterTypes.{ParameterType}
-use Rattle.pli_declare_attributes.specs.Sets.{has, none_of, entry, built_in, outermost, set_of, each_once}
-use Rattle.pli_declare_attributes.specs.Agreement.{is_parameter, may_be_open, set_agrees, agrees_as_entry, agrees_as_built_in, agrees_as_variable, is_missing, is_plain, is_at_level_one}
-use Rattle.pli_declare_attributes.specs.Types.{number_of, is_bad_precision, is_bad_length, is_bad_star}
-use Rattle.pli_declare_attributes.specs.Types as types
-use Rattle.pli_declare_attributes.specs.Extents.{is_array, are_bad_bounds, are_bad_stars}
-use Rattle.pli_declare_attributes.specs.Faults.{first_of, shape_fault, own_fault, attributes_fault, item_fault, entry_fault, parameters_in}
-use Rattle.pli_declare_attributes.specs.Completed.{Variable, OfVariable, OfEntry, OfBuiltIn, open_type, variable_of, completed_of}
-use Rattle.pli_declare_attributes.specs.declared.place.ItemPlace.{ItemPlace}
-use Rattle.pli_declare_attributes.proofs.ShapeLemmas.{or_none, parts_none}
-use Rattle.pli_declare_variables.specs.Places.{is_built_in}
-use Rattle.pli_resolve.specs.BuiltIns.{built_in_functions, function_among, function_named}
-use Rattle.pli_resolve.specs.declared.built_in.BuiltInFunction.{BuiltInFunction}
+use Rattle.pli_declare.specs.Sets.{has, none_of, entry, built_in, outermost, set_of, each_once}
+use Rattle.pli_declare.specs.Agreement.{is_parameter, may_be_open, set_agrees, agrees_as_entry, agrees_as_built_in, agrees_as_variable, is_missing, is_plain, is_at_level_one}
+use Rattle.pli_declare.specs.Types.{number_of, is_bad_precision, is_bad_length, is_bad_star}
+use Rattle.pli_declare.specs.Types as types
+use Rattle.pli_declare.specs.Extents.{is_array, are_bad_bounds, are_bad_stars}
+use Rattle.pli_declare.specs.Faults.{first_of, shape_fault, own_fault, attributes_fault, item_fault, entry_fault, parameters_in}
+use Rattle.pli_declare.specs.Completed.{Variable, OfVariable, OfEntry, OfBuiltIn, open_type, variable_of, completed_of}
+use Rattle.pli_declare.specs.declared.place.ItemPlace.{ItemPlace}
+use Rattle.pli_declare.proofs.ShapeLemmas.{or_none, parts_none}
+use Rattle.pli_declare.specs.Places.{is_built_in}
+use Rattle.pli_declare.specs.BuiltIns.{built_in_functions, function_among, function_named}
+use Rattle.pli_declare.specs.declared.built_in.BuiltInFunction.{BuiltInFunction}
 
 agrees : (a b c d e : Bool) (t u v w x : Code) → first_of ((not a, t) ∷ (b, u) ∷ (c, v) ∷ (d, w) ∷ (e, x) ∷ []) ≡ None → a ≡ true
 agrees false b c d e t u v w x h = cc

@@ -11,14 +11,14 @@ use Rattle.pli_declare_outline.specs.declared.region.RegionKind.TheVariants as r
 use Rattle.pli_declare_constructs.specs.Regions.{is_block, kind_at, outside, blocks_round}
 use Rattle.pli_declare_constructs.proofs.BlocksAround.{beyond, blocks_step, blocks_past}
 use Rattle.pli_declare.specs.Resolved.{resolved_of}
-use Rattle.pli_declare_variables.specs.Declarations.{Declaration}
-use Rattle.pli_resolve.specs.BlockNumbers.{block_begun, block_kind, begun_by, number_with, blocks_after, numbers_after}
-use Rattle.pli_resolve.specs.Symbols.{Symbol, SymbolFacts, Way, no_way, way_with, counted, ways_after, ways_of, symbol_of, symbols_of, block_under}
-use Rattle.pli_resolve.specs.ResolvedUnits.{resolved_unit_of, symbol_at, block_regions_of, numbers_of, outermost_number, facts_of, region_block, declared_by}
-use Rattle.pli_resolve.specs.declared.block_numbers.BlockRegion.{BlockRegion}
-use Rattle.pli_resolve.specs.declared.block_numbers.ResolvedBlockKind.{ResolvedBlockKind}
-use Rattle.pli_resolve.specs.declared.block_numbers.ResolvedBlockKind.TheVariants as kinds
-use Rattle.pli_resolve.specs.declared.symbol.SymbolKey.{SymbolKey}
+use Rattle.pli_declare.specs.Declarations.{Declaration}
+use Rattle.pli_declare.specs.BlockNumbers.{block_begun, block_kind, begun_by, number_with, blocks_after, numbers_after}
+use Rattle.pli_declare.specs.Symbols.{Symbol, SymbolFacts, Way, no_way, way_with, counted, ways_after, ways_of, symbol_of, symbols_of, block_under}
+use Rattle.pli_declare.specs.ResolvedUnits.{resolved_unit_of, symbol_at, block_regions_of, numbers_of, outermost_number, facts_of, region_block, declared_by}
+use Rattle.pli_declare.specs.declared.block_numbers.BlockRegion.{BlockRegion}
+use Rattle.pli_declare.specs.declared.block_numbers.ResolvedBlockKind.{ResolvedBlockKind}
+use Rattle.pli_declare.specs.declared.block_numbers.ResolvedBlockKind.TheVariants as kinds
+use Rattle.pli_declare.specs.declared.symbol.SymbolKey.{SymbolKey}
 use Rattle.pli_resolve.proofs.BlocksOfTrees.{among, after_those}
 use Rattle.pli_resolve.proofs.SymbolsAt.{symbols_at, symbol_inside, symbol_outside}
 

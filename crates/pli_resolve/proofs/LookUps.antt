@@ -1,6 +1,6 @@
 -- What is found under keys, in lists that are joined.
 use Rattle.std.proofs.Common.{◌≡◌, ℕ, nat_eq, Option, Some, List, [], ◌∷◌, ◌++◌, refl, if◌then◌else◌}
-use Rattle.pli_resolve.specs.Symbols.{found_after}
+use Rattle.pli_declare.specs.Symbols.{found_after}
 
 -- after some pairs others
 pub found_then : {A : Type 0} (found : Option A) (xs ys : List (ℕ × A)) (key : ℕ)

@@ -12,15 +12,15 @@ use Rattle.pli_declare_scopes.specs.declared.found.Found.{Found}
 use Rattle.pli_declare_scopes.specs.declared.found.Found.TheVariants.{Nothing, One, Several}
 use Rattle.pli_declare_scopes.specs.declared.found.ReferenceMeaning.TheVariants.{Item}
 use Rattle.pli_declare_scopes.specs.declared.repeat.Verdict.{Verdict}
-use Rattle.pli_declare_tables.specs.Tables.{Entry, with_verdicts, entries_in, verdicts_in, block_in, unit_entries, unit_block, scope_of, tables_of}
-use Rattle.pli_declare_variables.specs.Declarations.{declaration_at, declared_in, AreGood}
+use Rattle.pli_declare.specs.Tables.{Entry, with_verdicts, entries_in, verdicts_in, block_in, unit_entries, unit_block, scope_of, tables_of}
+use Rattle.pli_declare.specs.Declarations.{declaration_at, declared_in, AreGood}
 use Rattle.pli_declare.specs.Resolution.{parameters_of, resolution_faults}
 use Rattle.pli_declare.specs.Resolved.{resolved_of, block_at}
 use Rattle.pli_declare.specs.Resolved as declare
 use Rattle.pli_declare.proofs.ListsByNumber.{made_at, made_length}
 use Rattle.pli_declare.proofs.LookUpLemmas.{IsBelow, found_is_below}
 use Rattle.pli_declare.proofs.Faultless.{block_good, unit_good}
-use Rattle.pli_resolve.specs.ResolvedUnits.{no_block, declared_by}
+use Rattle.pli_declare.specs.ResolvedUnits.{no_block, declared_by}
 use Rattle.pli_resolve.proofs.DeclaredBlocks.{IsRegion, each_is, round_are_blocks}
 
 -- a number that is found stands in a block of the scope

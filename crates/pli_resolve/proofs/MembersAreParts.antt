@@ -11,31 +11,31 @@ use Rattle.pli_base.specs.declared.declaration.InitialValue.{InitialValue}
 use Rattle.pli_base.specs.declared.syntax.Identifier.{Identifier}
 use Rattle.pli_map.specs.Description.{Description}
 use Rattle.pli_map.specs.ParameterTypes.{ParameterType}
-use Rattle.pli_declare_attributes.specs.Completed.{Variable as AVariable, OfVariable, OfEntry, OfBuiltIn}
-use Rattle.pli_declare_attributes.specs.Extents.{is_array}
-use Rattle.pli_declare_attributes.specs.declared.completed.ScopeAttribute.{ScopeAttribute}
-use Rattle.pli_declare_attributes.specs.Faults.{item_fault}
+use Rattle.pli_declare.specs.Completed.{Variable as AVariable, OfVariable, OfEntry, OfBuiltIn}
+use Rattle.pli_declare.specs.Extents.{is_array}
+use Rattle.pli_declare.specs.declared.completed.ScopeAttribute.{ScopeAttribute}
+use Rattle.pli_declare.specs.Faults.{item_fault}
 use Rattle.pli_declare_outline.specs.Outlines.{Mark, Declared, Labelled, Entered, Used, Jumped, PlacedMark, outline_of}
-use Rattle.pli_declare_tables.specs.Tables.{Entity, Entry, no_entry, entries_in, heading_entries, unit_entries}
-use Rattle.pli_declare_tables.specs.answers.Answers.{AreAfterOwners}
-use Rattle.pli_declare_tables.proofs.MembersStandAfter.{owners_stand_before}
-use Rattle.pli_declare_variables.specs.Places.{members_of, owners_of, place_in, item_in, item_of, own_code, is_variable, is_unsubscripted}
-use Rattle.pli_declare_variables.specs.Descriptions.{is_of_shape, own_codes, description_of}
-use Rattle.pli_declare_variables.specs.Declarations.{Declaration, DeclaredKind, OfItem, OfLabel, OfProcedure, IsGood, AreGood, declaration_at, declared_in, kind_of, whole_description}
-use Rattle.pli_declare_variables.proofs.MembersFound.{before}
-use Rattle.pli_declare_variables.proofs.OwnerLemmas.{owners_next}
-use Rattle.pli_declare_variables.proofs.NumberListLemmas.{filtered}
+use Rattle.pli_declare.specs.Tables.{Entity, Entry, no_entry, entries_in, heading_entries, unit_entries}
+use Rattle.pli_declare.specs.answers.Owners.{AreAfterOwners}
+use Rattle.pli_declare.proofs.MembersStandAfter.{owners_stand_before}
+use Rattle.pli_declare.specs.Places.{members_of, owners_of, place_in, item_in, item_of, own_code, is_variable, is_unsubscripted}
+use Rattle.pli_declare.specs.Descriptions.{is_of_shape, own_codes, description_of}
+use Rattle.pli_declare.specs.Declarations.{Declaration, DeclaredKind, OfItem, OfLabel, OfProcedure, IsGood, AreGood, declaration_at, declared_in, kind_of, whole_description}
+use Rattle.pli_declare.proofs.MembersFound.{before}
+use Rattle.pli_declare.proofs.OwnerLemmas.{owners_next}
+use Rattle.pli_declare.proofs.NumberListLemmas.{filtered}
 use Rattle.pli_declare.specs.Resolution.{parameters_of, resolution_faults}
 use Rattle.pli_declare.specs.Resolved.{resolved_of, block_at}
 use Rattle.pli_declare.specs.Resolved as declare
 use Rattle.pli_declare.proofs.ListsByNumber.{made_at, made_length}
-use Rattle.pli_resolve.specs.Symbols.{Symbol, SymbolFacts, Variable, Member, Way, no_way, ways_of, class_of, place_among, locator_of, area_of, kind_with, symbol_kind, symbol_of, symbols_with}
-use Rattle.pli_resolve.specs.ResolvedUnits.{resolved_unit_of, symbol_at, facts_of, region_block, block_regions_of, no_block}
+use Rattle.pli_declare.specs.Symbols.{Symbol, SymbolFacts, Variable, Member, Way, no_way, ways_of, class_of, place_among, locator_of, area_of, kind_with, symbol_kind, symbol_of, symbols_with}
+use Rattle.pli_declare.specs.ResolvedUnits.{resolved_unit_of, symbol_at, facts_of, region_block, block_regions_of, no_block}
 use Rattle.pli_resolve.specs.laws.LocatorLaws.{plain_member, plain_part}
 use Rattle.pli_resolve.specs.laws.MemberLaws.{member_of, part_on, IsPart, MembersAreParts}
-use Rattle.pli_resolve.specs.declared.block_numbers.BlockRegion.{BlockRegion}
-use Rattle.pli_resolve.specs.declared.symbol.StorageClass.{StorageClass}
-use Rattle.pli_resolve.specs.declared.symbol.SymbolKey.{SymbolKey}
+use Rattle.pli_declare.specs.declared.block_numbers.BlockRegion.{BlockRegion}
+use Rattle.pli_declare.specs.declared.symbol.StorageClass.{StorageClass}
+use Rattle.pli_declare.specs.declared.symbol.SymbolKey.{SymbolKey}
 use Rattle.pli_resolve.proofs.SymbolsAt.{symbols_at, symbol_inside, symbol_outside, symbol_beyond}
 use Rattle.pli_resolve.proofs.WaysToMembers.{hits, at_hit, is_owner, owner_here, way_by, ways_are}
 use Rattle.pli_resolve.proofs.PartsOfMembers.{of_owner, part_further, plain_further, structure_alone, each_described}

@@ -13,33 +13,33 @@ use Rattle.pli_base.specs.declared.token.Fault.{Fault}
 use Rattle.pli_map.specs.Description as described
 use Rattle.pli_map.specs.Description.{Description}
 use Rattle.pli_map.specs.ParameterTypes.{ParameterType}
-use Rattle.pli_declare_attributes.specs.Agreement.{is_member}
-use Rattle.pli_declare_attributes.specs.Sets.{pointer, offset, area, based, built_in, entry, data_attributes, has, none_of, outermost, set_of}
-use Rattle.pli_declare_attributes.specs.Types.{number_of}
-use Rattle.pli_declare_attributes.specs.Faults.{item_fault}
-use Rattle.pli_declare_attributes.specs.Completed.{Variable as AVariable, OfVariable, OfEntry, OfBuiltIn, storage_at, variable_of, completed_of}
-use Rattle.pli_declare_attributes.specs.declared.completed.DeclaredStorage.{DeclaredStorage}
-use Rattle.pli_declare_attributes.specs.declared.completed.DeclaredStorage.TheVariants as storage
+use Rattle.pli_declare.specs.Agreement.{is_member}
+use Rattle.pli_declare.specs.Sets.{pointer, offset, area, based, built_in, entry, data_attributes, has, none_of, outermost, set_of}
+use Rattle.pli_declare.specs.Types.{number_of}
+use Rattle.pli_declare.specs.Faults.{item_fault}
+use Rattle.pli_declare.specs.Completed.{Variable as AVariable, OfVariable, OfEntry, OfBuiltIn, storage_at, variable_of, completed_of}
+use Rattle.pli_declare.specs.declared.completed.DeclaredStorage.{DeclaredStorage}
+use Rattle.pli_declare.specs.declared.completed.DeclaredStorage.TheVariants as storage
 use Rattle.pli_declare_outline.specs.Outlines.{Mark, Declared, Labelled, Entered, Used, Jumped, PlacedMark, Outline, outline_of}
-use Rattle.pli_declare_tables.specs.Tables.{Entity, AsItem, AsLabel, AsProcedure, Entry, no_entry, entries_in, heading_entries, unit_entries}
-use Rattle.pli_declare_tables.specs.answers.Answers.{AreAfterOwners}
-use Rattle.pli_declare_tables.proofs.MembersStandAfter.{owners_stand_before}
-use Rattle.pli_declare_variables.specs.Places.{members_of, owners_of, place_in, position_of, item_in, item_of, is_variable, stands_alone, is_bad_level, set_in, is_unsubscripted, is_locator, is_area}
-use Rattle.pli_declare_variables.specs.Descriptions.{scalar_at, own_codes, description_of}
-use Rattle.pli_declare_variables.specs.Declarations.{Declaration, DeclaredKind, OfItem, OfLabel, OfProcedure, IsGood, AreGood, returned_by, declaration_at, declared_in, kind_of, whole_description}
+use Rattle.pli_declare.specs.Tables.{Entity, AsItem, AsLabel, AsProcedure, Entry, no_entry, entries_in, heading_entries, unit_entries}
+use Rattle.pli_declare.specs.answers.Owners.{AreAfterOwners}
+use Rattle.pli_declare.proofs.MembersStandAfter.{owners_stand_before}
+use Rattle.pli_declare.specs.Places.{members_of, owners_of, place_in, position_of, item_in, item_of, is_variable, stands_alone, is_bad_level, set_in, is_unsubscripted, is_locator, is_area}
+use Rattle.pli_declare.specs.Descriptions.{scalar_at, own_codes, description_of}
+use Rattle.pli_declare.specs.Declarations.{Declaration, DeclaredKind, OfItem, OfLabel, OfProcedure, IsGood, AreGood, returned_by, declaration_at, declared_in, kind_of, whole_description}
 use Rattle.pli_declare.specs.Resolution.{names_nothing, returned_are, heading_code, parameters_of, resolution_faults}
 use Rattle.pli_declare.specs.Resolved.{resolved_of, meaning_at}
-use Rattle.pli_declare_variables.specs.AttributeNames.{plain_of, area_in}
+use Rattle.pli_declare.specs.AttributeNames.{plain_of, area_in}
 use Rattle.pli_declare.specs.laws.FaultLaws.{AtUnit, HasHeading}
 use Rattle.pli_declare.specs.declared.block.Target.{Target}
 use Rattle.pli_declare.proofs.FaultsAreExact.{faults_are_least_codes}
 use Rattle.pli_declare.proofs.ListsByNumber.{made_at, made_length}
-use Rattle.pli_resolve.specs.Symbols.{Symbol, SymbolFacts, Way, no_way, ways_of, class_of, place_among, locator_of, area_of, key_of, SymbolKind, kind_with, symbol_kind, symbol_of, symbols_with}
-use Rattle.pli_resolve.specs.ResolvedUnits.{ResolvedUnit, resolved_unit_of, symbol_at, facts_of, numbers_of, outermost_number, block_regions_of}
+use Rattle.pli_declare.specs.Symbols.{Symbol, SymbolFacts, Way, no_way, ways_of, class_of, place_among, locator_of, area_of, key_of, SymbolKind, kind_with, symbol_kind, symbol_of, symbols_with}
+use Rattle.pli_declare.specs.ResolvedUnits.{ResolvedUnit, resolved_unit_of, symbol_at, facts_of, numbers_of, outermost_number, block_regions_of}
 use Rattle.pli_resolve.specs.laws.LocatorLaws.{IsVariable, IsLocating, IsNotBased, IsLocator, IsArea, locator_names, area_names, Means, ClassNames, KindNames, declared_under, entry_under, LocatorsAndAreasAreNamed}
-use Rattle.pli_resolve.specs.declared.block_numbers.BlockRegion.{BlockRegion}
-use Rattle.pli_resolve.specs.declared.symbol.StorageClass.{StorageClass}
-use Rattle.pli_resolve.specs.declared.symbol.SymbolKey.{SymbolKey}
+use Rattle.pli_declare.specs.declared.block_numbers.BlockRegion.{BlockRegion}
+use Rattle.pli_declare.specs.declared.symbol.StorageClass.{StorageClass}
+use Rattle.pli_declare.specs.declared.symbol.SymbolKey.{SymbolKey}
 use Rattle.pli_resolve.proofs.BuiltInNames.{variable_so}
 use Rattle.pli_resolve.proofs.DeclaredBlocks.{IsRegion, key_in, block_there, symbol_by}
 use Rattle.pli_resolve.proofs.MeantNames.{entries_at, regions_same, all_good, declared_number}

@@ -11,22 +11,22 @@ use Rattle.pli_base.specs.declared.code.Code.{Code}
 use Rattle.pli_base.specs.declared.code.Code.TheVariants.{AttributesConflict, BadLocatorOrAreaName, BadLevel, TooManyParameters}
 use Rattle.pli_base.specs.declared.syntax.Identifier.{Identifier}
 use Rattle.pli_base.specs.declared.token.Fault.{Fault}
-use Rattle.pli_declare_attributes.specs.Faults.{first_of, lesser, result_fault}
-use Rattle.pli_declare_attributes.proofs.LeastFaults.{no_lesser}
+use Rattle.pli_declare.specs.Faults.{first_of, lesser, result_fault}
+use Rattle.pli_declare.proofs.LeastFaults.{no_lesser}
 use Rattle.pli_declare_constructs.specs.Regions.{block_of}
 use Rattle.pli_declare_outline.specs.Outlines.{Mark, Declared, Labelled, Entered, Used, Jumped, PlacedMark, Outline, outline_of, regions_among}
 use Rattle.pli_declare_scopes.specs.Scopes.{Scope, meant}
 use Rattle.pli_declare_scopes.specs.declared.found.ReferenceMeaning.{ReferenceMeaning}
 use Rattle.pli_declare_scopes.specs.declared.found.ReferenceMeaning.TheVariants.{Item as Means, Ambiguous, NotDeclared}
 use Rattle.pli_declare_scopes.specs.declared.repeat.Verdict.TheVariants.{Counts}
-use Rattle.pli_declare_tables.specs.Tables as tables
-use Rattle.pli_declare_tables.specs.Tables.{Entity, AsItem, AsProcedure, no_entry, named, entries_of, entries_in, block_in, inner_marks, unit_block, unit_entries, verdicts_in, scope_of, tables_of}
-use Rattle.pli_declare_variables.specs.Places.{own_code, is_locator, is_area}
-use Rattle.pli_declare_variables.specs.Descriptions.{is_too_large_variable}
-use Rattle.pli_declare_variables.specs.Declarations.{returned_by}
+use Rattle.pli_declare.specs.Tables as tables
+use Rattle.pli_declare.specs.Tables.{Entity, AsItem, AsProcedure, no_entry, named, entries_of, entries_in, block_in, inner_marks, unit_block, unit_entries, verdicts_in, scope_of, tables_of}
+use Rattle.pli_declare.specs.Places.{own_code, is_locator, is_area}
+use Rattle.pli_declare.specs.Descriptions.{is_too_large_variable}
+use Rattle.pli_declare.specs.Declarations.{returned_by}
 use Rattle.pli_declare.specs.Resolution.{is_main, names_fit, is_good, simple_is_good, described_is_good, attribute_is_good, twice_code, returned_are, least, heading_code, entity_codes, item_code, parameters_of, resolution_faults}
 use Rattle.pli_declare.specs.Resolved.{resolved_of, used_as, named_at, item_names, areas_at, locators_at, of_marks, meaning_after, meaning_at}
-use Rattle.pli_declare_variables.specs.AttributeNames.{plain_of, simple_of, area_in, locator_in}
+use Rattle.pli_declare.specs.AttributeNames.{plain_of, simple_of, area_in, locator_in}
 use Rattle.pli_declare.specs.declared.block.Use.{Use}
 use Rattle.pli_declare.specs.declared.block.Target.{Target}
 use Rattle.pli_declare.specs.declared.block.Target.TheVariants.{Name as AName}

@@ -9,7 +9,7 @@ use Rattle.pli_declare_outline.specs.Outlines.{Region, Mark, Declared, Labelled,
 use Rattle.pli_declare_constructs.specs.Regions.{block_of}
 use Rattle.pli_declare_scopes.specs.Levels.{standings_of, level_of}
 use Rattle.pli_declare_scopes.specs.declared.level.ItemStanding.{ItemStanding}
-use Rattle.pli_declare_tables.specs.Tables.{AsItem, AsLabel, Entry, no_entry, entries_of, entries_after, entries_in, inner_marks, named, item_entries}
+use Rattle.pli_declare.specs.Tables.{AsItem, AsLabel, Entry, no_entry, entries_of, entries_after, entries_in, inner_marks, named, item_entries}
 use Rattle.pli_declare.proofs.MarkWalkLemmas.{entries_grow, length_standings}
 use Rattle.pli_resolve.proofs.OwnersAreItems.{item_there}
 

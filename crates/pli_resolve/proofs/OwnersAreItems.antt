@@ -9,7 +9,7 @@ use Rattle.pli_declare_outline.specs.Outlines.{Region, Mark, Declared, Labelled,
 use Rattle.pli_declare_constructs.specs.Regions.{block_of}
 use Rattle.pli_declare_scopes.specs.Levels.{standings_of}
 use Rattle.pli_declare_scopes.specs.declared.level.ItemStanding.{ItemStanding}
-use Rattle.pli_declare_tables.specs.Tables.{Entity, AsItem, Entry, no_entry, named, item_entries, entries_of, entries_after, entries_in, inner_marks}
+use Rattle.pli_declare.specs.Tables.{Entity, AsItem, Entry, no_entry, named, item_entries, entries_of, entries_after, entries_in, inner_marks}
 
 abbrev pub IsItem : Entity → Type 0
 IsItem entity = (item : Item) × (is_bad : Bool) × (entity ≡ AsItem item is_bad)

@@ -3,13 +3,13 @@ use Rattle.std.proofs.Common.{◌≡◌, ℕ, zero, suc, ◌+◌, ◌<◌, ◌�
 use Rattle.pli_base.specs.declared.code.Code.{Code}
 use Rattle.pli_map.specs.Description.{Description, Structure, Members, NoMembers, MemberThen}
 use Rattle.pli_map.specs.declared.description.Bounds.{Bounds}
-use Rattle.pli_declare_attributes.specs.Extents.{all_bounds}
-use Rattle.pli_declare_attributes.specs.Faults.{with_bounds}
-use Rattle.pli_declare_tables.specs.Tables.{Entry}
-use Rattle.pli_declare_tables.specs.answers.Answers.{AreAfterOwners}
-use Rattle.pli_declare_variables.specs.Places.{item_of, members_of}
-use Rattle.pli_declare_variables.specs.Descriptions.{is_of_shape, scalar_at, member_then, members_made, inside, described}
-use Rattle.pli_declare_variables.proofs.MembersFound.{members_stand, enough}
+use Rattle.pli_declare.specs.Extents.{all_bounds}
+use Rattle.pli_declare.specs.Faults.{with_bounds}
+use Rattle.pli_declare.specs.Tables.{Entry}
+use Rattle.pli_declare.specs.answers.Owners.{AreAfterOwners}
+use Rattle.pli_declare.specs.Places.{item_of, members_of}
+use Rattle.pli_declare.specs.Descriptions.{is_of_shape, scalar_at, member_then, members_made, inside, described}
+use Rattle.pli_declare.proofs.MembersFound.{members_stand, enough}
 use Rattle.pli_resolve.specs.laws.LocatorLaws.{plain_member, plain_part}
 use Rattle.pli_resolve.specs.laws.MemberLaws.{member_at, member_of, part_on}
 

@@ -5,11 +5,11 @@ use Rattle.std.specs.Option.{unwrap_or}
 use Rattle.std.proofs.lemmas.Option.{slice_get_within}
 use Rattle.pli_base.specs.Name.{Name}
 use Rattle.pli_base.specs.Statements.{ExternalProcedure}
-use Rattle.pli_declare_variables.specs.Declarations.{Declaration}
-use Rattle.pli_resolve.specs.Symbols.{Symbol, SymbolFacts, Way, symbol_of, symbols_with}
-use Rattle.pli_resolve.specs.ResolvedUnits.{ResolvedBlock, resolved_unit_of, all_symbols, symbol_at, block_of, block_regions_of}
-use Rattle.pli_resolve.specs.declared.block_numbers.BlockRegion.{BlockRegion}
-use Rattle.pli_resolve.specs.declared.symbol.SymbolKey.{SymbolKey}
+use Rattle.pli_declare.specs.Declarations.{Declaration}
+use Rattle.pli_declare.specs.Symbols.{Symbol, SymbolFacts, Way, symbol_of, symbols_with}
+use Rattle.pli_declare.specs.ResolvedUnits.{ResolvedBlock, resolved_unit_of, all_symbols, symbol_at, block_of, block_regions_of}
+use Rattle.pli_declare.specs.declared.block_numbers.BlockRegion.{BlockRegion}
+use Rattle.pli_declare.specs.declared.symbol.SymbolKey.{SymbolKey}
 
 none_by : {A : Type 0} (f : Way → Option A) (o : Option Way) → ((w : Way) → f w ≡ None) → None ≡ option_and_then f o
 none_by f None h = refl

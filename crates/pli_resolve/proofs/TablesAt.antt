@@ -4,8 +4,8 @@ use Rattle.std.proofs.Common.{◌∙◌}
 use Rattle.std.specs.Option.{unwrap_or}
 use Rattle.std.proofs.lemmas.Option.{slice_get-map, unwrap_or-slice_get}
 use Rattle.pli_declare.specs.Resolved as declare
-use Rattle.pli_resolve.specs.Symbols.{number_declared, ways_of}
-use Rattle.pli_resolve.specs.ResolvedUnits.{no_block}
+use Rattle.pli_declare.specs.Symbols.{number_declared, ways_of}
+use Rattle.pli_declare.specs.ResolvedUnits.{no_block}
 use Rattle.pli_resolve.specs.views.TableView.{block_table_of, parameters_in, ways_in}
 
 abbrev declared_parameters : declare.BlockDeclarations → List ℕ

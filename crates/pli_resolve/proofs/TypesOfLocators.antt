@@ -11,22 +11,22 @@ use Rattle.pli_base.specs.declared.code.Code.TheVariants.{AreaNotAllowedHere, At
 use Rattle.pli_map.specs.Description as described
 use Rattle.pli_map.specs.Description.{Description}
 use Rattle.pli_map.specs.ParameterTypes.{ParameterType}
-use Rattle.pli_declare_attributes.specs.Sets.{fixed, character, varying, bit, pointer, offset, area, based, automatic, controlled, static, internal, external, built_in, entry, returns, data_attributes, storage_attributes, scope_attributes, has, none_of, is_one_of, outermost, kind_of, set_of, each_once}
-use Rattle.pli_declare_attributes.specs.Agreement.{data_types, excluded_at, is_member, may_be_open, may_have_members, set_agrees, is_missing, agrees_as_variable}
-use Rattle.pli_declare_attributes.specs.Types.{number_of, number_or, scalar_of, is_bad_precision, is_bad_length, is_bad_star, described_star}
-use Rattle.pli_declare_attributes.specs.Types as types
-use Rattle.pli_declare_attributes.specs.Extents.{is_array, are_bad_bounds, are_bad_stars}
-use Rattle.pli_declare_attributes.specs.Faults.{first_of, is_bad_area, area_fault, own_fault, shape_fault, attributes_fault, item_fault, entry_fault, parameters_in}
-use Rattle.pli_declare_attributes.specs.Completed.{Variable, OfVariable, OfEntry, OfBuiltIn, open_type, storage_at, variable_of, completed_of}
-use Rattle.pli_declare_attributes.specs.declared.completed.DeclaredStorage.TheVariants as storage
-use Rattle.pli_declare_attributes.specs.declared.place.ItemPlace.{ItemPlace}
-use Rattle.pli_declare_attributes.specs.declared.place.Position.{Position}
-use Rattle.pli_declare_attributes.specs.declared.place.Position.TheVariants.{AtLevelOne, Member, Parameter, Result}
-use Rattle.pli_declare_attributes.proofs.BitLemmas.{has_all}
-use Rattle.pli_declare_attributes.proofs.ShapeLemmas.{or_none, parts_none}
-use Rattle.pli_resolve.specs.Symbols.{class_of}
+use Rattle.pli_declare.specs.Sets.{fixed, character, varying, bit, pointer, offset, area, based, automatic, controlled, static, internal, external, built_in, entry, returns, data_attributes, storage_attributes, scope_attributes, has, none_of, is_one_of, outermost, kind_of, set_of, each_once}
+use Rattle.pli_declare.specs.Agreement.{data_types, excluded_at, is_member, may_be_open, may_have_members, set_agrees, is_missing, agrees_as_variable}
+use Rattle.pli_declare.specs.Types.{number_of, number_or, scalar_of, is_bad_precision, is_bad_length, is_bad_star, described_star}
+use Rattle.pli_declare.specs.Types as types
+use Rattle.pli_declare.specs.Extents.{is_array, are_bad_bounds, are_bad_stars}
+use Rattle.pli_declare.specs.Faults.{first_of, is_bad_area, area_fault, own_fault, shape_fault, attributes_fault, item_fault, entry_fault, parameters_in}
+use Rattle.pli_declare.specs.Completed.{Variable, OfVariable, OfEntry, OfBuiltIn, open_type, storage_at, variable_of, completed_of}
+use Rattle.pli_declare.specs.declared.completed.DeclaredStorage.TheVariants as storage
+use Rattle.pli_declare.specs.declared.place.ItemPlace.{ItemPlace}
+use Rattle.pli_declare.specs.declared.place.Position.{Position}
+use Rattle.pli_declare.specs.declared.place.Position.TheVariants.{AtLevelOne, Member, Parameter, Result}
+use Rattle.pli_declare.proofs.BitLemmas.{has_all}
+use Rattle.pli_declare.proofs.ShapeLemmas.{or_none, parts_none}
+use Rattle.pli_declare.specs.Symbols.{class_of}
 use Rattle.pli_resolve.specs.laws.LocatorLaws.{IsLocating, IsNotBased}
-use Rattle.pli_resolve.specs.declared.symbol.SymbolKey.{SymbolKey}
+use Rattle.pli_declare.specs.declared.symbol.SymbolKey.{SymbolKey}
 use Rattle.pli_resolve.proofs.BuiltInNames.{agrees_so}
 use Rattle.pli_resolve.proofs.MarksStand.{Each}
 

@@ -10,17 +10,17 @@ use Rattle.pli_base.specs.declared.code.Code.TheVariants.{NotDeclared as NoName,
 use Rattle.pli_base.specs.declared.syntax.Identifier.{Identifier}
 use Rattle.pli_base.specs.declared.token.Fault.{Fault}
 use Rattle.pli_map.specs.Description.{Description}
-use Rattle.pli_declare_attributes.specs.Completed.{Completed, OfVariable, OfEntry, OfBuiltIn, completed_of}
-use Rattle.pli_declare_attributes.specs.Faults.{item_fault}
-use Rattle.pli_declare_attributes.specs.declared.place.ItemPlace.{ItemPlace}
+use Rattle.pli_declare.specs.Completed.{Completed, OfVariable, OfEntry, OfBuiltIn, completed_of}
+use Rattle.pli_declare.specs.Faults.{item_fault}
+use Rattle.pli_declare.specs.declared.place.ItemPlace.{ItemPlace}
 use Rattle.pli_declare_outline.specs.Outlines.{Mark, Declared, Labelled, Entered, Used, Jumped, PlacedMark, Outline, outline_of}
 use Rattle.pli_declare_constructs.specs.Reach.{reaches}
 use Rattle.pli_declare_scopes.specs.Scopes.{meant}
 use Rattle.pli_declare_scopes.specs.declared.found.ReferenceMeaning.{ReferenceMeaning}
 use Rattle.pli_declare_scopes.specs.declared.found.ReferenceMeaning.TheVariants.{Item, Ambiguous, NotDeclared}
-use Rattle.pli_declare_tables.specs.Tables.{Entity, AsItem, AsLabel, AsProcedure, Entry, no_entry, inner_marks, scope_of}
-use Rattle.pli_declare_variables.specs.Places.{place_in, item_in, is_built_in}
-use Rattle.pli_declare_variables.specs.Declarations.{OfItem, OfLabel, Declaration, kind_of, declaration_at, whole_description, IsGood}
+use Rattle.pli_declare.specs.Tables.{Entity, AsItem, AsLabel, AsProcedure, Entry, no_entry, inner_marks, scope_of}
+use Rattle.pli_declare.specs.Places.{place_in, item_in, is_built_in}
+use Rattle.pli_declare.specs.Declarations.{OfItem, OfLabel, Declaration, kind_of, declaration_at, whole_description, IsGood}
 use Rattle.pli_declare.specs.Resolution.{is_function, names_of, reference_code, target_code, jump_code, resolution_faults}
 use Rattle.pli_declare.specs.Resolved.{resolved_of, uses_at, used_as, function_use, of_marks, meaning_after}
 use Rattle.pli_declare.specs.laws.FaultLaws.{HasUse}
@@ -28,15 +28,15 @@ use Rattle.pli_declare.specs.declared.block.Use.{Use}
 use Rattle.pli_declare.specs.declared.block.Target.{Target}
 use Rattle.pli_declare.specs.declared.block.Target.TheVariants.{Name as AName, Function as AFunction}
 use Rattle.pli_declare.proofs.FaultsAreExact.{faults_are_least_codes}
-use Rattle.pli_resolve.specs.StatementPlaces.{unit_places}
-use Rattle.pli_resolve.specs.ResolvedUnits.{resolved_unit_of, symbol_at, functions_at, function_at, functions_in, kind_meaning, declared_meaning, target_meaning, facts_of}
-use Rattle.pli_resolve.specs.Symbols.{Symbol, Label, SymbolFacts, Way, symbol_kind, symbol_of, found_after, found_in}
+use Rattle.pli_declare.specs.StatementPlaces.{unit_places}
+use Rattle.pli_declare.specs.ResolvedUnits.{resolved_unit_of, symbol_at, functions_at, function_at, functions_in, kind_meaning, declared_meaning, target_meaning, facts_of}
+use Rattle.pli_declare.specs.Symbols.{Symbol, Label, SymbolFacts, Way, symbol_kind, symbol_of, found_after, found_in}
 use Rattle.pli_resolve.specs.laws.UseLaws.{IsThere, MeansSomething, HasMeaning, UsesHaveMeanings, IsUsedAt, IsLabelledAt, MeansLabel, JumpsMeanLabels}
-use Rattle.pli_resolve.specs.declared.built_in.BuiltInFunction.{BuiltInFunction}
-use Rattle.pli_resolve.specs.declared.statement_places.StatementPlace.{StatementPlace}
-use Rattle.pli_resolve.specs.declared.symbol.NameMeaning.{NameMeaning}
-use Rattle.pli_resolve.specs.declared.symbol.NameMeaning.TheVariants as meanings
-use Rattle.pli_resolve.specs.declared.symbol.SymbolKey.{SymbolKey}
+use Rattle.pli_declare.specs.declared.built_in.BuiltInFunction.{BuiltInFunction}
+use Rattle.pli_declare.specs.declared.statement_places.StatementPlace.{StatementPlace}
+use Rattle.pli_declare.specs.declared.symbol.NameMeaning.{NameMeaning}
+use Rattle.pli_declare.specs.declared.symbol.NameMeaning.TheVariants as meanings
+use Rattle.pli_declare.specs.declared.symbol.SymbolKey.{SymbolKey}
 use Rattle.pli_resolve.proofs.LookUps.{found_then}
 use Rattle.pli_resolve.proofs.BuiltInNames.{named_so, has_function}
 use Rattle.pli_resolve.proofs.DeclaredBlocks.{IsRegion, HasSymbol, key_in, declared_symbol}

@@ -4,9 +4,9 @@ use Rattle.std.specs.List.{filter}
 use Rattle.std.specs.Option.{unwrap_or}
 use Rattle.std.proofs.lemmas.Bool.{eqb-true, eq-eqb, cases_eq, cases_lt}
 use Rattle.std.proofs.lemmas.List.{get_or_append_left, get_or_push, length_push, get_or-set_same, get_or-set_other, length-set}
-use Rattle.pli_declare_tables.specs.Tables.{numbers_from}
-use Rattle.pli_declare_variables.specs.Declarations.{Declaration}
-use Rattle.pli_resolve.specs.Symbols.{Way, no_way, way_with, counted, ways_after}
+use Rattle.pli_declare.specs.Tables.{numbers_from}
+use Rattle.pli_declare.specs.Declarations.{Declaration}
+use Rattle.pli_declare.specs.Symbols.{Way, no_way, way_with, counted, ways_after}
 
 -- how many of so many numbers, from the first on, pass a test
 abbrev pub hits : (ℕ → Bool) → (first count : ℕ) → ℕ

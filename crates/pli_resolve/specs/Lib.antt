@@ -1,10 +1,2 @@
-pub mod BuiltIns
-pub mod BlockNumbers
-pub mod StatementPlaces
-pub mod Symbols
-pub mod ResolvedUnits
-pub mod TreeBlocks
-pub mod BlockCounts
 pub mod laws
 pub mod views
-pub mod BuiltInGroups

@@ -1,3 +1,2 @@
-pub mod SymbolView
 pub mod TableView
 pub mod UnitView

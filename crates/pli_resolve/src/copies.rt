@@ -3,11 +3,10 @@ ghost use Rattle.std.specs.Prelude.{◌≡◌, ℕ, nat_eq, map, IfOk};
 ghost use Rattle.indexmap.specs.IndexMap.{get};
 ghost use Rattle.pli_resolve.specs.views.TableView.{way_view, block_table_view};
 
-use crate::built_in::BuiltInFunction;
-use crate::symbol::SymbolKey;
 use crate::tables::BlockTable;
 use crate::ways::Way;
 use indexmap::IndexMap;
+use pli_declare::{BuiltInFunction, SymbolKey};
 use std::alloc::{AllocError, Global};
 
 /// The same built-in functions by their tokens.

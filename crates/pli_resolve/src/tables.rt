@@ -1,12 +1,12 @@
 //! What is found once for each block.
 ghost use Rattle.std.specs.Prelude.{◌≡◌, map, option_map, slice_get};
-ghost use Rattle.pli_declare_variables.specs.views.DeclarationView.{declaration_view};
-ghost use Rattle.pli_resolve.specs.Symbols as spec;
+ghost use Rattle.pli_declare.specs.views.DeclarationView.{declaration_view};
+ghost use Rattle.pli_declare.specs.Symbols as spec;
 ghost use Rattle.pli_resolve.specs.views.TableView.{way_view, block_table_view, parameters_in, ways_in};
 
 use crate::ways::Way;
 use pli_base::Name;
-use pli_declare_variables::Declaration;
+use pli_declare::Declaration;
 
 /// What is found once for what a region declares.
 #[derive(Drop)]

@@ -2,32 +2,31 @@
 ghost use Rattle.std.specs.Prelude.{◌≡◌, ℕ, None, [], get_or, length, map, option_map, slice_get, IfOk};
 ghost use Rattle.pli_base.specs.views.StatementView.{unit_view};
 ghost use Rattle.pli_map.specs.views.DescriptionView.{description_view};
-ghost use Rattle.pli_declare_attributes.specs.Completed.{OfVariable};
-ghost use Rattle.pli_declare_attributes.specs.views.CompletedView.{variable_view};
-ghost use Rattle.pli_declare_variables.specs.Declarations.{OfItem};
-ghost use Rattle.pli_declare_variables.specs.views.DeclarationView.{declaration_view};
+ghost use Rattle.pli_declare.specs.Completed.{OfVariable};
+ghost use Rattle.pli_declare.specs.views.CompletedView.{variable_view};
+ghost use Rattle.pli_declare.specs.Declarations.{OfItem};
+ghost use Rattle.pli_declare.specs.views.DeclarationView.{declaration_view};
 ghost use Rattle.pli_declare.specs.Resolved.{resolved_of};
 ghost use Rattle.pli_declare.specs.views.BlockView.{block_view as declare_view};
-ghost use Rattle.pli_resolve.specs.Symbols as symbols;
-ghost use Rattle.pli_resolve.specs.ResolvedUnits.{resolved_unit_of, meaning_at, symbol_at, block_of_statement};
-ghost use Rattle.pli_resolve.specs.ResolvedUnits.{facts_of, numbers_of, declared_by, declared_meaning};
-ghost use Rattle.pli_resolve.specs.ResolvedUnits.{outermost_number, region_block, block_of, block_regions_of};
-ghost use Rattle.pli_resolve.specs.views.SymbolView.{symbol_view, symbol_kind_view};
+ghost use Rattle.pli_declare.specs.Symbols as symbols;
+ghost use Rattle.pli_declare.specs.ResolvedUnits.{resolved_unit_of, meaning_at, symbol_at, block_of_statement};
+ghost use Rattle.pli_declare.specs.ResolvedUnits.{facts_of, numbers_of, declared_by, declared_meaning};
+ghost use Rattle.pli_declare.specs.ResolvedUnits.{outermost_number, region_block, block_of, block_regions_of};
+ghost use Rattle.pli_declare.specs.views.SymbolView.{symbol_view, symbol_kind_view};
 ghost use Rattle.pli_resolve.specs.views.TableView.{way_view};
 ghost use Rattle.pli_resolve.specs.views.UnitView.{AreTablesOf, resolved_block_view, without_symbols};
 
-use crate::block_numbers::{BlockRegion, ResolvedBlockKind};
-use crate::built_in::function_named;
-use crate::symbol::{NameMeaning, StorageClass, Symbol, SymbolKey, SymbolKind};
 use crate::tables::{BlockTable, declaration_at, parameters_at, place_among, way_at, ways_at};
 use crate::unit_tables::UnitTables;
 use crate::ways::Way;
 use pli_base::Name;
 use pli_base::statement::Procedure;
 use pli_base::syntax::Identifier;
-use pli_declare::{BlockDeclarations, Resolved, Target};
-use pli_declare_attributes::{Completed, DeclaredStorage, Variable};
-use pli_declare_variables::{Declaration, DeclaredKind};
+use pli_declare::{
+    BlockDeclarations, BlockRegion, Completed, Declaration, DeclaredKind, DeclaredStorage,
+    NameMeaning, Resolved, ResolvedBlockKind, StorageClass, Symbol, SymbolKey, SymbolKind, Target,
+    Variable, function_named,
+};
 use pli_map::Description;
 use std::alloc::{AllocError, Global};
 use std::marker::Model;

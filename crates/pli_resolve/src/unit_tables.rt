@@ -4,16 +4,14 @@ ghost use Rattle.indexmap.specs.IndexMap.{get};
 ghost use Rattle.pli_base.specs.Statements.{ExternalProcedure};
 ghost use Rattle.pli_resolve.specs.views.UnitView.{AreTablesOf, AreMapsOf, AreNumbersOf};
 
-use crate::block_numbers::BlockRegion;
-use crate::built_in::BuiltInFunction;
 use crate::copies::{
     copied_functions, copied_labels, copied_procedures, copied_statements, copied_tables,
     copied_ways,
 };
-use crate::symbol::SymbolKey;
 use crate::tables::BlockTable;
 use crate::ways::Way;
 use indexmap::IndexMap;
+use pli_declare::{BlockRegion, BuiltInFunction, SymbolKey};
 use std::alloc::{AllocError, Global};
 
 /// Which regions are blocks.

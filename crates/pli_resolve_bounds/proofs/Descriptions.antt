@@ -19,25 +19,25 @@ use Rattle.pli_base.specs.declared.declaration.WrittenBounds as written
 use Rattle.pli_base.specs.declared.declaration.WrittenBounds.TheVariants as limits
 use Rattle.pli_map.specs.Description.{Description, FixedBinary, Character, Varying, Bit, Pointer, Offset, Area, Array, Structure, Members, NoMembers, MemberThen}
 use Rattle.pli_map.specs.declared.description.Bounds.{Bounds}
-use Rattle.pli_declare_attributes.specs.Agreement.{agrees_as_entry, agrees_as_built_in, agrees_as_variable, is_at_level_one, is_missing, is_plain, may_be_open, set_agrees}
+use Rattle.pli_declare.specs.Agreement.{agrees_as_entry, agrees_as_built_in, agrees_as_variable, is_at_level_one, is_missing, is_plain, may_be_open, set_agrees}
 use Rattle.pli_base.specs.Declarations.{integer_of}
-use Rattle.pli_declare_attributes.specs.Extents.{low_of, bounds_of, are_good, are_bad_bounds, are_bad_stars, all_bounds, is_array}
-use Rattle.pli_declare_attributes.specs.Faults.{first_of, shape_fault, own_fault, item_fault, entry_fault, parameters_in, with_bounds, described_scalar}
-use Rattle.pli_declare_attributes.specs.Sets.{outermost, set_of, each_once, has, none_of, entry, returns, external, built_in, within}
-use Rattle.pli_declare_attributes.specs.Types.{number_of, number_or, is_bad_precision, is_bad_length, is_bad_star, scalar_of}
-use Rattle.pli_declare_attributes.specs.Types as types
+use Rattle.pli_declare.specs.Extents.{low_of, bounds_of, are_good, are_bad_bounds, are_bad_stars, all_bounds, is_array}
+use Rattle.pli_declare.specs.Faults.{first_of, shape_fault, own_fault, item_fault, entry_fault, parameters_in, with_bounds, described_scalar}
+use Rattle.pli_declare.specs.Sets.{outermost, set_of, each_once, has, none_of, entry, returns, external, built_in, within}
+use Rattle.pli_declare.specs.Types.{number_of, number_or, is_bad_precision, is_bad_length, is_bad_star, scalar_of}
+use Rattle.pli_declare.specs.Types as types
 use Rattle.pli_declare_attributes.specs.laws.Laws.{IsScalar}
-use Rattle.pli_declare_attributes.specs.declared.place.ItemPlace.{ItemPlace}
-use Rattle.pli_declare_attributes.specs.declared.place.Position.TheVariants.{Member}
+use Rattle.pli_declare.specs.declared.place.ItemPlace.{ItemPlace}
+use Rattle.pli_declare.specs.declared.place.Position.TheVariants.{Member}
 use Rattle.pli_declare_attributes.proofs.LimitLemmas.{variable_whole, scalar_whole}
-use Rattle.pli_declare_attributes.proofs.ShapeLemmas.{shape_sound, own_sound, parts_none, or_none, bounds_good}
-use Rattle.pli_declare_tables.specs.Tables.{Entity, AsItem, AsLabel, AsProcedure, Entry, no_entry}
+use Rattle.pli_declare.proofs.ShapeLemmas.{shape_sound, own_sound, parts_none, or_none, bounds_good}
+use Rattle.pli_declare.specs.Tables.{Entity, AsItem, AsLabel, AsProcedure, Entry, no_entry}
 use Rattle.pli_declare.specs.Resolution.{is_item}
-use Rattle.pli_declare_variables.specs.Declarations.{IsGood, AreGood, whole_description}
-use Rattle.pli_declare_variables.specs.Descriptions.{is_of_shape, scalar_at, member_then, members_made, inside, described, own_codes, description_of}
-use Rattle.pli_declare_variables.specs.Places.{item_of, owner_is, members_of, place_in, own_code, position_of, item_in, set_in, is_variable, is_bad_level}
+use Rattle.pli_declare.specs.Declarations.{IsGood, AreGood, whole_description}
+use Rattle.pli_declare.specs.Descriptions.{is_of_shape, scalar_at, member_then, members_made, inside, described, own_codes, description_of}
+use Rattle.pli_declare.specs.Places.{item_of, owner_is, members_of, place_in, own_code, position_of, item_in, set_in, is_variable, is_bad_level}
 use Rattle.pli_declare_variables.proofs.NumberLemmas.{mapped_at}
-use Rattle.pli_declare_variables.proofs.NumberListLemmas.{filtered}
+use Rattle.pli_declare.proofs.NumberListLemmas.{filtered}
 use Rattle.pli_deck_laws.specs.Limits.{IfThere, AreBounds, IsDescribed, AreDescribed, IsDescription}
 use Rattle.pli_resolve_bounds.proofs.LevelsOfEntries.{level_in, entry_level, IsLevel, AreRanked}
 

@@ -11,25 +11,25 @@ use Rattle.pli_base.specs.declared.code.Code.TheVariants.{AttributesConflict, Ba
 use Rattle.pli_base.specs.declared.token.Fault.{Fault}
 use Rattle.pli_map.specs.Description.{Description}
 use Rattle.pli_map.specs.Sizes.{size_of}
-use Rattle.pli_declare_attributes.specs.Faults.{first_of, lesser, result_fault}
-use Rattle.pli_declare_attributes.proofs.LeastFaults.{no_lesser}
+use Rattle.pli_declare.specs.Faults.{first_of, lesser, result_fault}
+use Rattle.pli_declare.proofs.LeastFaults.{no_lesser}
 use Rattle.pli_declare_constructs.specs.Regions.{block_of}
 use Rattle.pli_declare_outline.specs.Outlines.{Mark, Declared, Labelled, Entered, Used, Jumped, PlacedMark, Outline, outline_of}
 use Rattle.pli_declare_scopes.specs.declared.repeat.Verdict.TheVariants.{Counts}
-use Rattle.pli_declare_tables.specs.Tables.{Entity, AsItem, AsLabel, AsProcedure, Entry, no_entry, entries_of, entries_in, inner_marks, numbers_from, heading_entries, unit_entries, verdicts_in}
-use Rattle.pli_declare_variables.specs.Declarations.{returned_by, whole_description}
-use Rattle.pli_declare_variables.specs.Descriptions.{description_of, is_large, is_starred, is_too_large_variable}
-use Rattle.pli_declare_variables.specs.Places.{own_code, item_of, is_variable}
+use Rattle.pli_declare.specs.Tables.{Entity, AsItem, AsLabel, AsProcedure, Entry, no_entry, entries_of, entries_in, inner_marks, numbers_from, heading_entries, unit_entries, verdicts_in}
+use Rattle.pli_declare.specs.Declarations.{returned_by, whole_description}
+use Rattle.pli_declare.specs.Descriptions.{description_of, is_large, is_starred, is_too_large_variable}
+use Rattle.pli_declare.specs.Places.{own_code, item_of, is_variable}
 use Rattle.pli_declare.specs.Resolution.{attribute_is_good, described_is_good, is_main, entity_codes, headed, heading_code, item_code, least, names_nothing, parameters_of, resolution_faults, returned_are, twice_code}
 use Rattle.pli_declare.specs.Resolved as declare
 use Rattle.pli_declare.specs.Resolved.{resolved_of, block_at}
 use Rattle.pli_declare.proofs.FaultsAreExact.{faults_are_least_codes}
 use Rattle.pli_declare.proofs.ListsByNumber.{made_at, made_length}
 use Rattle.pli_declare.proofs.ParametersOfBlocks.{gathered, headed_elsewhere}
-use Rattle.pli_resolve.specs.ResolvedUnits.{region_block, no_block}
-use Rattle.pli_resolve.specs.ResolvedUnits as resolved
-use Rattle.pli_resolve.specs.Symbols.{number_declared}
-use Rattle.pli_resolve.specs.declared.block_numbers.BlockRegion.{BlockRegion}
+use Rattle.pli_declare.specs.ResolvedUnits.{region_block, no_block}
+use Rattle.pli_declare.specs.ResolvedUnits as resolved
+use Rattle.pli_declare.specs.Symbols.{number_declared}
+use Rattle.pli_declare.specs.declared.block_numbers.BlockRegion.{BlockRegion}
 use Rattle.pli_resolve.proofs.EnteredRegions.{entered, entered_in, headed_from, entered_among}
 use Rattle.pli_resolve.proofs.NamesOfMarks.{names_of_mark}
 use Rattle.pli_resolve.proofs.RegionWalks.{statements_headings}

@@ -11,8 +11,8 @@ use Rattle.pli_declare_scopes.specs.Levels.{level_of, standing, standings_of}
 use Rattle.pli_declare_scopes.specs.laws.LevelLaws.{level_at, stands_at}
 use Rattle.pli_declare_scopes.specs.declared.level.ItemStanding.{ItemStanding}
 use Rattle.pli_declare_scopes.proofs.OwnersFound.{owners_are_nearest, bad_levels_are_found}
-use Rattle.pli_declare_tables.specs.Tables.{Entity, AsItem, AsLabel, AsProcedure, Entry, no_entry, named, item_entry, item_entries, declared_entries, entries_of, entries_after, inner_marks, entries_in, heading_entries, unit_entries}
-use Rattle.pli_declare_variables.specs.Places.{no_item}
+use Rattle.pli_declare.specs.Tables.{Entity, AsItem, AsLabel, AsProcedure, Entry, no_entry, named, item_entry, item_entries, declared_entries, entries_of, entries_after, inner_marks, entries_in, heading_entries, unit_entries}
+use Rattle.pli_declare.specs.Places.{no_item}
 
 -- an item's level; what is no item has no members
 abbrev pub level_in : Entity → ℕ

@@ -15,27 +15,27 @@ use Rattle.pli_map.specs.Description as described
 use Rattle.pli_map.specs.ParameterTypes.{ParameterType, Stated}
 use Rattle.pli_map.specs.Sizes.{size_of}
 use Rattle.pli_declare_outline.specs.Outlines.{Outline, outline_of}
-use Rattle.pli_declare_attributes.specs.Completed.{Completed, OfVariable, OfEntry, OfBuiltIn, completed_of, variable_of}
-use Rattle.pli_declare_attributes.specs.Faults.{first_of, is_too_large_type, own_fault, item_fault, entry_fault, parameters_fault, parameter_fault, parameters_in, parameter_of, returned_fault, returned_in, result_fault, described_scalar}
-use Rattle.pli_declare_attributes.specs.Sets.{set_of, outermost, has, entry, built_in}
-use Rattle.pli_declare_attributes.specs.Extents.{has_star}
-use Rattle.pli_declare_attributes.specs.Types as types
-use Rattle.pli_declare_attributes.proofs.LeastFaults.{no_lesser}
+use Rattle.pli_declare.specs.Completed.{Completed, OfVariable, OfEntry, OfBuiltIn, completed_of, variable_of}
+use Rattle.pli_declare.specs.Faults.{first_of, is_too_large_type, own_fault, item_fault, entry_fault, parameters_fault, parameter_fault, parameters_in, parameter_of, returned_fault, returned_in, result_fault, described_scalar}
+use Rattle.pli_declare.specs.Sets.{set_of, outermost, has, entry, built_in}
+use Rattle.pli_declare.specs.Extents.{has_star}
+use Rattle.pli_declare.specs.Types as types
+use Rattle.pli_declare.proofs.LeastFaults.{no_lesser}
 use Rattle.pli_declare_attributes.proofs.LimitsOfItems.{results_are_scalars}
-use Rattle.pli_declare_attributes.proofs.ShapeLemmas.{parts_none, or_none}
+use Rattle.pli_declare.proofs.ShapeLemmas.{parts_none, or_none}
 use Rattle.pli_declare_attributes.proofs.TakenLemmas.{stars_are_taken}
-use Rattle.pli_declare_tables.specs.Tables.{Entity, AsItem, AsLabel, AsProcedure, Entry, no_entry, numbers_from, entries_in, unit_entries}
-use Rattle.pli_declare_variables.specs.Declarations.{Declaration, DeclaredKind, OfItem, OfLabel, OfProcedure, described_result, returned_by, whole_description, kind_of, declaration_at, declared_in, AreSound, IsGood, AreGood}
-use Rattle.pli_declare_variables.specs.Descriptions.{is_starred}
-use Rattle.pli_declare_variables.specs.Places.{place_in, item_in}
+use Rattle.pli_declare.specs.Tables.{Entity, AsItem, AsLabel, AsProcedure, Entry, no_entry, numbers_from, entries_in, unit_entries}
+use Rattle.pli_declare.specs.Declarations.{Declaration, DeclaredKind, OfItem, OfLabel, OfProcedure, described_result, returned_by, whole_description, kind_of, declaration_at, declared_in, AreSound, IsGood, AreGood}
+use Rattle.pli_declare.specs.Descriptions.{is_starred}
+use Rattle.pli_declare.specs.Places.{place_in, item_in}
 use Rattle.pli_declare.specs.Resolution.{parameters_of, resolution_faults}
 use Rattle.pli_declare.specs.Resolved as declare
 use Rattle.pli_declare.specs.Resolved.{resolved_of, block_at}
 use Rattle.pli_declare.proofs.ListsByNumber.{made_at, made_length}
-use Rattle.pli_resolve.specs.ResolvedUnits.{resolved_unit_of, block_of, block_regions_of, region_block, facts_of, no_block}
-use Rattle.pli_resolve.specs.Symbols.{Symbol, SymbolKind, SymbolFacts, Way, kind_with, symbol_kind, symbols_with, ways_of}
-use Rattle.pli_resolve.specs.declared.block_numbers.BlockRegion.{BlockRegion}
-use Rattle.pli_resolve.specs.declared.symbol.SymbolKey.{SymbolKey}
+use Rattle.pli_declare.specs.ResolvedUnits.{resolved_unit_of, block_of, block_regions_of, region_block, facts_of, no_block}
+use Rattle.pli_declare.specs.Symbols.{Symbol, SymbolKind, SymbolFacts, Way, kind_with, symbol_kind, symbols_with, ways_of}
+use Rattle.pli_declare.specs.declared.block_numbers.BlockRegion.{BlockRegion}
+use Rattle.pli_declare.specs.declared.symbol.SymbolKey.{SymbolKey}
 use Rattle.pli_resolve.proofs.MeantNames.{all_good}
 use Rattle.pli_deck_laws.specs.Limits.{IfThere, IsDescription, IsMade}
 use Rattle.pli_resolve_bounds.specs.SymbolBounds.{IsLimited, IsTaken, SymbolsAreLimited, ParametersAreFew}

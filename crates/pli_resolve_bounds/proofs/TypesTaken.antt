@@ -9,20 +9,20 @@ use Rattle.pli_map.specs.Description.{Description, FixedBinary, Character, Varyi
 use Rattle.pli_map.specs.ParameterTypes.{Stated, AnyArray}
 use Rattle.pli_map.specs.Scalars.{is_area}
 use Rattle.pli_map.specs.Sizes.{size_of}
-use Rattle.pli_declare_attributes.specs.Agreement.{is_parameter, is_member, is_at_level_one, may_be_open, set_agrees}
-use Rattle.pli_declare_attributes.specs.Completed.{open_type, variable_of}
-use Rattle.pli_declare_attributes.specs.Extents.{are_bad_bounds, all_bounds, has_star, is_array}
-use Rattle.pli_declare_attributes.specs.Faults.{first_of, area_fault, own_fault, description_fault, is_bad_area, item_fault, entry_fault, parameters_in, parameter_place, parameter_fault, parameter_of, described_scalar, type_taken, with_type_bounds}
-use Rattle.pli_declare_attributes.specs.Sets.{has, area, based, outermost, set_of, each_once}
-use Rattle.pli_declare_attributes.specs.Types.{number_of, element_of, scalar_of}
-use Rattle.pli_declare_attributes.specs.Types as types
+use Rattle.pli_declare.specs.Agreement.{is_parameter, is_member, is_at_level_one, may_be_open, set_agrees}
+use Rattle.pli_declare.specs.Completed.{open_type, variable_of}
+use Rattle.pli_declare.specs.Extents.{are_bad_bounds, all_bounds, has_star, is_array}
+use Rattle.pli_declare.specs.Faults.{first_of, area_fault, own_fault, description_fault, is_bad_area, item_fault, entry_fault, parameters_in, parameter_place, parameter_fault, parameter_of, described_scalar, type_taken, with_type_bounds}
+use Rattle.pli_declare.specs.Sets.{has, area, based, outermost, set_of, each_once}
+use Rattle.pli_declare.specs.Types.{number_of, element_of, scalar_of}
+use Rattle.pli_declare.specs.Types as types
 use Rattle.pli_declare_attributes.specs.laws.Laws.{IsScalar}
-use Rattle.pli_declare_attributes.specs.declared.place.ItemPlace.{ItemPlace}
-use Rattle.pli_declare_attributes.specs.declared.place.Position.{Position}
-use Rattle.pli_declare_attributes.specs.declared.place.Position.TheVariants.{AtLevelOne, Member, Parameter, Result}
+use Rattle.pli_declare.specs.declared.place.ItemPlace.{ItemPlace}
+use Rattle.pli_declare.specs.declared.place.Position.{Position}
+use Rattle.pli_declare.specs.declared.place.Position.TheVariants.{AtLevelOne, Member, Parameter, Result}
 use Rattle.pli_declare_attributes.proofs.LimitLemmas.{IsWhole, in_data, variable_whole}
 use Rattle.pli_declare_attributes.proofs.LimitsOfItems.{parameters_are_of_scalars}
-use Rattle.pli_declare_attributes.proofs.ShapeLemmas.{bounds_good, few_dimensions, description_sound, own_sound, or_none, parts_none}
+use Rattle.pli_declare.proofs.ShapeLemmas.{bounds_good, few_dimensions, description_sound, own_sound, or_none, parts_none}
 use Rattle.pli_deck_laws.specs.Limits.{IfThere}
 use Rattle.pli_deck_laws.specs.Limits.{IsElement, IsOpenElement}
 use Rattle.pli_resolve_bounds.specs.SymbolBounds.{IsTaken}

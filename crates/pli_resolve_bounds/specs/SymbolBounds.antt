@@ -4,9 +4,9 @@ use Rattle.std.specs.List.{AllByRecursion}
 use Rattle.pli_base.specs.Statements.{ExternalProcedure}
 use Rattle.pli_map.specs.ParameterTypes.{ParameterType, Stated, AnyString, AnyArray, ArrayOf, StructureOf}
 use Rattle.pli_declare.specs.Resolution.{resolution_faults}
-use Rattle.pli_resolve.specs.ResolvedUnits.{resolved_unit_of, all_symbols}
-use Rattle.pli_resolve.specs.Symbols.{SymbolKind, Variable, OpenParameter, Member, Label, Procedure, Entry}
-use Rattle.pli_resolve.specs.Symbols.{BuiltIn}
+use Rattle.pli_declare.specs.ResolvedUnits.{resolved_unit_of, all_symbols}
+use Rattle.pli_declare.specs.Symbols.{SymbolKind, Variable, OpenParameter, Member, Label, Procedure, Entry}
+use Rattle.pli_declare.specs.Symbols.{BuiltIn}
 use Rattle.pli_deck_laws.specs.Limits.{parameter_limit, IfThere, AreBounds, IsAnyString, IsOpenElement}
 use Rattle.pli_deck_laws.specs.Limits.{IsDescription, IsMade}
 

@@ -3,8 +3,8 @@ use Rattle.std.proofs.Common.{◌≡◌, ℕ, ◌+◌, ◌<◌, Option, List, []
 use Rattle.std.proofs.lemmas.List.{drop_more}
 use Rattle.pli_declare_outline.specs.declared.region.Region.{Region}
 use Rattle.pli_declare_outline.specs.views.OutlineView.{regions_view}
-use Rattle.pli_resolve.specs.declared.block_numbers.ResolvedBlockKind.{ResolvedBlockKind}
-use Rattle.pli_resolve.specs.BlockNumbers as spec
+use Rattle.pli_declare.specs.declared.block_numbers.ResolvedBlockKind.{ResolvedBlockKind}
+use Rattle.pli_declare.specs.BlockNumbers as spec
 
 pub number_passed : (regions : List Region) (n : ℕ) (d : Region) (before read after all : List ℕ) (next number begun : ℕ) (kind : Option ResolvedBlockKind)
     → n < length regions → read ≡ before → kind ≡ spec.block_kind (get_or regions n d).kind

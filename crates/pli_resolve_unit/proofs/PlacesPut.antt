@@ -6,9 +6,9 @@ use Rattle.pli_base.specs.declared.statement.Condition.{Condition}
 use Rattle.pli_base.specs.views.StatementView.{statement_view, statements_view}
 use Rattle.pli_base.specs.declared.statement.Statement.{Statement}
 use Rattle.pli_declare_outline.specs.Outlines.{regions_in, regions_of, regions_among, regions_else}
-use Rattle.pli_resolve.specs.StatementPlaces.{body_starts, body_places, statement_starts, statement_places, statements_starts, statements_places, alternative_starts, alternative_places, end_place}
+use Rattle.pli_declare.specs.StatementPlaces.{body_starts, body_places, statement_starts, statement_places, statements_starts, statements_places, alternative_starts, alternative_places, end_place}
 use Rattle.pli_resolve_unit.specs.PlacesPut.{PlacesPut}
-use Rattle.pli_resolve.specs.declared.statement_places.StatementPlace.{StatementPlace}
+use Rattle.pli_declare.specs.declared.statement_places.StatementPlace.{StatementPlace}
 
 -- nothing is put
 pub nothing_put : (starts : List ℕ) (places : List StatementPlace) → PlacesPut starts starts places places [] [] 0

@@ -1,9 +1,9 @@
 -- The ways of names, one more at a time.
 use Rattle.std.proofs.Common.{◌≡◌, ℕ, ◌≤◌, List, [], ◌∷◌, ◌++◌, Option, None, Some, length, get_or, ap, ◌∙◌, sym, arith}
 use Rattle.std.proofs.lemmas.Grind.{common_steps}
-use Rattle.pli_declare_variables.specs.Declarations.{Declaration}
-use Rattle.pli_resolve.specs.Symbols as spec
-use Rattle.pli_resolve.specs.Symbols.{way_with, counted, ways_after}
+use Rattle.pli_declare.specs.Declarations.{Declaration}
+use Rattle.pli_declare.specs.Symbols as spec
+use Rattle.pli_declare.specs.Symbols.{way_with, counted, ways_after}
 
 pub one_more : (ways ways' : List spec.Way) (counts counted' counts' : List ℕ) (way : spec.Way) (d : Declaration)
     (left more : List Declaration) (all : List spec.Way)

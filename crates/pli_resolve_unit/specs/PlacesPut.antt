@@ -1,6 +1,6 @@
 -- What a walk over statements puts after the statements that are there.
 use Rattle.std.specs.Prelude.{◌≡◌, ℕ, ◌+◌, length, List, ◌++◌}
-use Rattle.pli_resolve.specs.declared.statement_places.StatementPlace.{StatementPlace}
+use Rattle.pli_declare.specs.declared.statement_places.StatementPlace.{StatementPlace}
 
 -- after these starts of regions and these statements stand those, of which so many begin regions
 pub record PlacesPut (before after : List ℕ) (before' after' : List StatementPlace)

@@ -1,10 +1,10 @@
 //! How blocks are numbered.
 ghost use Rattle.std.specs.Prelude.{◌≡◌, ◌≤◌, IfOk};
 ghost use Rattle.pli_declare_outline.specs.views.OutlineView.{regions_view};
-ghost use Rattle.pli_resolve.specs.BlockNumbers as spec;
+ghost use Rattle.pli_declare.specs.BlockNumbers as spec;
 
+use pli_declare::{BlockRegion, ResolvedBlockKind};
 use pli_declare_outline::{Region, RegionKind};
-use pli_resolve::{BlockRegion, ResolvedBlockKind};
 use std::alloc::{AllocError, Global};
 
 /// The block that a region is: a group is none.

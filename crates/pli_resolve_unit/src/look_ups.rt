@@ -4,15 +4,17 @@ ghost use Rattle.std.specs.List.{flat_map};
 ghost use Rattle.indexmap.specs.IndexMap.{get};
 ghost use Rattle.pli_declare.specs.views.BlockView.{block_view};
 ghost use Rattle.pli_declare_outline.specs.views.OutlineView.{mark_view, marks_view};
-ghost use Rattle.pli_declare_variables.specs.views.DeclarationView.{declaration_view, kind_view};
-ghost use Rattle.pli_resolve.specs.Symbols.{found_after, found_in};
-ghost use Rattle.pli_resolve.specs.ResolvedUnits as spec;
+ghost use Rattle.pli_declare.specs.views.DeclarationView.{declaration_view, kind_view};
+ghost use Rattle.pli_declare.specs.Symbols.{found_after, found_in};
+ghost use Rattle.pli_declare.specs.ResolvedUnits as spec;
 
 use indexmap::IndexMap;
-use pli_declare::BlockDeclarations;
+use pli_declare::{
+    BlockDeclarations, BuiltInFunction, Declaration, DeclaredKind, StatementPlace, SymbolKey,
+    function_named,
+};
 use pli_declare_outline::{Mark, PlacedMark};
-use pli_declare_variables::{Declaration, DeclaredKind};
-use pli_resolve::{BuiltInFunction, StatementMaps, StatementPlace, SymbolKey, function_named};
+use pli_resolve::StatementMaps;
 use std::alloc::{AllocError, Global};
 
 /// Notes the built-in function that a mark names.

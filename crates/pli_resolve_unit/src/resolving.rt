@@ -4,10 +4,10 @@ ghost use Rattle.indexmap.specs.IndexMap.{get};
 ghost use Rattle.pli_base.specs.views.StatementView.{unit_view};
 ghost use Rattle.pli_declare_outline.specs.Outlines.{outline_of};
 ghost use Rattle.pli_declare_outline.specs.views.OutlineView.{outline_view, marks_view};
-ghost use Rattle.pli_declare_tables.specs.Tables.{inner_marks};
-ghost use Rattle.pli_resolve.specs.Symbols.{found_in};
-ghost use Rattle.pli_resolve.specs.StatementPlaces.{unit_places};
-ghost use Rattle.pli_resolve.specs.ResolvedUnits.{functions_in, procedures_in};
+ghost use Rattle.pli_declare.specs.Tables.{inner_marks};
+ghost use Rattle.pli_declare.specs.Symbols.{found_in};
+ghost use Rattle.pli_declare.specs.StatementPlaces.{unit_places};
+ghost use Rattle.pli_declare.specs.ResolvedUnits.{functions_in, procedures_in};
 ghost use Rattle.pli_resolve.specs.views.UnitView.{IsResolvedUnit, AreTablesOf, AreMapsOf, AreNumbersOf};
 
 use crate::block_numbers::{block_numbers, block_regions};
@@ -17,13 +17,10 @@ use crate::tables::block_tables;
 use crate::ways::ways;
 use indexmap::IndexMap;
 use pli_base::statement::Procedure;
-use pli_declare::Resolved;
+use pli_declare::{BuiltInFunction, Resolved, StatementPlace, SymbolKey};
 use pli_declare_faults::{ResolveError, resolve};
 use pli_declare_outline::{Outline, PlacedMark};
-use pli_resolve::{
-    BuiltInFunction, Callables, RegionNumbers, ResolvedUnit, StatementPlace, SymbolKey, UnitMaps,
-    UnitTables,
-};
+use pli_resolve::{Callables, RegionNumbers, ResolvedUnit, UnitMaps, UnitTables};
 use std::alloc::{AllocError, Global};
 
 /// The marks of an outline but the first.

@@ -3,12 +3,12 @@ ghost use Rattle.std.specs.Prelude.{◌≡◌, ◌++◌, ◌+◌, ◌∷◌, len
 ghost use Rattle.pli_base.specs.views.StatementView.{body_view, statement_view, statements_view, unit_view};
 ghost use Rattle.pli_declare_outline.specs.Outlines.{regions_in, regions_of, regions_among};
 ghost use Rattle.pli_resolve_unit.specs.PlacesPut.{PlacesPut};
-ghost use Rattle.pli_resolve.specs.StatementPlaces.{statement_starts, statements_starts, body_starts, statement_places};
-ghost use Rattle.pli_resolve.specs.StatementPlaces.{statements_places, body_places, end_place, unit_starts};
-ghost use Rattle.pli_resolve.specs.StatementPlaces.{unit_places};
+ghost use Rattle.pli_declare.specs.StatementPlaces.{statement_starts, statements_starts, body_starts, statement_places};
+ghost use Rattle.pli_declare.specs.StatementPlaces.{statements_places, body_places, end_place, unit_starts};
+ghost use Rattle.pli_declare.specs.StatementPlaces.{unit_places};
 
 use pli_base::statement::{Body, Procedure, Statement};
-use pli_resolve::StatementPlace;
+use pli_declare::StatementPlace;
 use std::alloc::{AllocError, Global};
 
 /// The statements of a unit: those that begin its regions, in their order, and all of them with the regions that they

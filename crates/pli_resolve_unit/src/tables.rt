@@ -1,14 +1,13 @@
 //! What is found once for each block.
 ghost use Rattle.std.specs.Prelude.{◌≡◌, map, IfOk};
-ghost use Rattle.pli_declare_variables.specs.views.DeclarationView.{declaration_view};
+ghost use Rattle.pli_declare.specs.views.DeclarationView.{declaration_view};
 ghost use Rattle.pli_declare.specs.views.BlockView.{block_view};
-ghost use Rattle.pli_resolve.specs.Symbols as spec;
+ghost use Rattle.pli_declare.specs.Symbols as spec;
 ghost use Rattle.pli_resolve.specs.views.TableView.{block_table_view, block_table_of};
 
 use crate::ways::ways;
 use pli_base::Name;
-use pli_declare::BlockDeclarations;
-use pli_declare_variables::Declaration;
+use pli_declare::{BlockDeclarations, Declaration};
 use pli_resolve::BlockTable;
 use std::alloc::{AllocError, Global};
 

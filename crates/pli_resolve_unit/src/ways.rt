@@ -1,10 +1,10 @@
 //! How members stand in their variables.
 ghost use Rattle.std.specs.Prelude.{◌≡◌, ℕ, ◌+◌, ◌≤◌, length, map, get_or, IfOk};
-ghost use Rattle.pli_declare_variables.specs.views.DeclarationView.{declaration_view};
-ghost use Rattle.pli_resolve.specs.Symbols as spec;
+ghost use Rattle.pli_declare.specs.views.DeclarationView.{declaration_view};
+ghost use Rattle.pli_declare.specs.Symbols as spec;
 ghost use Rattle.pli_resolve.specs.views.TableView.{way_view};
 
-use pli_declare_variables::Declaration;
+use pli_declare::Declaration;
 use pli_resolve::Way;
 use std::alloc::{AllocError, Global};
 

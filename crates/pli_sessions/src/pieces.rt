@@ -1,4 +1,5 @@
 //! Readers and writers that move their bytes in pieces.
+
 use std::io::{self, Read, Write};
 
 /// A reader or a writer of which no call moves more than `most` bytes.

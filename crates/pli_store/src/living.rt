@@ -1,4 +1,5 @@
 //! What lives, found by the number of its generation and its position there.
+
 use crate::generation::Made;
 use crate::place::Place;
 

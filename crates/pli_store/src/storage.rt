@@ -37,8 +37,8 @@ use crate::putting::{
     holds_number, lengthen, put_bit, put_number, put_pointer, put_short, put_value,
 };
 use crate::spare::SpareBytes;
-use pli_bytes::{number_at, put_value_at, short_at, text_at, value_at};
-use pli_map::{Description, are_same_scalars, far_size, holds, is_area, is_scalar};
+use pli_bytes::{holds, number_at, put_value_at, short_at, text_at, value_at};
+use pli_map::{Description, are_same_scalars, far_size, is_area, is_scalar};
 use pli_run::RunError;
 use pli_value::{Locator, ShortBits, Value};
 use std::alloc::{AllocError, Global};

@@ -1,7 +1,7 @@
 -- Typed trees that were put together, as their views.
 use Rattle.std.proofs.Common.{◌≡◌, Vec, Global, refl, ap, ◌∙◌, List, [], ◌∷◌, map}
 use Rattle.pli_operation.specs.declared.operation.Operation.{Operation}
-use Rattle.pli_type.specs.ExpressionTypes.{all_operands}
+use Rattle.pli_type_rules.specs.ExpressionTypes.{all_operands}
 use Rattle.pli_type_tree.specs.TypedTree as plain
 use Rattle.pli_type_tree.specs.declared.expression.TypedExpression.{TypedExpression, Calculated}
 use Rattle.pli_type_tree.specs.declared.expression.TypedOperation.TheVariants.{Operate}

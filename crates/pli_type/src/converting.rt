@@ -3,17 +3,16 @@ ghost use Rattle.std.specs.Prelude.{◌≡◌, ◌++◌, ◌∷◌, [], IfOk, ma
 ghost use Rattle.pli_map.specs.ParameterTypes as types;
 ghost use Rattle.pli_map.specs.views.DescriptionView.{description_view};
 ghost use Rattle.pli_map.specs.views.ParameterView.{type_seen, type_view};
-ghost use Rattle.pli_type.specs.ExpressionTypes as spec;
+ghost use Rattle.pli_type_rules.specs.ExpressionTypes as spec;
 ghost use Rattle.pli_type.specs.views.ValueView.{value_view};
 ghost use Rattle.pli_type_tree.specs.TypedTree.{ByOperations, Fit, ToPlace};
 ghost use Rattle.pli_type_tree.specs.views.TypedView.{conversion_view, expression_view, operation_view};
 
-use crate::beginning::Beginning;
-use crate::expression_type::ExpressionType;
 use crate::locators::{as_offset, as_pointer, null_offset};
 use crate::typed_value::{TypedValue, with_one};
 use pli_map::{Description, ParameterType, StringForm, TypeRef};
 use pli_operation::Operation;
+use pli_type_rules::{Beginning, ExpressionType};
 use pli_type_tree::{Conversion, TypedExpression, TypedOperation};
 use std::alloc::{AllocError, Global};
 

@@ -1,18 +1,17 @@
 //! The types of what built-in functions give.
 ghost use Rattle.std.specs.Prelude.{◌≡◌, [], ◌∷◌, IfOk, length, map, option_map};
-ghost use Rattle.pli_type.specs.ExpressionTypes as ext;
-ghost use Rattle.pli_type.specs.FunctionCalls as spec;
+ghost use Rattle.pli_type_rules.specs.ExpressionTypes as ext;
+ghost use Rattle.pli_type_rules.specs.FunctionCalls as spec;
 ghost use Rattle.pli_type.specs.views.ValueView.{value_view};
-ghost use Rattle.pli_type.specs.TypingSteps as steps;
+ghost use Rattle.pli_type_rules.specs.TypingSteps as steps;
 ghost use Rattle.pli_type_tree.specs.views.TypedView.{expression_view, reference_view};
 
-use crate::beginning::Beginning;
-use crate::expression_type::{ExpressionType, precisions};
 use crate::locators::{offset_of, pointer_into};
 use crate::typed_value::{TypedValue, refused, with_two};
+use pli_declare::BuiltInFunction;
 use pli_map::WhichBound;
 use pli_operation::Operation;
-use pli_resolve::BuiltInFunction;
+use pli_type_rules::{Beginning, ExpressionType, precisions};
 use pli_type_tree::{Root, TypedExpression, TypedOperation, TypedReference};
 use pli_value::{Locator, Value};
 use std::alloc::{AllocError, Global};

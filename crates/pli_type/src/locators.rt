@@ -1,13 +1,12 @@
 //! Locators as pointers and as offsets of areas.
 ghost use Rattle.std.specs.Prelude.{◌≡◌, IfOk, option_map};
-ghost use Rattle.pli_type.specs.Beginnings.{whole_at};
-ghost use Rattle.pli_type.specs.ExpressionTypes as spec;
+ghost use Rattle.pli_type_rules.specs.Beginnings.{whole_at};
+ghost use Rattle.pli_type_rules.specs.ExpressionTypes as spec;
 ghost use Rattle.pli_type_tree.specs.TypedTree as tree;
 ghost use Rattle.pli_type_tree.specs.views.TypedView.{expression_view};
 
-use crate::beginning::Beginning;
-use crate::expression_type::ExpressionType;
 use crate::typed_value::TypedValue;
+use pli_type_rules::{Beginning, ExpressionType};
 use pli_type_tree::TypedExpression;
 use pli_value::{Locator, Value};
 use std::alloc::{AllocError, Global};

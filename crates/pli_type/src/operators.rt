@@ -1,15 +1,15 @@
 //! What operators give of typed operands.
 ghost use Rattle.std.specs.Prelude.{◌≡◌, Some, None, IfOk, option_map, if◌then◌else◌};
 ghost use Rattle.pli_operation.specs.declared.operation.Operation.TheVariants.{Multiply};
-ghost use Rattle.pli_type.specs.ExpressionTypes as spec;
+ghost use Rattle.pli_type_rules.specs.ExpressionTypes as spec;
 ghost use Rattle.pli_type.specs.views.ValueView.{value_view};
 ghost use Rattle.pli_type_tree.specs.views.TypedView.{expression_view};
 
-use crate::expression_type::{ExpressionType, precisions, product_precision, sum_precision};
 use crate::locators::{as_offset, as_pointer};
 use crate::typed_value::{TypedValue, refused, with_one, with_two};
 use pli_base::syntax::{InfixOperator, PrefixOperator};
 use pli_operation::{Operation, Relation};
+use pli_type_rules::{ExpressionType, precisions, product_precision, sum_precision};
 use pli_type_tree::{TypedExpression, TypedOperation};
 use std::alloc::{AllocError, Global};
 

@@ -1,12 +1,12 @@
 //! Expressions with their types.
 ghost use Rattle.std.specs.Prelude.{◌≡◌, None, IfOk, option_map};
 ghost use Rattle.pli_map.specs.views.DescriptionView.{description_view};
-ghost use Rattle.pli_type.specs.ExpressionTypes as spec;
+ghost use Rattle.pli_type_rules.specs.ExpressionTypes as spec;
 ghost use Rattle.pli_type.specs.views.ValueView.{value_view};
 ghost use Rattle.pli_type_tree.specs.views.TypedView.{expression_view, operation_view};
 
-use crate::expression_type::ExpressionType;
 use pli_operation::Operation;
+use pli_type_rules::ExpressionType;
 use pli_type_tree::{TypedExpression, TypedOperation};
 use std::alloc::{AllocError, Global};
 

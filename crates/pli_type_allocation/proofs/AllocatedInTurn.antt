@@ -9,8 +9,8 @@ use Rattle.pli_base.specs.declared.failure.Failure.TheVariants as errors
 use Rattle.pli_base.specs.declared.statement.Allocation.{Allocation}
 use Rattle.pli_base.specs.declared.token.Fault.{Fault}
 use Rattle.pli_base.specs.views.StatementView.{allocation_view}
-use Rattle.pli_type.specs.AllocationTyping.{allocated, all_allocated, kept_for}
-use Rattle.pli_type.specs.Names.{Naming}
+use Rattle.pli_type_rules.specs.AllocationTyping.{allocated, all_allocated, kept_for}
+use Rattle.pli_type_rules.specs.Names.{Naming}
 use Rattle.pli_type_tree.specs.TypedTree.{AllocatedItem}
 use Rattle.pli_type_allocation.proofs.InTurn.{after, front, one_after}
 

@@ -6,7 +6,7 @@ use Rattle.pli_base.specs.answers.FailureAnswers.{Fails}
 use Rattle.pli_base.specs.declared.failure.Failure.{Failure}
 use Rattle.pli_base.specs.declared.failure.Failure.TheVariants as errors
 use Rattle.pli_base.specs.declared.token.Fault.{Fault}
-use Rattle.pli_type.specs.AllocationTyping.{in_turn}
+use Rattle.pli_type_rules.specs.AllocationTyping.{in_turn}
 
 -- those so far in front of those that are left, unless one of these has a fault
 abbrev pub after : {B : Type 0} → List B → Result (List B) Fault → Result (List B) Fault

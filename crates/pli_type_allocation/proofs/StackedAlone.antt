@@ -2,12 +2,12 @@
 use Rattle.std.proofs.Common.{◌≡◌, ℕ, Bool, true, Option, Some, None, [], refl}
 use Rattle.std.proofs.lemmas.Bool.{false≢true}
 use Rattle.std.specs.Prelude.{is_some}
-use Rattle.pli_type.specs.AllocationTyping.{taken_in}
-use Rattle.pli_type.specs.Beginnings.{root_at}
-use Rattle.pli_type.specs.Names.{Naming, Begins}
-use Rattle.pli_type.specs.References.{Referent}
-use Rattle.pli_type.specs.declared.beginning.Beginning.{Beginning}
-use Rattle.pli_type.specs.declared.beginning.Beginning.TheVariants as beginnings
+use Rattle.pli_type_rules.specs.AllocationTyping.{taken_in}
+use Rattle.pli_type_rules.specs.Beginnings.{root_at}
+use Rattle.pli_type_rules.specs.Names.{Naming, Begins}
+use Rattle.pli_type_rules.specs.References.{Referent}
+use Rattle.pli_type_rules.specs.declared.beginning.Beginning.{Beginning}
+use Rattle.pli_type_rules.specs.declared.beginning.Beginning.TheVariants as beginnings
 
 pub not_within : (n : Naming) (k : ℕ) (b : Beginning) (p : Bool) (area target : Option Referent) → is_some area ≡ true
     → None ≡ taken_in n k (Begins (root_at b) p) [] area target

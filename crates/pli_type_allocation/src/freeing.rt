@@ -2,9 +2,9 @@
 ghost use Rattle.std.specs.Prelude.{◌≡◌, map, option_map};
 ghost use Rattle.pli_base.specs.answers.FailureAnswers.{Gives};
 ghost use Rattle.pli_base.specs.views.SyntaxView.{reference_view};
-ghost use Rattle.pli_type.specs.AllocationTyping as spec;
-ghost use Rattle.pli_type.specs.AllocationTyping.{in_turn};
-ghost use Rattle.pli_type.specs.TypingSteps.{free_typed};
+ghost use Rattle.pli_type_rules.specs.AllocationTyping as spec;
+ghost use Rattle.pli_type_rules.specs.AllocationTyping.{in_turn};
+ghost use Rattle.pli_type_rules.specs.TypingSteps.{free_typed};
 ghost use Rattle.pli_type_names.specs.UnitNaming.{naming_in};
 ghost use Rattle.pli_type_tree.specs.TypedTree as tree;
 ghost use Rattle.pli_type_tree.specs.views.TypedView as typed;

@@ -1,6 +1,6 @@
 //! References to variables in ALLOCATE and FREE.
 ghost use Rattle.pli_base.specs.answers.FailureAnswers.{Gives};
-ghost use Rattle.pli_type.specs.AllocationTyping as spec;
+ghost use Rattle.pli_type_rules.specs.AllocationTyping as spec;
 ghost use Rattle.pli_type_operands.specs.views.TypingView.{denoted_view, referent_view};
 
 use pli_base::{Code, fault};

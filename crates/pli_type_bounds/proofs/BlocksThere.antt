@@ -12,17 +12,17 @@ use Rattle.pli_base.specs.declared.token.Fault.{Fault}
 use Rattle.pli_gen_emit.specs.TreeTranslation.{BlockTree, has_number, procedure_block, begin_block, blocks_in, blocks_of_form, blocks_of_else, blocks_among, blocks_of_procedure}
 use Rattle.pli_map.specs.Description.{Description}
 use Rattle.pli_map.specs.ParameterTypes.{ParameterType}
-use Rattle.pli_resolve.specs.TreeBlocks as source
-use Rattle.pli_resolve.specs.declared.block_numbers.ResolvedBlockKind.TheVariants as kinds
-use Rattle.pli_type.specs.Checked.{external_of, unit_of}
-use Rattle.pli_type.specs.Names.{NamedUnit, NamedAs}
-use Rattle.pli_type.specs.declared.beginning.Beginning.{Beginning}
-use Rattle.pli_type.specs.StatementTyping.{Surroundings, naming_at, block_at, leaves_nothing, condition, iteration, WithProcedures, of_own, together}
-use Rattle.pli_type.specs.StatementTyping.{alone, made, head_of, procedure_of, on_unit_of, as_procedure, put_before, inside, after_limits, in_begin, in_group, in_on_unit, in_procedure, only}
-use Rattle.pli_type.specs.StatementTyping.{statement_typed, body_typed, alternative_typed, statements_typed}
-use Rattle.pli_type.specs.Temporaries.{Next, next_after}
+use Rattle.pli_declare.specs.TreeBlocks as source
+use Rattle.pli_declare.specs.declared.block_numbers.ResolvedBlockKind.TheVariants as kinds
+use Rattle.pli_type_rules.specs.Checked.{external_of, unit_of}
+use Rattle.pli_type_rules.specs.Names.{NamedUnit, NamedAs}
+use Rattle.pli_type_rules.specs.declared.beginning.Beginning.{Beginning}
+use Rattle.pli_type_rules.specs.StatementTyping.{Surroundings, naming_at, block_at, leaves_nothing, condition, iteration, WithProcedures, of_own, together}
+use Rattle.pli_type_rules.specs.StatementTyping.{alone, made, head_of, procedure_of, on_unit_of, as_procedure, put_before, inside, after_limits, in_begin, in_group, in_on_unit, in_procedure, only}
+use Rattle.pli_type_rules.specs.StatementTyping.{statement_typed, body_typed, alternative_typed, statements_typed}
+use Rattle.pli_type_rules.specs.Temporaries.{Next, next_after}
 use Rattle.pli_type_laws.proofs.BlocksKnown.{Sits, sits_parts, begun_count, begin_no_procedure, unit_no_procedure}
-use Rattle.pli_type_name_laws.specs.SourceBlocks.{SourceBlock, unit_blocks, begun_in, begun_by, begun_among, begun_after}
+use Rattle.pli_type_laws.specs.SourceBlocks.{SourceBlock, unit_blocks, begun_in, begun_by, begun_among, begun_after}
 use Rattle.pli_type_tree.specs.Templates.{Template}
 use Rattle.pli_type_tree.specs.TypedTree as typed
 use Rattle.pli_type_tree.specs.TypedTree.{Form, TypedStatement, TypedStatements, NoStatement, OtherWise, NoElse, Else, BlockHead, Global, TypedProcedure, TypedUnit}

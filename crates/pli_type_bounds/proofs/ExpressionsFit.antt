@@ -13,23 +13,23 @@ use Rattle.pli_map.specs.Description as described
 use Rattle.pli_map.specs.Description.{Description}
 use Rattle.pli_map.specs.ParameterTypes.{ParameterType, Stated, AnyString, AnyArray, ArrayOf, StructureOf, stated, agrees, is_aggregate_type}
 use Rattle.pli_map.specs.Sizes.{size_of}
-use Rattle.pli_type.specs.Beginnings.{area_meant, whole_at}
-use Rattle.pli_type.specs.ExpressionTypes.{TypedValue, precision_of, prefix_value, infix_value, all_operands, converted}
-use Rattle.pli_resolve.specs.declared.built_in.BuiltInFunction.{BuiltInFunction}
-use Rattle.pli_resolve.specs.declared.built_in.BuiltInFunction.TheVariants as functions
-use Rattle.pli_type.specs.FunctionCalls.{Denoted, DenotesVariable, DenotesResult, DenotesEmpty, Meant, OneValue, WholeAggregate, meant_as, Argument}
-use Rattle.pli_type.specs.FunctionCalls.{roles_of, function_called}
-use Rattle.pli_type.specs.Names.{LocatorVariable, OfPointer, OfOffset, NamedAs, AVariable, AFunction, AProcedure, NamedStorage, Begins, IsBased, NamedVariable, NamedProcedure, Naming}
-use Rattle.pli_type.specs.ProcedureCalls.{place_of, passed_place, passed_value, handed, passed, all_passed}
-use Rattle.pli_type.specs.ProcedureCalls.{arguments_passed, result_of}
-use Rattle.pli_type.specs.References.{Role, AsValue, AsArgument, AsLocator, wants_scalar, variable_meant, whole_meant, StridedPart, part_on, part_of, whole_part, with_subscripts, subscripts_at, reference_to, open_part, open_reference, open_referent, open_settled, Referent, permitted, settled}
-use Rattle.pli_type.specs.References.{LocatorBefore, NotLocated, LocatedBy, LocatedWrongly, locator_at, located_by, pointer_of, root_by, passed_root, referent_from}
-use Rattle.pli_type.specs.Typing.{first_token, how_many, or_fault, one_value, roles_or_none}
-use Rattle.pli_type.specs.Typing.{subscript_value, Segment, OfVariable, OfFunction, OfEmpty, OfNoVariable, is_call, with_more, ended, as_locator, named_alone, given_by, procedure_called}
-use Rattle.pli_type.specs.Typing.{as_value, denoted, meant, referred, joined, begun, subscripts_in, all_subscripts, all_arguments, value_of}
-use Rattle.pli_type.specs.TypingSteps.{passed_before, or_wrong_argument, type_returned, begins_somewhere}
-use Rattle.pli_type.specs.declared.beginning.Beginning.{Beginning}
-use Rattle.pli_type.specs.declared.expression_type.ExpressionType.{ExpressionType}
+use Rattle.pli_type_rules.specs.Beginnings.{area_meant, whole_at}
+use Rattle.pli_type_rules.specs.ExpressionTypes.{TypedValue, precision_of, prefix_value, infix_value, all_operands, converted}
+use Rattle.pli_declare.specs.declared.built_in.BuiltInFunction.{BuiltInFunction}
+use Rattle.pli_declare.specs.declared.built_in.BuiltInFunction.TheVariants as functions
+use Rattle.pli_type_rules.specs.FunctionCalls.{Denoted, DenotesVariable, DenotesResult, DenotesEmpty, Meant, OneValue, WholeAggregate, meant_as, Argument}
+use Rattle.pli_type_rules.specs.FunctionCalls.{roles_of, function_called}
+use Rattle.pli_type_rules.specs.Names.{LocatorVariable, OfPointer, OfOffset, NamedAs, AVariable, AFunction, AProcedure, NamedStorage, Begins, IsBased, NamedVariable, NamedProcedure, Naming}
+use Rattle.pli_type_rules.specs.ProcedureCalls.{place_of, passed_place, passed_value, handed, passed, all_passed}
+use Rattle.pli_type_rules.specs.ProcedureCalls.{arguments_passed, result_of}
+use Rattle.pli_type_rules.specs.References.{Role, AsValue, AsArgument, AsLocator, wants_scalar, variable_meant, whole_meant, StridedPart, part_on, part_of, whole_part, with_subscripts, subscripts_at, reference_to, open_part, open_reference, open_referent, open_settled, Referent, permitted, settled}
+use Rattle.pli_type_rules.specs.References.{LocatorBefore, NotLocated, LocatedBy, LocatedWrongly, locator_at, located_by, pointer_of, root_by, passed_root, referent_from}
+use Rattle.pli_type_rules.specs.Typing.{first_token, how_many, or_fault, one_value, roles_or_none}
+use Rattle.pli_type_rules.specs.Typing.{subscript_value, Segment, OfVariable, OfFunction, OfEmpty, OfNoVariable, is_call, with_more, ended, as_locator, named_alone, given_by, procedure_called}
+use Rattle.pli_type_rules.specs.Typing.{as_value, denoted, meant, referred, joined, begun, subscripts_in, all_subscripts, all_arguments, value_of}
+use Rattle.pli_type_rules.specs.TypingSteps.{passed_before, or_wrong_argument, type_returned, begins_somewhere}
+use Rattle.pli_type_rules.specs.declared.beginning.Beginning.{Beginning}
+use Rattle.pli_type_rules.specs.declared.expression_type.ExpressionType.{ExpressionType}
 use Rattle.pli_type_tree.specs.Templates.{Template}
 use Rattle.pli_type_tree.specs.TypedTree.{Root, Stride, TypedExpression, TypedReference, TypedArguments, TypedUnit}
 use Rattle.pli_type_tree.specs.WellTyped.{is_area_type, operand_count}
@@ -37,7 +37,7 @@ use Rattle.pli_type_laws.proofs.Conversions.{OnGiven, given_if}
 use Rattle.pli_type_laws.proofs.Denotations.{OnRead}
 use Rattle.pli_type_laws.proofs.Expressions.{read_option}
 use Rattle.pli_type_laws.proofs.References.{read_then, read_if}
-use Rattle.pli_type_name_laws.proofs.InitialHeld.{all_after}
+use Rattle.pli_type_laws.proofs.InitialHeld.{all_after}
 use Rattle.pli_type_bounds.proofs.Meanings.{IsPart, IsAreaNamed, IsLocatorVariable, IsImplied, locator_fits, IsStorage, IsLocator, IsVariable, IsProcedureNamed, IsMeaning, IsKind, IsValue, IsReferent, IsMeant, IsDenoted, AreArgumentsGiven, IsSegment}
 use Rattle.pli_type_bounds.proofs.OperatorsFit.{given_made, constant_fits, operands_fit, prefix_fits, infix_fits, suited_to_fits, converted_fits, kinds_held, area_fits, denoted_fits, functions_fit}
 use Rattle.pli_type_bounds.proofs.TypesFit.{stated_fits, open_part_fits}

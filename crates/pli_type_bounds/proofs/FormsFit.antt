@@ -13,22 +13,22 @@ use Rattle.pli_map.specs.Description.{Description}
 use Rattle.pli_map.specs.ParameterTypes.{ParameterType, Stated, AnyString, is_aggregate_type}
 use Rattle.pli_map.specs.Scalars.{is_area}
 use Rattle.pli_map.specs.declared.parameter.StringForm.{StringForm}
-use Rattle.pli_type.specs.Beginnings.{area_meant, whole_at}
-use Rattle.pli_type.specs.ExpressionTypes.{TypedValue, precision_of, suited_to_form, converted, conversion_to, printed}
-use Rattle.pli_type.specs.FunctionCalls.{Denoted, DenotesVariable, DenotesResult, DenotesEmpty, area_of, Meant, OneValue, WholeAggregate, Argument}
-use Rattle.pli_type.specs.Names.{NamedAs, AProcedure, ALabel, NamedProcedure, Naming}
-use Rattle.pli_type.specs.ProcedureCalls.{arguments_passed}
-use Rattle.pli_type.specs.References.{AsArgument, AsLocator, AsTarget, AsValue, Referent}
-use Rattle.pli_type.specs.StatementTyping.{are_alike, aggregate_assigned, scalar_assigned, string_assigned, one_assigned, area_put, area_assigned, variable_assigned, assigned, assignment, condition, item, suited_control}
-use Rattle.pli_type.specs.StatementTyping.{Surroundings, Enclosing, label_found, jump, goto_typed, arguments_typed, no_function, call_of}
-use Rattle.pli_type.specs.StatementTyping.{call_typed, area_here, returned_value, return_typed, limit, limits}
-use Rattle.pli_type.specs.StatementTyping.{without_subscripts, has_locator, suits_range, controls, turned, next_value, with_repeat}
-use Rattle.pli_type.specs.StatementTyping.{iteration}
-use Rattle.pli_type.specs.Typing.{first_token, own_token, or_fault, denoted, meant, referred, value_of}
-use Rattle.pli_type.specs.TypingSteps.{truth_of, items, jump_to, number_of, possible_limit, possible_condition}
-use Rattle.pli_type.specs.declared.beginning.Beginning.{Beginning}
-use Rattle.pli_type.specs.declared.expression_type.ExpressionType.{ExpressionType}
-use Rattle.pli_type.specs.declared.expression_type.ExpressionType.TheVariants as types
+use Rattle.pli_type_rules.specs.Beginnings.{area_meant, whole_at}
+use Rattle.pli_type_rules.specs.ExpressionTypes.{TypedValue, precision_of, suited_to_form, converted, conversion_to, printed}
+use Rattle.pli_type_rules.specs.FunctionCalls.{Denoted, DenotesVariable, DenotesResult, DenotesEmpty, area_of, Meant, OneValue, WholeAggregate, Argument}
+use Rattle.pli_type_rules.specs.Names.{NamedAs, AProcedure, ALabel, NamedProcedure, Naming}
+use Rattle.pli_type_rules.specs.ProcedureCalls.{arguments_passed}
+use Rattle.pli_type_rules.specs.References.{AsArgument, AsLocator, AsTarget, AsValue, Referent}
+use Rattle.pli_type_rules.specs.StatementTyping.{are_alike, aggregate_assigned, scalar_assigned, string_assigned, one_assigned, area_put, area_assigned, variable_assigned, assigned, assignment, condition, item, suited_control}
+use Rattle.pli_type_rules.specs.StatementTyping.{Surroundings, Enclosing, label_found, jump, goto_typed, arguments_typed, no_function, call_of}
+use Rattle.pli_type_rules.specs.StatementTyping.{call_typed, area_here, returned_value, return_typed, limit, limits}
+use Rattle.pli_type_rules.specs.StatementTyping.{without_subscripts, has_locator, suits_range, controls, turned, next_value, with_repeat}
+use Rattle.pli_type_rules.specs.StatementTyping.{iteration}
+use Rattle.pli_type_rules.specs.Typing.{first_token, own_token, or_fault, denoted, meant, referred, value_of}
+use Rattle.pli_type_rules.specs.TypingSteps.{truth_of, items, jump_to, number_of, possible_limit, possible_condition}
+use Rattle.pli_type_rules.specs.declared.beginning.Beginning.{Beginning}
+use Rattle.pli_type_rules.specs.declared.expression_type.ExpressionType.{ExpressionType}
+use Rattle.pli_type_rules.specs.declared.expression_type.ExpressionType.TheVariants as types
 use Rattle.pli_type_tree.specs.Templates.{Template}
 use Rattle.pli_type_tree.specs.TypedTree as typed
 use Rattle.pli_type_tree.specs.TypedTree.{TypedExpression, TypedArguments, TypedRange, TypedUnit}

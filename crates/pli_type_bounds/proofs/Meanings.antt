@@ -3,15 +3,15 @@ use Rattle.std.specs.Prelude.{◌≡◌, ℕ, ◌≤◌, ◌<◌, Option, Some, 
 use Rattle.std.specs.List.{AllByRecursion}
 use Rattle.pli_map.specs.Description.{Description, Pointer, Offset}
 use Rattle.pli_map.specs.ParameterTypes.{ParameterType, Stated, stated}
-use Rattle.pli_type.specs.Beginnings.{whole_at}
-use Rattle.pli_type.specs.ExpressionTypes.{TypedValue}
-use Rattle.pli_type.specs.FunctionCalls.{Denoted, DenotesVariable, DenotesResult, DenotesEmpty, Meant, OneValue, WholeAggregate, Argument}
-use Rattle.pli_type.specs.Names.{LocatorVariable, OfPointer, OfOffset, NamedStorage, Begins, IsBased, NamedVariable, NamedProcedure, NamedAs, AVariable, AProcedure}
-use Rattle.pli_type.specs.References.{StridedPart, part_on, whole_part, with_subscripts, Referent, LocatorBefore, NotLocated, LocatedBy, LocatedWrongly, locator_at}
-use Rattle.pli_type.specs.Typing.{Segment, OfVariable, OfFunction, OfEmpty, OfNoVariable}
-use Rattle.pli_type.specs.declared.beginning.Beginning.{Beginning}
-use Rattle.pli_type.specs.declared.expression_type.ExpressionType.{ExpressionType}
-use Rattle.pli_type.specs.declared.expression_type.ExpressionType.TheVariants as types
+use Rattle.pli_type_rules.specs.Beginnings.{whole_at}
+use Rattle.pli_type_rules.specs.ExpressionTypes.{TypedValue}
+use Rattle.pli_type_rules.specs.FunctionCalls.{Denoted, DenotesVariable, DenotesResult, DenotesEmpty, Meant, OneValue, WholeAggregate, Argument}
+use Rattle.pli_type_rules.specs.Names.{LocatorVariable, OfPointer, OfOffset, NamedStorage, Begins, IsBased, NamedVariable, NamedProcedure, NamedAs, AVariable, AProcedure}
+use Rattle.pli_type_rules.specs.References.{StridedPart, part_on, whole_part, with_subscripts, Referent, LocatorBefore, NotLocated, LocatedBy, LocatedWrongly, locator_at}
+use Rattle.pli_type_rules.specs.Typing.{Segment, OfVariable, OfFunction, OfEmpty, OfNoVariable}
+use Rattle.pli_type_rules.specs.declared.beginning.Beginning.{Beginning}
+use Rattle.pli_type_rules.specs.declared.expression_type.ExpressionType.{ExpressionType}
+use Rattle.pli_type_rules.specs.declared.expression_type.ExpressionType.TheVariants as types
 use Rattle.pli_type_tree.specs.TypedTree.{TypedReference, TypedUnit}
 use Rattle.pli_deck_laws.specs.Limits.{parameter_limit, word_limit, IfThere, IsDescription, IsParameterType, IsStride}
 use Rattle.pli_deck_laws.specs.WellFormed.{IsRoot, IsCallee, IsExpression, IsReference}

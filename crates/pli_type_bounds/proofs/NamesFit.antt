@@ -12,20 +12,20 @@ use Rattle.pli_declare.specs.Resolution.{resolution_faults}
 use Rattle.pli_map.specs.Description.{Description, Area}
 use Rattle.pli_map.specs.ParameterTypes.{ParameterType, Stated, AnyString, AnyArray, ArrayOf, StructureOf, stated}
 use Rattle.pli_map.specs.Sizes.{size_of}
-use Rattle.pli_resolve.specs.ResolvedUnits.{ResolvedUnit, ResolvedBlock, resolved_unit_of, all_symbols, symbol_at, meaning_at}
-use Rattle.pli_resolve.specs.Symbols.{Symbol, SymbolKind, Variable, OpenParameter, Member, Label, Procedure, Entry, BuiltIn}
-use Rattle.pli_resolve.specs.declared.symbol.StorageClass.{StorageClass}
-use Rattle.pli_resolve.specs.declared.symbol.StorageClass.TheVariants as classes
-use Rattle.pli_resolve.specs.declared.symbol.SymbolKey.{SymbolKey}
-use Rattle.pli_type.specs.Beginnings.{beginning_of}
-use Rattle.pli_type.specs.NamedUnits.{may_stand, is_automatic, is_based, is_passed_class, root_of, area_on, area_in, area_at, area_named, locator_part, locator_on, locator_in, locator_meant, locator_named}
-use Rattle.pli_type.specs.NamedUnits.{block_symbols, of_block, is_procedure, parameter_numbers, type_in, parameters_of, returned_by, name_of, returned_of, returned_area_of}
-use Rattle.pli_type.specs.NamedUnits.{outward_to, is_reached, all_globals, templates_of, named_as}
-use Rattle.pli_type.specs.References.{StridedPart, part_on, whole_part, locator_at, reference_to, subscripts_at}
-use Rattle.pli_type.specs.Names.{LocatorVariable, NamedStorage, Begins, IsBased, NamedVariable, NamedProcedure, NamedAs, AVariable, AFunction, AProcedure, ALabel, Untyped}
-use Rattle.pli_type.specs.declared.beginning.Beginning.{Beginning}
-use Rattle.pli_type_name_laws.proofs.NamesMean.{MayBe, StandsIn, IsStored, IsNamedArea, IsThere, variable_begins, procedure_named_so}
-use Rattle.pli_type_name_laws.proofs.RootsStand.{Standing, IsOf, IsEntry, root_begins, descriptions, automatic_stored, based_stored, entry_stands}
+use Rattle.pli_declare.specs.ResolvedUnits.{ResolvedUnit, ResolvedBlock, resolved_unit_of, all_symbols, symbol_at, meaning_at}
+use Rattle.pli_declare.specs.Symbols.{Symbol, SymbolKind, Variable, OpenParameter, Member, Label, Procedure, Entry, BuiltIn}
+use Rattle.pli_declare.specs.declared.symbol.StorageClass.{StorageClass}
+use Rattle.pli_declare.specs.declared.symbol.StorageClass.TheVariants as classes
+use Rattle.pli_declare.specs.declared.symbol.SymbolKey.{SymbolKey}
+use Rattle.pli_type_rules.specs.Beginnings.{beginning_of}
+use Rattle.pli_type_rules.specs.NamedUnits.{may_stand, is_automatic, is_based, is_passed_class, root_of, area_on, area_in, area_at, area_named, locator_part, locator_on, locator_in, locator_meant, locator_named}
+use Rattle.pli_type_rules.specs.NamedUnits.{block_symbols, of_block, is_procedure, parameter_numbers, type_in, parameters_of, returned_by, name_of, returned_of, returned_area_of}
+use Rattle.pli_type_rules.specs.NamedUnits.{outward_to, is_reached, all_globals, templates_of, named_as}
+use Rattle.pli_type_rules.specs.References.{StridedPart, part_on, whole_part, locator_at, reference_to, subscripts_at}
+use Rattle.pli_type_rules.specs.Names.{LocatorVariable, NamedStorage, Begins, IsBased, NamedVariable, NamedProcedure, NamedAs, AVariable, AFunction, AProcedure, ALabel, Untyped}
+use Rattle.pli_type_rules.specs.declared.beginning.Beginning.{Beginning}
+use Rattle.pli_type_laws.proofs.NamesMean.{MayBe, StandsIn, IsStored, IsNamedArea, IsThere, variable_begins, procedure_named_so}
+use Rattle.pli_type_laws.proofs.RootsStand.{Standing, IsOf, IsEntry, root_begins, descriptions, automatic_stored, based_stored, entry_stands}
 use Rattle.pli_program.specs.declared.kind.VariableKind.{VariableKind}
 use Rattle.pli_program.specs.declared.kind.VariableKind.TheVariants.{Static, Controlled}
 use Rattle.pli_type_tree.specs.Globals.{description_of, described_as, signature_of}
@@ -37,7 +37,7 @@ use Rattle.pli_type_bounds.proofs.Meanings.{IsPart, IsAreaNamed, IsImplied, loca
 use Rattle.pli_type_bounds.proofs.PartsFit.{way_fits, parts_fit}
 use Rattle.pli_type_bounds.proofs.SymbolsFit.{symbol_fits, initial_fits}
 use Rattle.pli_resolve_bounds.specs.SymbolBounds.{IsLimited}
-use Rattle.pli_type_name_laws.proofs.InitialHeld.{all_after}
+use Rattle.pli_type_laws.proofs.InitialHeld.{all_after}
 use Rattle.pli_type_bounds.proofs.TemplatesFit.{AreSymbols, templates_fit, globals_fit}
 use Rattle.pli_type_bounds.proofs.TypesFit.{stated_fits, taken_fits, all_taken}
 use Rattle.pli_initial_laws.specs.InitialCounts.{HaveFewInitial}

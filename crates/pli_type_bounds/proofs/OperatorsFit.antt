@@ -25,23 +25,23 @@ use Rattle.pli_operation.specs.declared.operation.Operation.{Operation}
 use Rattle.pli_operation.specs.declared.operation.Operation.TheVariants.{ToCharacters, Add, Subtract, Multiply, Divide, Compare, Concatenate, And, Or, Rest, Substring}
 use Rattle.pli_operation.specs.declared.operation.Relation.{Relation}
 use Rattle.pli_operation.specs.declared.operation.Relation.TheVariants.{Equal, Unequal, Less, AtMost, Greater, AtLeast}
-use Rattle.pli_resolve.specs.declared.built_in.BuiltInFunction.{BuiltInFunction}
-use Rattle.pli_resolve.specs.declared.built_in.BuiltInFunction.TheVariants as functions
-use Rattle.pli_type.specs.Beginnings.{area_meant, whole_at}
-use Rattle.pli_type.specs.ExpressionTypes.{TypedValue, precision_of, precisions, all_operands, binary_digits, constant, within, null_offset, with_one, with_not}
-use Rattle.pli_type.specs.ExpressionTypes.{prefix_value, infix_value, on_numbers, sum_precision, product_precision, columns, width_of, decimal_digits}
-use Rattle.pli_type.specs.ExpressionTypes.{string_type, string_as, on_strings, as_bits, is_locator, as_pointer, as_offset, are_offsets, locators_compared, locators_beside, compared, comparison, concatenation, of_bits_alone}
-use Rattle.pli_type.specs.ExpressionTypes.{number_as_characters, as_characters, only_bits, suited, suited_to_form, converted, string_conversions, bit_conversions, form_conversions, suiting, printed_from}
-use Rattle.pli_type.specs.ExpressionTypes.{pointer_conversion, offset_conversion, conversion, conversion_to, null_as_offset, unconverted, type_of}
-use Rattle.pli_type.specs.FunctionCalls.{Meant, OneValue, WholeAggregate, meant_as, Argument, Denoted, DenotesVariable, DenotesResult, DenotesEmpty, meant_by}
-use Rattle.pli_type.specs.FunctionCalls.{call_type, operation_of, calculation, of_values, bound_value, bound_among, bound_there, bound_in, the_bound, generations_in, generations_of, address_in, address_of}
-use Rattle.pli_type.specs.FunctionCalls.{string_kind, of_one_kind, a_count, area_of, offset_within, pointer_within, located_within}
-use Rattle.pli_type.specs.FunctionCalls.{value_in, values_in, divided, of_arguments, function_called}
-use Rattle.pli_type.specs.References.{Role, Referent}
-use Rattle.pli_type.specs.TypingSteps.{with_plus, with_minus, with_number, or_bad_argument, number_type}
-use Rattle.pli_type.specs.declared.beginning.Beginning.{Beginning}
-use Rattle.pli_type.specs.declared.expression_type.ExpressionType.{ExpressionType}
-use Rattle.pli_type.specs.declared.expression_type.ExpressionType.TheVariants as types
+use Rattle.pli_declare.specs.declared.built_in.BuiltInFunction.{BuiltInFunction}
+use Rattle.pli_declare.specs.declared.built_in.BuiltInFunction.TheVariants as functions
+use Rattle.pli_type_rules.specs.Beginnings.{area_meant, whole_at}
+use Rattle.pli_type_rules.specs.ExpressionTypes.{TypedValue, precision_of, precisions, all_operands, binary_digits, constant, within, null_offset, with_one, with_not}
+use Rattle.pli_type_rules.specs.ExpressionTypes.{prefix_value, infix_value, on_numbers, sum_precision, product_precision, columns, width_of, decimal_digits}
+use Rattle.pli_type_rules.specs.ExpressionTypes.{string_type, string_as, on_strings, as_bits, is_locator, as_pointer, as_offset, are_offsets, locators_compared, locators_beside, compared, comparison, concatenation, of_bits_alone}
+use Rattle.pli_type_rules.specs.ExpressionTypes.{number_as_characters, as_characters, only_bits, suited, suited_to_form, converted, string_conversions, bit_conversions, form_conversions, suiting, printed_from}
+use Rattle.pli_type_rules.specs.ExpressionTypes.{pointer_conversion, offset_conversion, conversion, conversion_to, null_as_offset, unconverted, type_of}
+use Rattle.pli_type_rules.specs.FunctionCalls.{Meant, OneValue, WholeAggregate, meant_as, Argument, Denoted, DenotesVariable, DenotesResult, DenotesEmpty, meant_by}
+use Rattle.pli_type_rules.specs.FunctionCalls.{call_type, operation_of, calculation, of_values, bound_value, bound_among, bound_there, bound_in, the_bound, generations_in, generations_of, address_in, address_of}
+use Rattle.pli_type_rules.specs.FunctionCalls.{string_kind, of_one_kind, a_count, area_of, offset_within, pointer_within, located_within}
+use Rattle.pli_type_rules.specs.FunctionCalls.{value_in, values_in, divided, of_arguments, function_called}
+use Rattle.pli_type_rules.specs.References.{Role, Referent}
+use Rattle.pli_type_rules.specs.TypingSteps.{with_plus, with_minus, with_number, or_bad_argument, number_type}
+use Rattle.pli_type_rules.specs.declared.beginning.Beginning.{Beginning}
+use Rattle.pli_type_rules.specs.declared.expression_type.ExpressionType.{ExpressionType}
+use Rattle.pli_type_rules.specs.declared.expression_type.ExpressionType.TheVariants as types
 use Rattle.pli_type_tree.specs.TypedTree.{InSlot, OfProgram, NewestOf, Located, TypedOperation, Fit, Operate, TypedExpression, ByOperations, ToPlace, TypedReference, Whole, TypedUnit}
 use Rattle.pli_type_tree.specs.ValueTypes.{longest}
 use Rattle.pli_type_laws.proofs.Constants.{below}

@@ -11,9 +11,9 @@ use Rattle.std.specs.Int.{next_multiple_of}
 use Rattle.pli_map.specs.Sizes.{extent_of, count_of, alignment_of, size_of, stride_of}
 use Rattle.pli_map.specs.declared.description.Bounds.{Bounds}
 use Rattle.pli_map.proofs.Places.{member_inside}
-use Rattle.pli_type.specs.References.{StridedPart, strides_of, element_of, member_of, part_on, whole_part, with_subscripts}
+use Rattle.pli_type_rules.specs.References.{StridedPart, strides_of, element_of, member_of, part_on, whole_part, with_subscripts}
 use Rattle.pli_type_tree.specs.TypedTree.{Stride}
-use Rattle.pli_type_name_laws.proofs.InitialHeld.{all_after}
+use Rattle.pli_type_laws.proofs.InitialHeld.{all_after}
 use Rattle.pli_type_bounds.proofs.Meanings.{IsPart}
 use Rattle.pli_deck_laws.specs.Limits.{IsDescribed, AreDescribed, IsDescription, AreBounds, IsStride}
 

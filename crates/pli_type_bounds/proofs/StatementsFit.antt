@@ -10,20 +10,20 @@ use Rattle.pli_base.specs.declared.token.Fault.{Fault}
 use Rattle.pli_map.specs.Description.{Description}
 use Rattle.pli_map.specs.ParameterTypes.{ParameterType}
 use Rattle.pli_parse_expression.specs.Expressions.{Deeper}
-use Rattle.pli_resolve.specs.TreeBlocks as blocks
-use Rattle.pli_type.specs.NamedUnits.{names_based}
-use Rattle.pli_type.specs.Names.{NamedUnit, NamedAs}
-use Rattle.pli_type.specs.declared.beginning.Beginning.{Beginning}
-use Rattle.pli_type.specs.StatementTyping.{Enclosing, Surroundings, naming_at, block_at, leaves_nothing, assignment, function_end}
-use Rattle.pli_type.specs.StatementTyping.{condition, iteration, call_typed, goto_typed, return_typed, WithProcedures, of_own, together}
-use Rattle.pli_type.specs.StatementTyping.{alone, made, head_of, procedure_of, on_unit_of, as_procedure, put_before, inside, after_limits, in_begin, in_group, in_on_unit, in_procedure, lasting_alone, only, with_labels, labels_of}
-use Rattle.pli_type.specs.StatementTyping.{statement_typed, body_typed, alternative_typed, statements_typed}
-use Rattle.pli_type.specs.Temporaries.{Next, next_after, based_among, temporaries_in, temporaries_of, temporaries_among, temporaries_in_else}
-use Rattle.pli_type.specs.TypingSteps.{items, allocate_typed, free_typed}
+use Rattle.pli_declare.specs.TreeBlocks as blocks
+use Rattle.pli_type_rules.specs.NamedUnits.{names_based}
+use Rattle.pli_type_rules.specs.Names.{NamedUnit, NamedAs}
+use Rattle.pli_type_rules.specs.declared.beginning.Beginning.{Beginning}
+use Rattle.pli_type_rules.specs.StatementTyping.{Enclosing, Surroundings, naming_at, block_at, leaves_nothing, assignment, function_end}
+use Rattle.pli_type_rules.specs.StatementTyping.{condition, iteration, call_typed, goto_typed, return_typed, WithProcedures, of_own, together}
+use Rattle.pli_type_rules.specs.StatementTyping.{alone, made, head_of, procedure_of, on_unit_of, as_procedure, put_before, inside, after_limits, in_begin, in_group, in_on_unit, in_procedure, lasting_alone, only, with_labels, labels_of}
+use Rattle.pli_type_rules.specs.StatementTyping.{statement_typed, body_typed, alternative_typed, statements_typed}
+use Rattle.pli_type_rules.specs.Temporaries.{Next, next_after, based_among, temporaries_in, temporaries_of, temporaries_among, temporaries_in_else}
+use Rattle.pli_type_rules.specs.TypingSteps.{items, allocate_typed, free_typed}
 use Rattle.pli_type_laws.specs.TypedUnits.{unit_with}
 use Rattle.pli_type_laws.proofs.Shapes.{IsAllocation, allocate_keeps, HasOwn, iteration_keeps}
-use Rattle.pli_type_name_laws.specs.Nesting.{NestsWithin, BodyNests, ListNests, ElseNests}
-use Rattle.pli_type_name_laws.specs.Numbering.{IsNumbered, IsNumberedBody, AreNumbered, IsNumberedElse}
+use Rattle.pli_type_laws.specs.Nesting.{NestsWithin, BodyNests, ListNests, ElseNests}
+use Rattle.pli_type_laws.specs.Numbering.{IsNumbered, IsNumberedBody, AreNumbered, IsNumberedElse}
 use Rattle.pli_type_tree.specs.Templates.{Template}
 use Rattle.pli_type_tree.specs.TypedTree as typed
 use Rattle.pli_type_tree.specs.TypedTree.{Form, TypedStatement, TypedStatements, NoStatement, OtherWise, NoElse, Else}
@@ -32,7 +32,7 @@ use Rattle.pli_type_bounds.proofs.AllocationsFit.{allocate_fits, free_fits}
 use Rattle.pli_type_bounds.proofs.FormsFit.{condition_fits, items_fit, assignment_fits, call_fits, return_fits, goto_fits, iteration_fits}
 use Rattle.pli_type_laws.proofs.Denotations.{OnRead}
 use Rattle.pli_type_laws.proofs.TypedParts.{OnTyped}
-use Rattle.pli_type_name_laws.proofs.InitialHeld.{all_after}
+use Rattle.pli_type_laws.proofs.InitialHeld.{all_after}
 use Rattle.pli_type_bounds.proofs.Meanings.{IsAreaNamed, IsMeaning}
 use Rattle.pli_deck_laws.specs.Limits.{link_limit, parameter_limit, word_limit, IfThere, IsDescription, IsTemplate}
 use Rattle.pli_deck_laws.specs.WellFormed.{HasBlock, IsHead, IsExpression, IsIteration, IsStatement, IsForm, IsElse, AreStatements, IsProcedure, kept_in, kept_in_form, kept_in_else, kept_among}

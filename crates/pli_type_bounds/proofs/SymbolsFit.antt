@@ -7,12 +7,12 @@ use Rattle.pli_base.specs.Statements.{ExternalProcedure}
 use Rattle.pli_declare.specs.Resolution.{resolution_faults}
 use Rattle.pli_initial_laws.proofs.InitialsFew.{initial_values_are_few}
 use Rattle.pli_initial_laws.specs.InitialCounts.{HaveFewInitial}
-use Rattle.pli_resolve.specs.ResolvedUnits.{resolved_unit_of, all_symbols, symbol_at}
-use Rattle.pli_resolve.specs.Symbols.{Symbol}
-use Rattle.pli_resolve.specs.declared.symbol.SymbolKey.{SymbolKey}
+use Rattle.pli_declare.specs.ResolvedUnits.{resolved_unit_of, all_symbols, symbol_at}
+use Rattle.pli_declare.specs.Symbols.{Symbol}
+use Rattle.pli_declare.specs.declared.symbol.SymbolKey.{SymbolKey}
 use Rattle.pli_resolve_bounds.proofs.SymbolsWithin.{symbols_are_limited}
 use Rattle.pli_resolve_bounds.specs.SymbolBounds.{IsLimited}
-use Rattle.pli_type.specs.NamedUnits.{block_symbols}
+use Rattle.pli_type_rules.specs.NamedUnits.{block_symbols}
 
 -- one of a list, or nothing
 all_or_none : {A : Type 0} (P : A → Type 0) (xs : List A) (d : A) (n : ℕ) → P d → AllByRecursion P xs → P (get_or xs n d)

@@ -10,8 +10,8 @@ use Rattle.std.proofs.lemmas.List.{length-replicate, map-append}
 use Rattle.std.proofs.lemmas.List.Elements.{All-from_recursion, recursion_from_All}
 use Rattle.std.proofs.lemmas.List.Sorted.{All-permutation}
 use Rattle.pli_base.specs.Name.{Name}
-use Rattle.pli_declare_attributes.specs.declared.completed.ScopeAttribute.{ScopeAttribute}
-use Rattle.pli_declare_attributes.specs.declared.completed.ScopeAttribute.TheVariants as scopes
+use Rattle.pli_declare.specs.declared.completed.ScopeAttribute.{ScopeAttribute}
+use Rattle.pli_declare.specs.declared.completed.ScopeAttribute.TheVariants as scopes
 use Rattle.pli_map.specs.Description.{Description, FixedBinary, Character, Varying, Bit, Pointer, Offset, Area, Array, Structure, Members, NoMembers, MemberThen}
 use Rattle.pli_bytes.specs.Contents.{scalar_on, spread, scalars_at, scalars_after}
 use Rattle.pli_bytes.proofs.Rising.{Rise, rises}
@@ -22,23 +22,23 @@ use Rattle.pli_map.specs.Parts.{PlacedPart, moved}
 use Rattle.pli_map.specs.Scalars.{is_scalar}
 use Rattle.pli_map.specs.Sizes.{alignment_of, count_of, size_of, stride_of}
 use Rattle.pli_map.specs.Values.{holds}
-use Rattle.pli_resolve.specs.Symbols.{Symbol, SymbolKind, Variable, OpenParameter, Member, Label, Procedure, Entry, BuiltIn}
-use Rattle.pli_resolve.specs.declared.symbol.StorageClass.{StorageClass}
-use Rattle.pli_type.specs.InitialScalars.{counted_from, scalars_on, scalars_in_member, as_held, each_with, values_written, InitialItem, initial_scalars, template_of}
-use Rattle.pli_type.specs.NamedUnits.{is_plain, all_plain, may_stand, is_stored, is_global, kind_of_class, member_items, template_at, templates_from}
-use Rattle.pli_type.specs.NamedUnits.{global_of, global_with, globals_from, globals_of, all_globals}
-use Rattle.pli_type.specs.NamedUnits.{PlacedGlobal, placed, block_globals}
-use Rattle.pli_type.specs.TextOrder.{in_order}
-use Rattle.pli_type.proofs.TextNumbers.{same_items}
-use Rattle.pli_type_name_laws.proofs.PlainDescriptions.{plain_element, plain_members}
-use Rattle.pli_type_name_laws.proofs.RootsStand.{global_stored}
+use Rattle.pli_declare.specs.Symbols.{Symbol, SymbolKind, Variable, OpenParameter, Member, Label, Procedure, Entry, BuiltIn}
+use Rattle.pli_declare.specs.declared.symbol.StorageClass.{StorageClass}
+use Rattle.pli_type_rules.specs.InitialScalars.{counted_from, scalars_on, scalars_in_member, as_held, each_with, values_written, InitialItem, initial_scalars, template_of}
+use Rattle.pli_type_rules.specs.NamedUnits.{is_plain, all_plain, may_stand, is_stored, is_global, kind_of_class, member_items, template_at, templates_from}
+use Rattle.pli_type_rules.specs.NamedUnits.{global_of, global_with, globals_from, globals_of, all_globals}
+use Rattle.pli_type_rules.specs.NamedUnits.{PlacedGlobal, placed, block_globals}
+use Rattle.pli_type_rules.specs.TextOrder.{in_order}
+use Rattle.pli_type_rules.proofs.TextNumbers.{same_items}
+use Rattle.pli_type_laws.proofs.PlainDescriptions.{plain_element, plain_members}
+use Rattle.pli_type_laws.proofs.RootsStand.{global_stored}
 use Rattle.pli_program.specs.declared.kind.VariableKind.{VariableKind}
 use Rattle.pli_type_tree.specs.Templates.{Template}
 use Rattle.pli_type_tree.specs.TypedTree.{Global}
 use Rattle.pli_value.specs.Numbers.{has_digits}
 use Rattle.pli_value.specs.Strings.{fitted}
 use Rattle.pli_value.specs.Value.{Value, Number, Characters, Bits, Located}
-use Rattle.pli_type_name_laws.proofs.InitialHeld.{all_after}
+use Rattle.pli_type_laws.proofs.InitialHeld.{all_after}
 use Rattle.pli_resolve_bounds.specs.SymbolBounds.{IsLimited}
 use Rattle.pli_initial_laws.specs.InitialCounts.{HasFewInitial, HaveFewInitial}
 use Rattle.pli_type_bounds.proofs.TypesFit.{all_taken}

@@ -8,7 +8,7 @@ use Rattle.pli_map.specs.Description.{Description, FixedBinary, Character, Varyi
 use Rattle.pli_map.specs.ParameterTypes.{ParameterType, Stated, AnyString, AnyArray, ArrayOf, StructureOf, stated, type_if, element_type}
 use Rattle.pli_map.specs.declared.description.Bounds.{Bounds}
 use Rattle.pli_resolve_bounds.specs.SymbolBounds.{IsTaken}
-use Rattle.pli_type.specs.References.{open_part}
+use Rattle.pli_type_rules.specs.References.{open_part}
 use Rattle.pli_deck_laws.specs.Limits.{IsDescription, IsAnyString, IsOpenElement, IsParameterType}
 
 -- what a symbol says that a parameter may be

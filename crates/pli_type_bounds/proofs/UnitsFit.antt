@@ -16,27 +16,27 @@ use Rattle.pli_parse_expression.specs.Operators.{nesting_limit}
 use Rattle.pli_parse_statement.specs.StatementGrammar.{SpellsStatements}
 use Rattle.pli_parse_statement.specs.StatementReading.{unit_of}
 use Rattle.pli_parse_statement.specs.StatementWords.{Context, a_procedure}
-use Rattle.pli_resolve.specs.ResolvedUnits.{ResolvedUnit, resolved_unit_of, all_symbols, meaning_at}
-use Rattle.pli_resolve.specs.TreeBlocks as source
-use Rattle.pli_type.specs.Checked as typing
-use Rattle.pli_type.specs.Checked.{in_unit, first_inside, checked}
-use Rattle.pli_type.specs.NamedUnits.{is_automatic, is_based, all_globals, area_named, block_symbols, parameters_of, returned_of, returned_area_of, names_based, named_as}
-use Rattle.pli_type.specs.NamedUnits.{named_unit, templates_of, checked_unit}
-use Rattle.pli_type.specs.Names.{NamedUnit, NamedAs}
-use Rattle.pli_type.specs.declared.beginning.Beginning.{Beginning}
-use Rattle.pli_type.specs.StatementTyping.{WithProcedures, enclosing, statements_typed, function_end}
-use Rattle.pli_type.specs.Temporaries.{temporaries_among}
+use Rattle.pli_declare.specs.ResolvedUnits.{ResolvedUnit, resolved_unit_of, all_symbols, meaning_at}
+use Rattle.pli_declare.specs.TreeBlocks as source
+use Rattle.pli_type_rules.specs.Checked as typing
+use Rattle.pli_type_rules.specs.Checked.{in_unit, first_inside, checked}
+use Rattle.pli_type_rules.specs.NamedUnits.{is_automatic, is_based, all_globals, area_named, block_symbols, parameters_of, returned_of, returned_area_of, names_based, named_as}
+use Rattle.pli_type_rules.specs.NamedUnits.{named_unit, templates_of, checked_unit}
+use Rattle.pli_type_rules.specs.Names.{NamedUnit, NamedAs}
+use Rattle.pli_type_rules.specs.declared.beginning.Beginning.{Beginning}
+use Rattle.pli_type_rules.specs.StatementTyping.{WithProcedures, enclosing, statements_typed, function_end}
+use Rattle.pli_type_rules.specs.Temporaries.{temporaries_among}
 use Rattle.pli_type_laws.proofs.BlocksKnown.{Sits, sits_all}
 use Rattle.pli_type_laws.proofs.BlocksKnown as counted
-use Rattle.pli_type_name_laws.proofs.BasedNames.{based_known}
-use Rattle.pli_type_name_laws.proofs.BlocksOfUnits.{blocks_are_of_tree}
-use Rattle.pli_type_name_laws.proofs.NameFactsHold.{facts_hold}
-use Rattle.pli_type_name_laws.proofs.NestingHolds.{unit_nests}
-use Rattle.pli_type_name_laws.proofs.NumberingHolds.{units_are_numbered}
-use Rattle.pli_type_name_laws.specs.NameFacts.{NameFacts}
-use Rattle.pli_type_name_laws.specs.Numbering.{AreNumbered}
-use Rattle.pli_type_name_laws.specs.SourceBlocks.{SourceBlock, unit_blocks}
-use Rattle.pli_type_name_laws.specs.UnitBlocks.{in_unit as block_in_unit, in_tree}
+use Rattle.pli_type_laws.proofs.BasedNames.{based_known}
+use Rattle.pli_type_laws.proofs.BlocksOfUnits.{blocks_are_of_tree}
+use Rattle.pli_type_laws.proofs.NameFactsHold.{facts_hold}
+use Rattle.pli_type_laws.proofs.NestingHolds.{unit_nests}
+use Rattle.pli_type_laws.proofs.NumberingHolds.{units_are_numbered}
+use Rattle.pli_type_laws.specs.NameFacts.{NameFacts}
+use Rattle.pli_type_laws.specs.Numbering.{AreNumbered}
+use Rattle.pli_type_laws.specs.SourceBlocks.{SourceBlock, unit_blocks}
+use Rattle.pli_type_laws.specs.UnitBlocks.{in_unit as block_in_unit, in_tree}
 use Rattle.pli_type_tree.specs.Templates.{Template}
 use Rattle.pli_type_tree.specs.TypedTree.{TypedStatements, TypedUnit}
 use Rattle.pli_gen_emit.specs.TreeTranslation.{blocks_among}

@@ -5,8 +5,8 @@ use Rattle.pli_base.specs.Words.{Tokens}
 use Rattle.pli_deck_laws.specs.WellFormed.{IsWellFormed}
 use Rattle.pli_declare.specs.Resolution.{resolution_faults}
 use Rattle.pli_parse_statement.specs.StatementReading.{unit_of}
-use Rattle.pli_resolve.specs.ResolvedUnits.{resolved_unit_of}
-use Rattle.pli_type.specs.NamedUnits.{checked_unit}
+use Rattle.pli_declare.specs.ResolvedUnits.{resolved_unit_of}
+use Rattle.pli_type_rules.specs.NamedUnits.{checked_unit}
 use Rattle.pli_type_tree.specs.TypedTree.{TypedUnit}
 
 -- what the type checker gives for a unit that was read of no more tokens than an expansion has, and whose

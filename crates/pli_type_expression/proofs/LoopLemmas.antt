@@ -7,12 +7,12 @@ use Rattle.pli_base.specs.Syntax.{Listed}
 use Rattle.pli_base.specs.declared.syntax.Expression as program
 use Rattle.pli_base.specs.declared.syntax.JoinedPart as part
 use Rattle.pli_base.specs.views.SyntaxView.{expression_view, expressions_view, joined_view, arguments_view}
-use Rattle.pli_type.specs.ExpressionTypes.{TypedValue}
-use Rattle.pli_type.specs.FunctionCalls.{Denoted}
-use Rattle.pli_type.specs.Names.{Naming}
-use Rattle.pli_type.specs.References.{Role, AsArgument}
-use Rattle.pli_type.specs.Typing.{Segment, first_token, denoted, value_of, subscript_value, argument}
-use Rattle.pli_type.specs.Typing.{all_subscripts, all_arguments}
+use Rattle.pli_type_rules.specs.ExpressionTypes.{TypedValue}
+use Rattle.pli_type_rules.specs.FunctionCalls.{Denoted}
+use Rattle.pli_type_rules.specs.Names.{Naming}
+use Rattle.pli_type_rules.specs.References.{Role, AsArgument}
+use Rattle.pli_type_rules.specs.Typing.{Segment, first_token, denoted, value_of, subscript_value, argument}
+use Rattle.pli_type_rules.specs.Typing.{all_subscripts, all_arguments}
 use Rattle.pli_type_tree.specs.declared.expression.TypedExpression.{TypedExpression}
 use Rattle.pli_type_tree.specs.views.TypedView as typed
 use Rattle.pli_type_expression.specs.Segments.{next_segment, last_segment}

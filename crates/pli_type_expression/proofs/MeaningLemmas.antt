@@ -7,16 +7,16 @@ use Rattle.pli_base.specs.Results.{◌>>=◌}
 use Rattle.pli_base.specs.Syntax.{Absent, Given, Expressions}
 use Rattle.pli_base.specs.declared.syntax.JoinedPart.{JoinedPart}
 use Rattle.pli_base.specs.views.SyntaxView.{joined_view}
-use Rattle.pli_resolve.specs.declared.built_in.BuiltInFunction.{BuiltInFunction}
-use Rattle.pli_resolve.specs.declared.built_in.BuiltInFunction.TheVariants as functions
-use Rattle.pli_type.specs.FunctionCalls.{Argument, DenotesVariable, roles_of, function_called}
-use Rattle.pli_type.specs.Names.{Naming, NamedAs, AVariable, AFunction, AProcedure, ALabel, Untyped}
-use Rattle.pli_type.specs.Names as names
-use Rattle.pli_type.specs.ExpressionTypes.{null_value}
-use Rattle.pli_type.specs.References.{Role, AsValue, AsArgument, LocatorBefore, NotLocated, Referent, variable_meant}
-use Rattle.pli_type.specs.Typing.{Segment, OfFunction, OfEmpty, OfNoVariable, named_alone, given_by, begun, ended, with_more, is_call}
-use Rattle.pli_type.specs.Typing.{procedure_called}
-use Rattle.pli_type.specs.Typing.{all_subscripts, all_arguments, roles_or_none, how_many}
+use Rattle.pli_declare.specs.declared.built_in.BuiltInFunction.{BuiltInFunction}
+use Rattle.pli_declare.specs.declared.built_in.BuiltInFunction.TheVariants as functions
+use Rattle.pli_type_rules.specs.FunctionCalls.{Argument, DenotesVariable, roles_of, function_called}
+use Rattle.pli_type_rules.specs.Names.{Naming, NamedAs, AVariable, AFunction, AProcedure, ALabel, Untyped}
+use Rattle.pli_type_rules.specs.Names as names
+use Rattle.pli_type_rules.specs.ExpressionTypes.{null_value}
+use Rattle.pli_type_rules.specs.References.{Role, AsValue, AsArgument, LocatorBefore, NotLocated, Referent, variable_meant}
+use Rattle.pli_type_rules.specs.Typing.{Segment, OfFunction, OfEmpty, OfNoVariable, named_alone, given_by, begun, ended, with_more, is_call}
+use Rattle.pli_type_rules.specs.Typing.{procedure_called}
+use Rattle.pli_type_rules.specs.Typing.{all_subscripts, all_arguments, roles_or_none, how_many}
 use Rattle.pli_type_names.specs.SymbolMeaning.{IsMeantAs, IsVariable, IsProcedure}
 use Rattle.pli_type_names.specs.declared.naming.NamedAs.TheVariants as answers
 use Rattle.pli_type_names.specs.declared.naming.NamedProcedure.{NamedProcedure}

@@ -2,9 +2,9 @@
 use Rattle.std.proofs.Common.{◌≡◌, ℕ, zero, suc, ◌<◌, Option, Some, None, List, [], ◌∷◌, length, refl, sym, ap, arith}
 use Rattle.pli_map.specs.Description.{Description}
 use Rattle.pli_map.specs.ParameterTypes.{ParameterType, Stated, AnyString, AnyArray, ArrayOf, StructureOf, stated, element_type}
-use Rattle.pli_type.specs.References.{locator_at, open_part, open_reference}
-use Rattle.pli_type.specs.ExpressionTypes.{all_operands}
-use Rattle.pli_type.specs.declared.beginning.Beginning.{Beginning}
+use Rattle.pli_type_rules.specs.References.{locator_at, open_part, open_reference}
+use Rattle.pli_type_rules.specs.ExpressionTypes.{all_operands}
+use Rattle.pli_type_rules.specs.declared.beginning.Beginning.{Beginning}
 use Rattle.pli_type_tree.specs.TypedTree.{Root, ElementOf, TypedExpression, TypedReference}
 
 pub whole_part_open : (t : ParameterType) (n : ℕ) → n ≡ 0 → Some t ≡ open_part t n

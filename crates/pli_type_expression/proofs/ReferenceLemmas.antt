@@ -1,7 +1,7 @@
 -- References to variables.
 use Rattle.std.proofs.Common.{◌≡◌, ◌⊎◌, ℕ, true, inl, inr, List, [], ◌∷◌, ◌++◌, map, refl, ap, ◌∙◌, sym}
 use Rattle.std.proofs.lemmas.Bool.{false≢true}
-use Rattle.pli_type.specs.References.{subscripts_at, reference_to, StridedPart}
+use Rattle.pli_type_rules.specs.References.{subscripts_at, reference_to, StridedPart}
 use Rattle.pli_type_names.specs.SymbolMeaning.{is_way}
 use Rattle.pli_type_tree.specs.TypedTree.{Subscripts, NoSubscript, SubscriptThen, Stride, TypedExpression}
 use Rattle.pli_type_tree.specs.TypedTree.{Root, Part}

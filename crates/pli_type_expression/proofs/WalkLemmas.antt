@@ -13,13 +13,13 @@ use Rattle.pli_base.specs.declared.syntax.InfixOperator.{InfixOperator}
 use Rattle.pli_base.specs.declared.syntax.Joining.TheVariants.{Member, Located}
 use Rattle.pli_base.specs.declared.code.Code.TheVariants.{WrongOperandType}
 use Rattle.pli_base.specs.declared.token.Fault.{Fault}
-use Rattle.pli_type.specs.ExpressionTypes.{TypedValue, infix_value}
-use Rattle.pli_type.specs.FunctionCalls.{Denoted, DenotesResult, Argument}
-use Rattle.pli_type.specs.Names.{Naming}
-use Rattle.pli_type.specs.References.{Role, AsValue, AsArgument, AsTarget, AsLocator, NotLocated}
-use Rattle.pli_type.specs.Typing.{Segment, first_token, denoted, value_of, referred, joined, begun, as_locator}
-use Rattle.pli_type.specs.Typing.{all_subscripts, subscripts_in, all_arguments, argument}
-use Rattle.pli_type.specs.Typing.{as_value, or_fault, subscript_value, ended, with_more, is_call}
+use Rattle.pli_type_rules.specs.ExpressionTypes.{TypedValue, infix_value}
+use Rattle.pli_type_rules.specs.FunctionCalls.{Denoted, DenotesResult, Argument}
+use Rattle.pli_type_rules.specs.Names.{Naming}
+use Rattle.pli_type_rules.specs.References.{Role, AsValue, AsArgument, AsTarget, AsLocator, NotLocated}
+use Rattle.pli_type_rules.specs.Typing.{Segment, first_token, denoted, value_of, referred, joined, begun, as_locator}
+use Rattle.pli_type_rules.specs.Typing.{all_subscripts, subscripts_in, all_arguments, argument}
+use Rattle.pli_type_rules.specs.Typing.{as_value, or_fault, subscript_value, ended, with_more, is_call}
 use Rattle.pli_type_tree.specs.TypedTree.{TypedExpression}
 use Rattle.pli_type_operands.specs.Operated.{infix_of, right_of, infixed}
 use Rattle.pli_type_expression.specs.Segments.{last_segment}

@@ -5,11 +5,11 @@ use Rattle.pli_base.specs.Results.{◌>>=◌}
 use Rattle.pli_base.specs.declared.syntax.Expression.{Expression}
 use Rattle.pli_base.specs.declared.token.Fault.{Fault}
 use Rattle.pli_base.specs.views.SyntaxView.{expressions_view}
-use Rattle.pli_resolve.specs.declared.built_in.BuiltInFunction.{BuiltInFunction}
-use Rattle.pli_type.specs.FunctionCalls.{Argument, roles_of, function_called}
-use Rattle.pli_type.specs.Names.{Naming}
-use Rattle.pli_type.specs.References.{Role}
-use Rattle.pli_type.specs.Typing.{all_arguments, roles_or_none, how_many}
+use Rattle.pli_declare.specs.declared.built_in.BuiltInFunction.{BuiltInFunction}
+use Rattle.pli_type_rules.specs.FunctionCalls.{Argument, roles_of, function_called}
+use Rattle.pli_type_rules.specs.Names.{Naming}
+use Rattle.pli_type_rules.specs.References.{Role}
+use Rattle.pli_type_rules.specs.Typing.{all_arguments, roles_or_none, how_many}
 use Rattle.pli_type_expression.specs.Segments.{function_typed}
 use Rattle.pli_base.specs.answers.FailureAnswers.{Fails, Gives}
 use Rattle.pli_base.specs.declared.failure.Failure.{Failure}

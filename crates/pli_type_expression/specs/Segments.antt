@@ -6,14 +6,14 @@ use Rattle.pli_base.specs.declared.syntax.Identifier.{Identifier}
 use Rattle.pli_base.specs.declared.syntax.Joining.{Joining}
 use Rattle.pli_base.specs.declared.syntax.Joining.TheVariants.{Member, Located}
 use Rattle.pli_base.specs.declared.token.Fault.{Fault}
-use Rattle.pli_resolve.specs.declared.built_in.BuiltInFunction.{BuiltInFunction}
-use Rattle.pli_resolve.specs.declared.built_in.BuiltInFunction.TheVariants as functions
-use Rattle.pli_type.specs.ExpressionTypes.{TypedValue}
-use Rattle.pli_type.specs.FunctionCalls.{roles_of, function_called}
-use Rattle.pli_type.specs.Names.{Naming, NamedAs, AFunction}
-use Rattle.pli_type.specs.References.{AsLocator}
-use Rattle.pli_type.specs.Typing.{Segment, subscripts_in, with_more, ended, begun, all_arguments}
-use Rattle.pli_type.specs.Typing.{roles_or_none, how_many, as_locator}
+use Rattle.pli_declare.specs.declared.built_in.BuiltInFunction.{BuiltInFunction}
+use Rattle.pli_declare.specs.declared.built_in.BuiltInFunction.TheVariants as functions
+use Rattle.pli_type_rules.specs.ExpressionTypes.{TypedValue}
+use Rattle.pli_type_rules.specs.FunctionCalls.{roles_of, function_called}
+use Rattle.pli_type_rules.specs.Names.{Naming, NamedAs, AFunction}
+use Rattle.pli_type_rules.specs.References.{AsLocator}
+use Rattle.pli_type_rules.specs.Typing.{Segment, subscripts_in, with_more, ended, begun, all_arguments}
+use Rattle.pli_type_rules.specs.Typing.{roles_or_none, how_many, as_locator}
 
 -- NULL
 abbrev pub is_null_function : BuiltInFunction → Bool

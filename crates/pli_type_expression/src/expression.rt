@@ -2,7 +2,7 @@
 ghost use Rattle.std.specs.Prelude.{◌≡◌, map, []};
 ghost use Rattle.pli_base.specs.Syntax.{Given};
 ghost use Rattle.pli_base.specs.views.SyntaxView as syntax;
-ghost use Rattle.pli_type.specs.Typing as typing;
+ghost use Rattle.pli_type_rules.specs.Typing as typing;
 ghost use Rattle.pli_type.specs.views.ValueView.{value_view};
 ghost use Rattle.pli_type_operands.specs.Operated as operated;
 ghost use Rattle.pli_type_expression.specs.Segments.{next_segment, last_segment, function_typed};
@@ -21,7 +21,7 @@ use pli_base::syntax::{
     Expression, InfixOperator, JoinedPart, Joining, Part, PrefixOperator, Reference,
 };
 use pli_base::{Code, fault};
-use pli_resolve::BuiltInFunction;
+use pli_declare::BuiltInFunction;
 use pli_type::TypedValue;
 use pli_type_names::{NamedAs, Naming};
 use pli_type_operands::{

@@ -3,10 +3,10 @@ ghost use Rattle.std.specs.Prelude.{◌≡◌, ℕ, Some, IfOk, option_map};
 ghost use Rattle.pli_map.specs.ParameterTypes as types;
 ghost use Rattle.pli_map.specs.views.DescriptionView.{description_view};
 ghost use Rattle.pli_map.specs.views.ParameterView.{type_seen};
-ghost use Rattle.pli_type.specs.Beginnings.{root_at};
-ghost use Rattle.pli_type.specs.Names.{IsBased};
-ghost use Rattle.pli_type.specs.References.{NotLocated, locator_at, passed_root, pointer_of, root_by};
-ghost use Rattle.pli_type.specs.Typing.{as_locator};
+ghost use Rattle.pli_type_rules.specs.Beginnings.{root_at};
+ghost use Rattle.pli_type_rules.specs.Names.{IsBased};
+ghost use Rattle.pli_type_rules.specs.References.{NotLocated, locator_at, passed_root, pointer_of, root_by};
+ghost use Rattle.pli_type_rules.specs.Typing.{as_locator};
 ghost use Rattle.pli_type_operands.specs.views.TypingView.{denoted_view};
 ghost use Rattle.pli_type_expression.specs.views.SegmentView.{locator_view, variable_view};
 ghost use Rattle.pli_type_names.specs.views.StorageView.{locator_view as named_view, storage_view};
@@ -14,9 +14,10 @@ ghost use Rattle.pli_type_tree.specs.TypedTree.{Located};
 ghost use Rattle.pli_type_tree.specs.views.TypedView.{expression_view, reference_view, root_view};
 
 use pli_map::Description;
-use pli_type::{Beginning, pointer_into};
+use pli_type::pointer_into;
 use pli_type_names::{NamedLocator, NamedStorage};
 use pli_type_operands::{Denoted, Referent};
+use pli_type_rules::Beginning;
 use pli_type_tree::{Root, TypedExpression, TypedReference};
 use std::alloc::{AllocError, Global};
 

@@ -1,8 +1,8 @@
 //! Calls of procedures and of functions of the program.
 ghost use Rattle.std.specs.Prelude.{map, None};
-ghost use Rattle.pli_type.specs.Names as names;
-ghost use Rattle.pli_type.specs.ProcedureCalls as spec;
-ghost use Rattle.pli_type.specs.Typing as typing;
+ghost use Rattle.pli_type_rules.specs.Names as names;
+ghost use Rattle.pli_type_rules.specs.ProcedureCalls as spec;
+ghost use Rattle.pli_type_rules.specs.Typing as typing;
 ghost use Rattle.pli_base.specs.answers.FailureAnswers.{Gives};
 ghost use Rattle.pli_type_operands.specs.views.TypingView.{argument_view};
 ghost use Rattle.pli_type_expression.specs.views.SegmentView.{segment_view};

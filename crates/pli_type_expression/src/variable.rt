@@ -1,8 +1,8 @@
 //! References to variables.
 ghost use Rattle.std.specs.Prelude.{◌≡◌, ℕ, List, Some, None, map, option_map, IfOk};
-ghost use Rattle.pli_type.specs.Names as names;
-ghost use Rattle.pli_type.specs.References as spec;
-ghost use Rattle.pli_type.specs.TypingSteps as steps;
+ghost use Rattle.pli_type_rules.specs.Names as names;
+ghost use Rattle.pli_type_rules.specs.References as spec;
+ghost use Rattle.pli_type_rules.specs.TypingSteps as steps;
 ghost use Rattle.pli_base.specs.answers.FailureAnswers.{Gives};
 ghost use Rattle.pli_type_expression.specs.views.SegmentView.{locator_view};
 ghost use Rattle.pli_type_operands.specs.views.TypingView.{referent_view, role_view};

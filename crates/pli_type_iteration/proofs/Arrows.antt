@@ -7,7 +7,7 @@ use Rattle.pli_base.specs.declared.syntax.JoinedPart.{JoinedPart}
 use Rattle.pli_base.specs.declared.syntax.Joining.{Joining}
 use Rattle.pli_base.specs.declared.syntax.Joining.TheVariants.{Member, Located}
 use Rattle.pli_base.specs.views.SyntaxView.{arguments_view, joined_view}
-use Rattle.pli_type.specs.StatementTyping.{has_arrow}
+use Rattle.pli_type_rules.specs.StatementTyping.{has_arrow}
 use Rattle.pli_type_iteration.specs.Iterations.{is_arrow}
 
 one_arrow : (j : Joining) (name : Identifier) (arguments : Arguments) (more : JoinedParts) (b : Bool) → b ≡ has_arrow more

@@ -9,16 +9,16 @@ use Rattle.pli_base.specs.Statements.{Range}
 use Rattle.pli_base.specs.Syntax.{Expression}
 use Rattle.pli_base.specs.declared.syntax.Reference as syntax
 use Rattle.pli_base.specs.views.SyntaxView.{reference_view as reference_in}
-use Rattle.pli_type.specs.ExpressionTypes.{TypedValue}
-use Rattle.pli_type.specs.References.{AsLocator, Referent}
-use Rattle.pli_type.specs.Typing.{own_token, referred, value_of}
+use Rattle.pli_type_rules.specs.ExpressionTypes.{TypedValue}
+use Rattle.pli_type_rules.specs.References.{AsLocator, Referent}
+use Rattle.pli_type_rules.specs.Typing.{own_token, referred, value_of}
 use Rattle.pli_type_iteration.specs.Iterations.{iteration_with}
 use Rattle.pli_base.specs.declared.token.Fault.{Fault}
 use Rattle.pli_map.specs.Description.{Description}
 use Rattle.pli_map.specs.declared.description.Description as described
-use Rattle.pli_type.specs.FunctionCalls.{Denoted}
-use Rattle.pli_type.specs.Names.{Naming}
-use Rattle.pli_type.specs.StatementTyping.{controls, has_locator, iteration, limits, without_subscripts}
+use Rattle.pli_type_rules.specs.FunctionCalls.{Denoted}
+use Rattle.pli_type_rules.specs.Names.{Naming}
+use Rattle.pli_type_rules.specs.StatementTyping.{controls, has_locator, iteration, limits, without_subscripts}
 use Rattle.pli_base.specs.answers.FailureAnswers.{Fails}
 use Rattle.pli_base.specs.declared.failure.Failure.{Failure}
 use Rattle.pli_base.specs.declared.failure.Failure.TheVariants as errors

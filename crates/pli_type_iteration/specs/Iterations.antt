@@ -8,12 +8,12 @@ use Rattle.pli_base.specs.declared.code.Code.TheVariants.{CannotAssign}
 use Rattle.pli_base.specs.declared.syntax.Joining.{Joining}
 use Rattle.pli_base.specs.declared.syntax.Joining.TheVariants.{Member, Located}
 use Rattle.pli_base.specs.declared.token.Fault.{Fault}
-use Rattle.pli_type.specs.ExpressionTypes.{TypedValue, conversion_to, unconverted}
-use Rattle.pli_type.specs.Names.{Naming}
-use Rattle.pli_type.specs.References.{Referent}
-use Rattle.pli_type.specs.StatementTyping.{with_repeat, without_subscripts}
-use Rattle.pli_type.specs.Typing.{or_fault}
-use Rattle.pli_type.specs.TypingSteps.{possible_condition}
+use Rattle.pli_type_rules.specs.ExpressionTypes.{TypedValue, conversion_to, unconverted}
+use Rattle.pli_type_rules.specs.Names.{Naming}
+use Rattle.pli_type_rules.specs.References.{Referent}
+use Rattle.pli_type_rules.specs.StatementTyping.{with_repeat, without_subscripts}
+use Rattle.pli_type_rules.specs.Typing.{or_fault}
+use Rattle.pli_type_rules.specs.TypingSteps.{possible_condition}
 use Rattle.pli_type_tree.specs.TypedTree.{Conversion, Iteration, TypedExpression, TypedRange}
 use Rattle.pli_type_tree.specs.WellTyped.{is_area_type}
 

@@ -1,16 +1,16 @@
 //! Conditions.
 ghost use Rattle.pli_base.specs.views.SyntaxView as syntax;
-ghost use Rattle.pli_type.specs.StatementTyping as spec;
+ghost use Rattle.pli_type_rules.specs.StatementTyping as spec;
 ghost use Rattle.pli_base.specs.answers.FailureAnswers.{Gives};
 ghost use Rattle.pli_type_names.specs.UnitNaming.{naming_in};
 ghost use Rattle.pli_type_tree.specs.views.TypedView.{expression_view};
 
 use pli_base::syntax::Expression;
 use pli_base::{Code, fault};
-use pli_type::ExpressionType;
 use pli_type_expression::value_of;
 use pli_type_names::Naming;
 use pli_type_operands::{TypeError, first_token};
+use pli_type_rules::ExpressionType;
 use pli_type_tree::TypedExpression;
 use std::alloc::Global;
 

@@ -1,7 +1,7 @@
 //! What controls a group.
 ghost use Rattle.std.specs.Prelude.{◌≡◌, ◌≤◌, option_map};
 ghost use Rattle.pli_base.specs.views.StatementView.{control_view, range_view};
-ghost use Rattle.pli_type.specs.Temporaries as spec;
+ghost use Rattle.pli_type_rules.specs.Temporaries as spec;
 ghost use Rattle.pli_base.specs.answers.FailureAnswers.{Gives};
 ghost use Rattle.pli_type_names.specs.UnitNaming.{naming_in};
 ghost use Rattle.pli_type_iteration.specs.Headers.{header_typed, group_of};

@@ -6,10 +6,10 @@ ghost use Rattle.pli_base.specs.views.SyntaxView as syntax;
 ghost use Rattle.pli_map.specs.ParameterTypes as types;
 ghost use Rattle.pli_map.specs.views.DescriptionView.{description_view};
 ghost use Rattle.pli_map.specs.views.ParameterView.{type_seen, type_view};
-ghost use Rattle.pli_type.specs.declared.beginning.Beginning.{Beginning};
-ghost use Rattle.pli_type.specs.StatementTyping as spec;
+ghost use Rattle.pli_type_rules.specs.declared.beginning.Beginning.{Beginning};
+ghost use Rattle.pli_type_rules.specs.StatementTyping as spec;
 ghost use Rattle.pli_type.specs.views.ValueView.{value_view};
-ghost use Rattle.pli_type.specs.TypingSteps as steps;
+ghost use Rattle.pli_type_rules.specs.TypingSteps as steps;
 ghost use Rattle.pli_base.specs.answers.FailureAnswers.{Gives};
 ghost use Rattle.pli_type_operands.specs.views.TypingView.{denoted_view, referent_view};
 ghost use Rattle.pli_type_names.specs.UnitNaming.{naming_in};
@@ -21,12 +21,11 @@ use pli_base::statement::Range;
 use pli_base::syntax::{Expression, JoinedPart, Joining, Reference};
 use pli_base::{Code, fault};
 use pli_map::{Description, ParameterType, StringForm, TypeRef};
-use pli_type::{
-    Beginning, TypedValue, conversion_to, converted, is_area_type, suited_to_form, unconverted,
-};
+use pli_type::{TypedValue, conversion_to, converted, suited_to_form, unconverted};
 use pli_type_expression::{referred, value_of};
 use pli_type_names::Naming;
 use pli_type_operands::{Denoted, Referent, Role, TypeError, first_token, own_token};
+use pli_type_rules::{Beginning, is_area_type};
 use pli_type_tree::{Conversion, Iteration, TypedExpression, TypedRange, TypedReference};
 use std::alloc::{AllocError, Global};
 

@@ -7,20 +7,20 @@ use Rattle.pli_base.specs.declared.code.Code.TheVariants.{CannotAllocateOrFree}
 use Rattle.pli_map.specs.Description.{Pointer, Offset}
 use Rattle.pli_map.specs.ParameterTypes.{ParameterType}
 use Rattle.pli_program.specs.declared.kind.VariableKind.TheVariants.{Controlled}
-use Rattle.pli_type.specs.AllocationTyping.{in_turn, only_variable, place_given, locator_set, placed_within, placed_freely, placed_in, placed_by, taken_in, taken, allocated, all_allocated, released, freed}
-use Rattle.pli_type.specs.Beginnings.{area_meant, whole_at}
-use Rattle.pli_type.specs.FunctionCalls.{Denoted, DenotesVariable, DenotesResult, DenotesEmpty}
-use Rattle.pli_type.specs.Names.{LocatorVariable, OfPointer, OfOffset, NamedStorage, Begins, IsBased, NamedAs, AVariable, Naming}
-use Rattle.pli_type.specs.References.{AsLocator, AsTarget, Referent}
-use Rattle.pli_type.specs.declared.beginning.Beginning.{Beginning}
-use Rattle.pli_type.specs.Typing.{own_token, referred}
-use Rattle.pli_type.specs.TypingSteps.{allocate_typed, free_typed}
+use Rattle.pli_type_rules.specs.AllocationTyping.{in_turn, only_variable, place_given, locator_set, placed_within, placed_freely, placed_in, placed_by, taken_in, taken, allocated, all_allocated, released, freed}
+use Rattle.pli_type_rules.specs.Beginnings.{area_meant, whole_at}
+use Rattle.pli_type_rules.specs.FunctionCalls.{Denoted, DenotesVariable, DenotesResult, DenotesEmpty}
+use Rattle.pli_type_rules.specs.Names.{LocatorVariable, OfPointer, OfOffset, NamedStorage, Begins, IsBased, NamedAs, AVariable, Naming}
+use Rattle.pli_type_rules.specs.References.{AsLocator, AsTarget, Referent}
+use Rattle.pli_type_rules.specs.declared.beginning.Beginning.{Beginning}
+use Rattle.pli_type_rules.specs.Typing.{own_token, referred}
+use Rattle.pli_type_rules.specs.TypingSteps.{allocate_typed, free_typed}
 use Rattle.pli_type_laws.proofs.Conversions.{OnGiven}
 use Rattle.pli_type_laws.proofs.Denotations.{OnRead, IsReferent, IsDenoted}
 use Rattle.pli_type_laws.proofs.Expressions.{IsMeaning, N, read_option, referred_typed}
 use Rattle.pli_type_laws.proofs.Functions.{area_typed}
 use Rattle.pli_type_laws.proofs.References.{read_then, locator_kept}
-use Rattle.pli_type_name_laws.specs.NameFacts.{IsAreaNamed, IsLocatorThere, IsImplied, IsStoredIn, IsBasedTemplate}
+use Rattle.pli_type_laws.specs.NameFacts.{IsAreaNamed, IsLocatorThere, IsImplied, IsStoredIn, IsBasedTemplate}
 use Rattle.pli_type_tree.specs.Allocations.{kept_for}
 use Rattle.pli_type_tree.specs.Templates.{Template}
 use Rattle.pli_type_tree.specs.laws.GlobalLaws.{described_parts}

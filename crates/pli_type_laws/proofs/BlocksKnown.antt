@@ -7,11 +7,11 @@ use Rattle.std.proofs.lemmas.List.Folds.{list_any-append}
 use Rattle.pli_base.specs.Statements as tree
 use Rattle.pli_base.specs.Statements.{Statement, Numbered, Body, Statements, Ended, Before, Alternative, NoElse, Else}
 use Rattle.pli_parse_expression.specs.Expressions.{Deeper}
-use Rattle.pli_resolve.specs.declared.block_numbers.ResolvedBlockKind.TheVariants as kinds
-use Rattle.pli_type.specs.StatementTyping.{Enclosing, enclosing, labels_of, lasting_alone, only, with_labels}
-use Rattle.pli_resolve.specs.TreeBlocks as blocks
-use Rattle.pli_type_name_laws.specs.Nesting.{NestsWithin, BodyNests, ListNests, ElseNests}
-use Rattle.pli_type_name_laws.specs.SourceBlocks.{SourceBlock, begun_in, begun_by, begun_among, begun_after}
+use Rattle.pli_declare.specs.declared.block_numbers.ResolvedBlockKind.TheVariants as kinds
+use Rattle.pli_type_rules.specs.StatementTyping.{Enclosing, enclosing, labels_of, lasting_alone, only, with_labels}
+use Rattle.pli_declare.specs.TreeBlocks as blocks
+use Rattle.pli_type_laws.specs.Nesting.{NestsWithin, BodyNests, ListNests, ElseNests}
+use Rattle.pli_type_laws.specs.SourceBlocks.{SourceBlock, begun_in, begun_by, begun_among, begun_after}
 
 -- ---- labels
 

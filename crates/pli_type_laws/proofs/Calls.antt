@@ -7,22 +7,22 @@ use Rattle.pli_map.specs.Description.{Description, Area}
 use Rattle.pli_map.specs.ParameterTypes.{ParameterType, Stated, AnyString, agrees}
 use Rattle.pli_map.specs.Scalars.{is_area}
 use Rattle.pli_map.specs.laws.SameLaws.{same_decides}
-use Rattle.pli_type.specs.Beginnings.{area_meant, whole_at}
-use Rattle.pli_type.specs.ExpressionTypes.{type_of}
-use Rattle.pli_type.specs.FunctionCalls.{Denoted, DenotesVariable, DenotesResult, DenotesEmpty, Meant, OneValue, meant_as, Argument}
-use Rattle.pli_type.specs.NamedUnits.{is_plain}
-use Rattle.pli_type.specs.Names.{NamedProcedure}
-use Rattle.pli_type.specs.ProcedureCalls.{place_of, passed_place, passed_value, handed, passed, all_passed}
-use Rattle.pli_type.specs.ProcedureCalls.{arguments_passed, result_of}
-use Rattle.pli_type.specs.TypingSteps.{passed_before, or_wrong_argument, type_returned}
-use Rattle.pli_type.specs.declared.expression_type.ExpressionType.{ExpressionType}
+use Rattle.pli_type_rules.specs.Beginnings.{area_meant, whole_at}
+use Rattle.pli_type_rules.specs.ExpressionTypes.{type_of}
+use Rattle.pli_type_rules.specs.FunctionCalls.{Denoted, DenotesVariable, DenotesResult, DenotesEmpty, Meant, OneValue, meant_as, Argument}
+use Rattle.pli_type_rules.specs.NamedUnits.{is_plain}
+use Rattle.pli_type_rules.specs.Names.{NamedProcedure}
+use Rattle.pli_type_rules.specs.ProcedureCalls.{place_of, passed_place, passed_value, handed, passed, all_passed}
+use Rattle.pli_type_rules.specs.ProcedureCalls.{arguments_passed, result_of}
+use Rattle.pli_type_rules.specs.TypingSteps.{passed_before, or_wrong_argument, type_returned}
+use Rattle.pli_type_rules.specs.declared.expression_type.ExpressionType.{ExpressionType}
 use Rattle.pli_type_laws.proofs.Conversions.{OnGiven, given_weaker, conversion_held, string_suits}
 use Rattle.pli_type_laws.proofs.Denotations.{OnRead, IsMeant, IsDenoted, AreArguments, scalar_typed, denoted_meant}
 use Rattle.pli_type_laws.proofs.Operators.{HasValue}
 use Rattle.pli_type_laws.proofs.References.{read_if}
 use Rattle.pli_type_laws.specs.ExpressionTyping.{HasType, IsShort}
-use Rattle.pli_type_name_laws.proofs.PlainDescriptions.{plain_stands, may_narrow}
-use Rattle.pli_type_name_laws.specs.NameFacts.{IsAreaNamed}
+use Rattle.pli_type_laws.proofs.PlainDescriptions.{plain_stands, may_narrow}
+use Rattle.pli_type_laws.specs.NameFacts.{IsAreaNamed}
 use Rattle.pli_type_tree.specs.TypedTree.{InSlot, OfProgram, NewestOf, Located, TypedExpression, TypedReference, Whole, TypedArguments, Called}
 use Rattle.pli_type_tree.specs.ValueTypes.{kind_of_form}
 use Rattle.pli_type_tree.specs.WellTyped.{TypingContext, IsCallee, IsPlaced, IsAreaReference, IsNarrow, ArePassed, IsValueFor, is_area_type}

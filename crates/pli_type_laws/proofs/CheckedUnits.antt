@@ -3,26 +3,26 @@ use Rattle.std.specs.Prelude.{◌≡◌, ℕ, true, Option, Some, None, List, []
 use Rattle.std.proofs.lemmas.Bool.{and_parts, false≢true}
 use Rattle.pli_gen.specs.WellNumbered.{IsWellNumbered}
 use Rattle.pli_meaning_typed.specs.TypedPrograms.{IsTypedUnit}
-use Rattle.pli_resolve.specs.ResolvedUnits.{ResolvedUnit, all_symbols, meaning_at, resolved_unit_of}
+use Rattle.pli_declare.specs.ResolvedUnits.{ResolvedUnit, all_symbols, meaning_at, resolved_unit_of}
 use Rattle.pli_map.specs.Description.{Description}
 use Rattle.pli_map.specs.ParameterTypes.{ParameterType}
-use Rattle.pli_type.specs.Checked.{checked, is_main, is_nothing, unit_of}
-use Rattle.pli_type.specs.Names.{NamedUnit}
-use Rattle.pli_type.specs.StatementTyping.{WithProcedures}
-use Rattle.pli_type.specs.NamedUnits.{is_automatic, is_based, all_globals, area_named, block_symbols, parameters_of, returned_of, returned_area_of, names_based, named_as}
-use Rattle.pli_type.specs.NamedUnits.{named_unit, templates_of, checked_unit}
+use Rattle.pli_type_rules.specs.Checked.{checked, is_main, is_nothing, unit_of}
+use Rattle.pli_type_rules.specs.Names.{NamedUnit}
+use Rattle.pli_type_rules.specs.StatementTyping.{WithProcedures}
+use Rattle.pli_type_rules.specs.NamedUnits.{is_automatic, is_based, all_globals, area_named, block_symbols, parameters_of, returned_of, returned_area_of, names_based, named_as}
+use Rattle.pli_type_rules.specs.NamedUnits.{named_unit, templates_of, checked_unit}
 use Rattle.pli_type_laws.proofs.NumberedUnits.{units_are_numbered}
 use Rattle.pli_type_laws.proofs.TypedParts.{unit_given}
 use Rattle.pli_type_laws.proofs.Units.{unit_is_typed}
 use Rattle.pli_type_laws.specs.TypedUnits.{MainTakesNothing, CheckedIsTyped}
-use Rattle.pli_type_name_laws.specs.Nesting.{ListNests}
-use Rattle.pli_type_name_laws.specs.Numbering.{AreNumbered}
-use Rattle.pli_type_name_laws.specs.UnitBlocks.{BlocksAreOfTree}
-use Rattle.pli_type_name_laws.proofs.BasedNames.{based_known}
-use Rattle.pli_type_name_laws.proofs.BlocksOfUnits.{blocks_are_of_tree}
-use Rattle.pli_type_name_laws.proofs.NameFactsHold.{facts_hold}
-use Rattle.pli_type_name_laws.proofs.NestingHolds.{unit_nests}
-use Rattle.pli_type_name_laws.proofs.NumberingHolds as numbering
+use Rattle.pli_type_laws.specs.Nesting.{ListNests}
+use Rattle.pli_type_laws.specs.Numbering.{AreNumbered}
+use Rattle.pli_type_laws.specs.UnitBlocks.{BlocksAreOfTree}
+use Rattle.pli_type_laws.proofs.BasedNames.{based_known}
+use Rattle.pli_type_laws.proofs.BlocksOfUnits.{blocks_are_of_tree}
+use Rattle.pli_type_laws.proofs.NameFactsHold.{facts_hold}
+use Rattle.pli_type_laws.proofs.NestingHolds.{unit_nests}
+use Rattle.pli_type_laws.proofs.NumberingHolds as numbering
 use Rattle.pli_type_tree.specs.TypedTree.{Signature, TypedStatements, TypedUnit}
 
 abbrev nothing_given : Signature

@@ -7,7 +7,7 @@ use Rattle.std.proofs.lemmas.Nat.{le-div, pow_pos}
 use Rattle.std.proofs.Math.Nat.{pow-le-pow_right}
 use Rattle.pli_base.specs.declared.syntax.ConstantValue.{ConstantValue}
 use Rattle.pli_base.specs.declared.syntax.ConstantValue.TheVariants as constants
-use Rattle.pli_type.specs.ExpressionTypes.{constant, columns, binary_digits, within}
+use Rattle.pli_type_rules.specs.ExpressionTypes.{constant, columns, binary_digits, within}
 use Rattle.pli_type_laws.proofs.Operators.{HasValue}
 use Rattle.pli_type_laws.proofs.Widths.{below_each}
 use Rattle.pli_type_laws.specs.ConstantLaws.{ConstantsAreAsWritten}

@@ -5,16 +5,16 @@ use Rattle.std.specs.List.{list_any}
 use Rattle.std.proofs.Common.{sym, ap, ◌∙◌, subst}
 use Rattle.std.proofs.lemmas.Bool.{eqb-true}
 use Rattle.std.proofs.lemmas.Option.{same_Some, none-some}
-use Rattle.pli_resolve.specs.declared.block_numbers.ResolvedBlockKind.TheVariants as kinds
-use Rattle.pli_type.specs.NamedUnits.{outward_to}
-use Rattle.pli_type.specs.Names.{NamedUnit, NamedAs, AVariable, AFunction, AProcedure, ALabel, Untyped, NamedProcedure}
-use Rattle.pli_type.specs.StatementTyping as source
-use Rattle.pli_type.specs.StatementTyping.{Enclosing, Surroundings, label_found, lasting_alone}
+use Rattle.pli_declare.specs.declared.block_numbers.ResolvedBlockKind.TheVariants as kinds
+use Rattle.pli_type_rules.specs.NamedUnits.{outward_to}
+use Rattle.pli_type_rules.specs.Names.{NamedUnit, NamedAs, AVariable, AFunction, AProcedure, ALabel, Untyped, NamedProcedure}
+use Rattle.pli_type_rules.specs.StatementTyping as source
+use Rattle.pli_type_rules.specs.StatementTyping.{Enclosing, Surroundings, label_found, lasting_alone}
 use Rattle.pli_type_laws.proofs.BlocksKnown.{Within, within_both, AreHome, StandsDirectly}
 use Rattle.pli_type_laws.proofs.Calls.{IsCallable}
 use Rattle.pli_type_laws.proofs.Expressions.{IsMeaning}
-use Rattle.pli_type_name_laws.specs.NameFacts.{HaveSlots, IsAreaNamed, VariableFacts, IsCalled, ProcedureFacts, NameFacts, StandsAround}
-use Rattle.pli_type_name_laws.specs.SourceBlocks.{SourceBlock, unit_blocks, innermost, slots_in, known_blocks, known_procedures}
+use Rattle.pli_type_laws.specs.NameFacts.{HaveSlots, IsAreaNamed, VariableFacts, IsCalled, ProcedureFacts, NameFacts, StandsAround}
+use Rattle.pli_type_laws.specs.SourceBlocks.{SourceBlock, unit_blocks, innermost, slots_in, known_blocks, known_procedures}
 use Rattle.pli_type_tree.specs.WellTyped.{BlockAround, KnownProcedure, TypingContext, AreAround, AreAroundOnUnit, IsCallee, IsReached, IsOnUnitHere, blocks_from, knows_label}
 use Rattle.pli_type_tree.specs.WellTyped as trees
 use Rattle.pli_type_tree.specs.Globals.{signature_of}

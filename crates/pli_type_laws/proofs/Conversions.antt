@@ -6,13 +6,13 @@ use Rattle.pli_map.specs.Description.{Description}
 use Rattle.pli_map.specs.declared.parameter.StringForm.{StringForm}
 use Rattle.pli_map.specs.declared.parameter.StringForm.TheVariants as forms
 use Rattle.pli_operation.specs.declared.operation.Operation.TheVariants.{ToCharacters}
-use Rattle.pli_type.specs.ExpressionTypes.{TypedValue, null_offset, with_one, suited, suited_to_form, only_bits, as_pointer, as_offset, converted, printed, printed_from, as_characters, columns, decimal_digits}
-use Rattle.pli_type.specs.declared.beginning.Beginning.{Beginning}
-use Rattle.pli_type.specs.declared.expression_type.ExpressionType.{ExpressionType}
-use Rattle.pli_type.specs.declared.expression_type.ExpressionType.TheVariants as types
+use Rattle.pli_type_rules.specs.ExpressionTypes.{TypedValue, null_offset, with_one, suited, suited_to_form, only_bits, as_pointer, as_offset, converted, printed, printed_from, as_characters, columns, decimal_digits}
+use Rattle.pli_type_rules.specs.declared.beginning.Beginning.{Beginning}
+use Rattle.pli_type_rules.specs.declared.expression_type.ExpressionType.{ExpressionType}
+use Rattle.pli_type_rules.specs.declared.expression_type.ExpressionType.TheVariants as types
 use Rattle.pli_type_laws.specs.ExpressionTyping.{HasType, IsShort, ConvertedIsHeld, PrintedIsString}
 use Rattle.pli_type_laws.proofs.Widths.{near_has_columns}
-use Rattle.pli_type_name_laws.specs.NameFacts.{IsAreaNamed}
+use Rattle.pli_type_laws.specs.NameFacts.{IsAreaNamed}
 use Rattle.pli_type_tree.specs.TypedTree.{Fit, Operate, TypedExpression}
 use Rattle.pli_type_tree.specs.ValueTypes.{ValueType, Numbers, Strings, Pointers, Offsets, StringKind, OfCharacters, OfBits, kind_of_form, type_held, IsFitted, IsWithin, HaveColumns}
 use Rattle.pli_type_tree.specs.WellTyped.{TypingContext, IsTyped, IsValueFor}

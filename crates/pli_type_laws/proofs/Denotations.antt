@@ -7,16 +7,16 @@ use Rattle.pli_map.specs.Description.{Description, FixedBinary, Character, Varyi
 use Rattle.pli_map.specs.ParameterTypes.{ParameterType, Stated, AnyString, AnyArray, ArrayOf, StructureOf}
 use Rattle.pli_map.specs.declared.parameter.StringForm.{StringForm}
 use Rattle.pli_map.specs.declared.parameter.StringForm.TheVariants as forms
-use Rattle.pli_type.specs.ExpressionTypes.{type_of, form_type}
-use Rattle.pli_type.specs.FunctionCalls.{Denoted, DenotesVariable, DenotesResult, DenotesEmpty, Meant, OneValue, WholeAggregate, meant_by, meant_as}
-use Rattle.pli_type.specs.FunctionCalls.{Argument}
-use Rattle.pli_type.specs.NamedUnits.{may_stand, may_be}
-use Rattle.pli_type.specs.References.{Referent}
-use Rattle.pli_type.specs.declared.beginning.Beginning.{Beginning}
+use Rattle.pli_type_rules.specs.ExpressionTypes.{type_of, form_type}
+use Rattle.pli_type_rules.specs.FunctionCalls.{Denoted, DenotesVariable, DenotesResult, DenotesEmpty, Meant, OneValue, WholeAggregate, meant_by, meant_as}
+use Rattle.pli_type_rules.specs.FunctionCalls.{Argument}
+use Rattle.pli_type_rules.specs.NamedUnits.{may_stand, may_be}
+use Rattle.pli_type_rules.specs.References.{Referent}
+use Rattle.pli_type_rules.specs.declared.beginning.Beginning.{Beginning}
 use Rattle.pli_type_laws.proofs.Conversions.{OnGiven}
 use Rattle.pli_type_laws.proofs.Operators.{HasValue}
 use Rattle.pli_type_laws.specs.ExpressionTyping.{HasType}
-use Rattle.pli_type_name_laws.specs.NameFacts.{IsAreaNamed}
+use Rattle.pli_type_laws.specs.NameFacts.{IsAreaNamed}
 use Rattle.pli_type_tree.specs.TypedTree.{TypedExpression, TypedReference, Whole, Part, ElementOf, Held}
 use Rattle.pli_type_tree.specs.ValueTypes.{ValueType, longest, type_held, type_kept}
 use Rattle.pli_type_tree.specs.WellTyped.{TypingContext, BeginsWhole, IsTyped, IsRooted, IsPlaced}

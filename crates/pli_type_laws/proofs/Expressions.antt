@@ -6,19 +6,19 @@ use Rattle.pli_base.specs.declared.code.Code.{Code}
 use Rattle.pli_base.specs.declared.code.Code.TheVariants.{WrongOperandType}
 use Rattle.pli_base.specs.declared.token.Fault.{Fault}
 use Rattle.pli_base.specs.declared.syntax.Joining.TheVariants.{Member, Located}
-use Rattle.pli_type.specs.ExpressionTypes.{TypedValue, precision_of, prefix_value, infix_value}
-use Rattle.pli_resolve.specs.declared.built_in.BuiltInFunction.{BuiltInFunction}
-use Rattle.pli_resolve.specs.declared.built_in.BuiltInFunction.TheVariants as functions
-use Rattle.pli_type.specs.FunctionCalls.{Denoted, DenotesVariable, DenotesResult, DenotesEmpty, Meant, OneValue, WholeAggregate, meant_as, Argument}
-use Rattle.pli_type.specs.FunctionCalls.{roles_of, function_called}
-use Rattle.pli_type.specs.Names.{NamedAs, AVariable, AFunction, AProcedure, NamedProcedure, Naming}
-use Rattle.pli_type.specs.ProcedureCalls.{arguments_passed, result_of}
-use Rattle.pli_type.specs.References.{Role, AsValue, AsArgument, AsLocator, LocatorBefore, NotLocated, locator_at, variable_meant}
-use Rattle.pli_type.specs.Typing.{first_token, how_many, or_fault, one_value, roles_or_none}
-use Rattle.pli_type.specs.Typing.{subscript_value, Segment, OfVariable, OfFunction, OfEmpty, OfNoVariable, is_call, with_more, ended, as_locator, named_alone, given_by, procedure_called}
-use Rattle.pli_type.specs.Typing.{as_value, denoted, meant, referred, joined, begun, subscripts_in, all_subscripts, all_arguments, value_of}
-use Rattle.pli_type.specs.TypingSteps.{type_returned}
-use Rattle.pli_type.specs.declared.beginning.Beginning.{Beginning}
+use Rattle.pli_type_rules.specs.ExpressionTypes.{TypedValue, precision_of, prefix_value, infix_value}
+use Rattle.pli_declare.specs.declared.built_in.BuiltInFunction.{BuiltInFunction}
+use Rattle.pli_declare.specs.declared.built_in.BuiltInFunction.TheVariants as functions
+use Rattle.pli_type_rules.specs.FunctionCalls.{Denoted, DenotesVariable, DenotesResult, DenotesEmpty, Meant, OneValue, WholeAggregate, meant_as, Argument}
+use Rattle.pli_type_rules.specs.FunctionCalls.{roles_of, function_called}
+use Rattle.pli_type_rules.specs.Names.{NamedAs, AVariable, AFunction, AProcedure, NamedProcedure, Naming}
+use Rattle.pli_type_rules.specs.ProcedureCalls.{arguments_passed, result_of}
+use Rattle.pli_type_rules.specs.References.{Role, AsValue, AsArgument, AsLocator, LocatorBefore, NotLocated, locator_at, variable_meant}
+use Rattle.pli_type_rules.specs.Typing.{first_token, how_many, or_fault, one_value, roles_or_none}
+use Rattle.pli_type_rules.specs.Typing.{subscript_value, Segment, OfVariable, OfFunction, OfEmpty, OfNoVariable, is_call, with_more, ended, as_locator, named_alone, given_by, procedure_called}
+use Rattle.pli_type_rules.specs.Typing.{as_value, denoted, meant, referred, joined, begun, subscripts_in, all_subscripts, all_arguments, value_of}
+use Rattle.pli_type_rules.specs.TypingSteps.{type_returned}
+use Rattle.pli_type_rules.specs.declared.beginning.Beginning.{Beginning}
 use Rattle.pli_type_laws.proofs.Calls.{IsCallable, arguments_fit, result_typed}
 use Rattle.pli_type_laws.proofs.Conversions.{OnGiven}
 use Rattle.pli_type_laws.proofs.Constants.{constant_typed}

@@ -16,22 +16,22 @@ use Rattle.pli_map.specs.Same.{same}
 use Rattle.pli_map.specs.declared.parameter.StringForm.{StringForm}
 use Rattle.pli_map.specs.laws.SameLaws.{same_decides}
 use Rattle.pli_map.specs.Scalars.{is_aggregate, is_area}
-use Rattle.pli_type.specs.Beginnings.{area_meant, whole_at}
-use Rattle.pli_type.specs.ExpressionTypes.{TypedValue, precision_of, converted, conversion_to, suited_to_form, unconverted, printed}
-use Rattle.pli_type.specs.FunctionCalls.{Denoted, DenotesVariable, DenotesResult, DenotesEmpty, area_of, Meant, OneValue, WholeAggregate, Argument}
-use Rattle.pli_type.specs.Names.{NamedAs, AProcedure, ALabel, NamedProcedure, Naming}
-use Rattle.pli_type.specs.ProcedureCalls.{arguments_passed}
-use Rattle.pli_type.specs.References.{AsArgument, AsLocator, AsTarget, AsValue, Referent}
-use Rattle.pli_type.specs.StatementTyping.{are_alike, aggregate_assigned, scalar_assigned, string_assigned, area_put, area_assigned, one_assigned, variable_assigned, assigned, assignment, condition, item}
-use Rattle.pli_type.specs.StatementTyping.{Enclosing, Surroundings, label_found, jump, goto_typed, arguments_typed, no_function, call_of}
-use Rattle.pli_type.specs.StatementTyping.{call_typed, area_here, returned_value, return_typed, limit, limits}
-use Rattle.pli_type.specs.StatementTyping.{without_subscripts, has_locator, suits_range, controls, turned, next_value, with_repeat}
-use Rattle.pli_type.specs.StatementTyping.{iteration}
-use Rattle.pli_type.specs.Typing.{first_token, own_token, or_fault, denoted, meant, referred, value_of}
-use Rattle.pli_type.specs.TypingSteps.{truth_of, items, jump_to, number_of, possible_limit, possible_condition}
-use Rattle.pli_type.specs.declared.beginning.Beginning.{Beginning}
-use Rattle.pli_type.specs.declared.expression_type.ExpressionType.{ExpressionType}
-use Rattle.pli_type.specs.declared.expression_type.ExpressionType.TheVariants as types
+use Rattle.pli_type_rules.specs.Beginnings.{area_meant, whole_at}
+use Rattle.pli_type_rules.specs.ExpressionTypes.{TypedValue, precision_of, converted, conversion_to, suited_to_form, unconverted, printed}
+use Rattle.pli_type_rules.specs.FunctionCalls.{Denoted, DenotesVariable, DenotesResult, DenotesEmpty, area_of, Meant, OneValue, WholeAggregate, Argument}
+use Rattle.pli_type_rules.specs.Names.{NamedAs, AProcedure, ALabel, NamedProcedure, Naming}
+use Rattle.pli_type_rules.specs.ProcedureCalls.{arguments_passed}
+use Rattle.pli_type_rules.specs.References.{AsArgument, AsLocator, AsTarget, AsValue, Referent}
+use Rattle.pli_type_rules.specs.StatementTyping.{are_alike, aggregate_assigned, scalar_assigned, string_assigned, area_put, area_assigned, one_assigned, variable_assigned, assigned, assignment, condition, item}
+use Rattle.pli_type_rules.specs.StatementTyping.{Enclosing, Surroundings, label_found, jump, goto_typed, arguments_typed, no_function, call_of}
+use Rattle.pli_type_rules.specs.StatementTyping.{call_typed, area_here, returned_value, return_typed, limit, limits}
+use Rattle.pli_type_rules.specs.StatementTyping.{without_subscripts, has_locator, suits_range, controls, turned, next_value, with_repeat}
+use Rattle.pli_type_rules.specs.StatementTyping.{iteration}
+use Rattle.pli_type_rules.specs.Typing.{first_token, own_token, or_fault, denoted, meant, referred, value_of}
+use Rattle.pli_type_rules.specs.TypingSteps.{truth_of, items, jump_to, number_of, possible_limit, possible_condition}
+use Rattle.pli_type_rules.specs.declared.beginning.Beginning.{Beginning}
+use Rattle.pli_type_rules.specs.declared.expression_type.ExpressionType.{ExpressionType}
+use Rattle.pli_type_rules.specs.declared.expression_type.ExpressionType.TheVariants as types
 use Rattle.pli_type_laws.proofs.Calls.{IsCallable, arguments_fit, gives}
 use Rattle.pli_type_laws.proofs.Conversions.{OnGiven, IsItem, conversion_held, string_suits, printing_held}
 use Rattle.pli_type_laws.proofs.Denotations.{OnRead, IsReferent, IsMeant, IsDenoted, AreArguments}
@@ -43,7 +43,7 @@ use Rattle.pli_type_laws.proofs.Operators.{HasValue, has_precision}
 use Rattle.pli_type_laws.proofs.References.{read_then}
 use Rattle.pli_type_laws.specs.ExpressionTyping as Near
 use Rattle.pli_type_laws.specs.ExpressionTyping.{HasType, IsShort}
-use Rattle.pli_type_name_laws.specs.NameFacts.{IsAreaNamed}
+use Rattle.pli_type_laws.specs.NameFacts.{IsAreaNamed}
 use Rattle.pli_type_tree.specs.Templates.{Template}
 use Rattle.pli_type_tree.specs.TypedTree as typed
 use Rattle.pli_type_tree.specs.TypedTree.{TypedExpression, TypedArguments, Conversion, TypedRange, Form}

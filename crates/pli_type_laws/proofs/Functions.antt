@@ -11,26 +11,26 @@ use Rattle.pli_map.specs.declared.dimension.WhichBound.{WhichBound}
 use Rattle.pli_map.specs.declared.dimension.WhichBound.TheVariants.{Low, High}
 use Rattle.pli_operation.specs.declared.operation.Operation.{Operation}
 use Rattle.pli_operation.specs.declared.operation.Operation.TheVariants.{Absolute, Sign, LengthOf, Greatest, Least, Modulo, Divide, Index, Rest, Substring}
-use Rattle.pli_resolve.specs.declared.built_in.BuiltInFunction.{BuiltInFunction}
-use Rattle.pli_resolve.specs.declared.built_in.BuiltInFunction.TheVariants as functions
-use Rattle.pli_type.specs.ExpressionTypes.{TypedValue, precision_of, precisions, all_operands}
-use Rattle.pli_type.specs.FunctionCalls.{Meant, OneValue, WholeAggregate, meant_as, Argument, calculation, of_values, string_kind, of_one_kind}
-use Rattle.pli_type.specs.Beginnings.{area_meant, whole_at}
-use Rattle.pli_type.specs.FunctionCalls.{Denoted, DenotesVariable, DenotesResult, DenotesEmpty, a_count, bound_value, bound_among, bound_there, bound_in, the_bound, generations_in, generations_of, address_in, address_of, value_in, values_in}
-use Rattle.pli_type.specs.FunctionCalls.{area_of, offset_within, pointer_within, located_within, divided, of_arguments, function_called}
-use Rattle.pli_type.specs.NamedUnits.{are_bounds, may_be}
-use Rattle.pli_type.specs.References.{Role}
-use Rattle.pli_type.specs.TypingSteps.{with_number, number_type, or_bad_argument}
-use Rattle.pli_type.specs.declared.beginning.Beginning.{Beginning}
-use Rattle.pli_type.specs.declared.expression_type.ExpressionType.{ExpressionType}
-use Rattle.pli_type.specs.declared.expression_type.ExpressionType.TheVariants as types
+use Rattle.pli_declare.specs.declared.built_in.BuiltInFunction.{BuiltInFunction}
+use Rattle.pli_declare.specs.declared.built_in.BuiltInFunction.TheVariants as functions
+use Rattle.pli_type_rules.specs.ExpressionTypes.{TypedValue, precision_of, precisions, all_operands}
+use Rattle.pli_type_rules.specs.FunctionCalls.{Meant, OneValue, WholeAggregate, meant_as, Argument, calculation, of_values, string_kind, of_one_kind}
+use Rattle.pli_type_rules.specs.Beginnings.{area_meant, whole_at}
+use Rattle.pli_type_rules.specs.FunctionCalls.{Denoted, DenotesVariable, DenotesResult, DenotesEmpty, a_count, bound_value, bound_among, bound_there, bound_in, the_bound, generations_in, generations_of, address_in, address_of, value_in, values_in}
+use Rattle.pli_type_rules.specs.FunctionCalls.{area_of, offset_within, pointer_within, located_within, divided, of_arguments, function_called}
+use Rattle.pli_type_rules.specs.NamedUnits.{are_bounds, may_be}
+use Rattle.pli_type_rules.specs.References.{Role}
+use Rattle.pli_type_rules.specs.TypingSteps.{with_number, number_type, or_bad_argument}
+use Rattle.pli_type_rules.specs.declared.beginning.Beginning.{Beginning}
+use Rattle.pli_type_rules.specs.declared.expression_type.ExpressionType.{ExpressionType}
+use Rattle.pli_type_rules.specs.declared.expression_type.ExpressionType.TheVariants as types
 use Rattle.pli_type_laws.proofs.Conversions.{OnGiven, given_if}
 use Rattle.pli_type_laws.proofs.Denotations.{OnRead, IsOfWhole, IsMeant, IsDenoted, AreArguments, denoted_meant}
 use Rattle.pli_type_laws.proofs.Operators.{HasValue, has_precision, have_precisions, of_one, of_two, AreNumbers}
 use Rattle.pli_type_laws.specs.ExpressionTyping.{HasType, IsNumber}
-use Rattle.pli_type_name_laws.specs.NameFacts.{IsAreaNamed}
-use Rattle.pli_type_name_laws.proofs.AreasNamed.{root_named}
-use Rattle.pli_type_name_laws.proofs.PlainDescriptions.{bounds_near}
+use Rattle.pli_type_laws.specs.NameFacts.{IsAreaNamed}
+use Rattle.pli_type_laws.proofs.AreasNamed.{root_named}
+use Rattle.pli_type_laws.proofs.PlainDescriptions.{bounds_near}
 use Rattle.pli_program.specs.declared.kind.VariableKind.TheVariants.{Controlled}
 use Rattle.pli_type_tree.specs.laws.GlobalLaws.{described_parts}
 use Rattle.pli_type_tree.specs.TypedTree.{NewestOf, Operate, TypedExpression, Calculated, TypedReference, Whole}

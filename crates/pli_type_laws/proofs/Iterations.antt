@@ -6,15 +6,15 @@ use Rattle.pli_map.specs.Description.{Description}
 use Rattle.pli_map.specs.ParameterTypes.{ParameterType, Stated, AnyString}
 use Rattle.pli_map.specs.declared.parameter.StringForm.{StringForm}
 use Rattle.pli_map.specs.declared.parameter.StringForm.TheVariants as forms
-use Rattle.pli_type.specs.ExpressionTypes.{TypedValue, string_conversions, bit_conversions, form_conversions, pointer_conversion, offset_conversion, conversion, conversion_to, null_as_offset, unconverted, columns, decimal_digits}
-use Rattle.pli_type.specs.StatementTyping.{suits_range}
-use Rattle.pli_type.specs.declared.beginning.Beginning.{Beginning}
-use Rattle.pli_type.specs.declared.expression_type.ExpressionType.{ExpressionType}
-use Rattle.pli_type.specs.declared.expression_type.ExpressionType.TheVariants as types
+use Rattle.pli_type_rules.specs.ExpressionTypes.{TypedValue, string_conversions, bit_conversions, form_conversions, pointer_conversion, offset_conversion, conversion, conversion_to, null_as_offset, unconverted, columns, decimal_digits}
+use Rattle.pli_type_rules.specs.StatementTyping.{suits_range}
+use Rattle.pli_type_rules.specs.declared.beginning.Beginning.{Beginning}
+use Rattle.pli_type_rules.specs.declared.expression_type.ExpressionType.{ExpressionType}
+use Rattle.pli_type_rules.specs.declared.expression_type.ExpressionType.TheVariants as types
 use Rattle.pli_type_laws.proofs.Conversions.{OnGiven, within_self, null_offset_typed}
 use Rattle.pli_type_laws.proofs.Widths.{near_has_columns}
 use Rattle.pli_type_laws.specs.ExpressionTyping.{HasType}
-use Rattle.pli_type_name_laws.specs.NameFacts.{IsAreaNamed}
+use Rattle.pli_type_laws.specs.NameFacts.{IsAreaNamed}
 use Rattle.pli_type_tree.specs.TypedTree.{TypedOperation, Fit, TypedExpression, Conversion, ByOperations, ToPlace, TypedRange, Once, ToBy, ByTo, Repeated, RepeatedString}
 use Rattle.pli_type_tree.specs.ValueTypes.{ValueType, StringKind, Numbers, Strings, Pointers, Offsets, OfCharacters, OfBits, kind_of_form, type_held, IsFitted}
 use Rattle.pli_type_tree.specs.WellTyped.{TypingContext, IsTyped, Convert, ConvertToKind, ConvertsTo, ConvertsToKind, IsConversion, Counts, IsNumber, IsPossibleNumber, IsRange, IsRangeFor}

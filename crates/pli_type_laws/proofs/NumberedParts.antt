@@ -7,7 +7,7 @@ use Rattle.pli_gen_emit.specs.TreeTranslation.{BlockTree, blocks_of_procedure, b
 use Rattle.pli_gen_emit.specs.TreeTranslation.{blocks_of_else, blocks_among}
 use Rattle.pli_gen.specs.WellNumbered.{numbers_in, numbers_in_form, numbers_in_else, numbers_among, HasRoom, HasRoomForm}
 use Rattle.pli_gen.specs.WellNumbered.{HasRoomElse, HaveRoom, KeepsApart, KeepsApartForm, KeepsApartElse, KeepApart}
-use Rattle.pli_type.specs.StatementTyping.{WithProcedures, alone}
+use Rattle.pli_type_rules.specs.StatementTyping.{WithProcedures, alone}
 use Rattle.pli_type_laws.proofs.Counting.{same, below, below_next, times, times_both, in_blocks, of_blocks, in_both, of_both}
 use Rattle.pli_type_tree.specs.TypedTree as typed
 use Rattle.pli_type_tree.specs.TypedTree.{Form, TypedStatement, TypedStatements, OtherWise, TypedProcedure}

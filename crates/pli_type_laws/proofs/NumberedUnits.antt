@@ -13,15 +13,15 @@ use Rattle.pli_gen_emit.specs.TreeTranslation.{BlockTree, blocks_of_procedure, b
 use Rattle.pli_gen.specs.WellNumbered.{numbers_in, numbers_in_form, numbers_in_else, numbers_among, HasTurns, HaveRoom}
 use Rattle.pli_gen.specs.WellNumbered.{KeepApart, next_temporary, IsWellNumbered}
 use Rattle.pli_parse_expression.specs.Expressions.{Deeper}
-use Rattle.pli_type.specs.Checked.{in_unit, first_inside, external_of, unit_of, typed_as, checked}
-use Rattle.pli_type.specs.Names.{NamedUnit}
-use Rattle.pli_type.specs.StatementTyping.{Surroundings, naming_at, block_at, leaves_nothing, assignment, condition, iteration}
-use Rattle.pli_type.specs.StatementTyping.{call_typed, goto_typed, return_typed, WithProcedures, alone, of_own, together, made, head_of}
-use Rattle.pli_type.specs.StatementTyping.{procedure_of, on_unit_of, as_procedure, put_before, inside, after_limits, in_group, in_begin, in_on_unit, in_procedure, only}
-use Rattle.pli_type.specs.StatementTyping.{statement_typed, body_typed, alternative_typed, statements_typed}
-use Rattle.pli_resolve.specs.TreeBlocks as blocks
-use Rattle.pli_type.specs.Temporaries.{Next, next_after, limits_kept, based_among, temporaries_in, temporaries_of, temporaries_among, temporaries_in_else}
-use Rattle.pli_type.specs.TypingSteps.{items, allocate_typed, free_typed}
+use Rattle.pli_type_rules.specs.Checked.{in_unit, first_inside, external_of, unit_of, typed_as, checked}
+use Rattle.pli_type_rules.specs.Names.{NamedUnit}
+use Rattle.pli_type_rules.specs.StatementTyping.{Surroundings, naming_at, block_at, leaves_nothing, assignment, condition, iteration}
+use Rattle.pli_type_rules.specs.StatementTyping.{call_typed, goto_typed, return_typed, WithProcedures, alone, of_own, together, made, head_of}
+use Rattle.pli_type_rules.specs.StatementTyping.{procedure_of, on_unit_of, as_procedure, put_before, inside, after_limits, in_group, in_begin, in_on_unit, in_procedure, only}
+use Rattle.pli_type_rules.specs.StatementTyping.{statement_typed, body_typed, alternative_typed, statements_typed}
+use Rattle.pli_declare.specs.TreeBlocks as blocks
+use Rattle.pli_type_rules.specs.Temporaries.{Next, next_after, limits_kept, based_among, temporaries_in, temporaries_of, temporaries_among, temporaries_in_else}
+use Rattle.pli_type_rules.specs.TypingSteps.{items, allocate_typed, free_typed}
 use Rattle.pli_type_laws.proofs.Counting.{same, below, below_next, below_bound, in_blocks, of_blocks, in_both, of_both}
 use Rattle.pli_type_laws.proofs.Counting.{blocks_placed, ordered_distinct}
 use Rattle.pli_type_laws.proofs.Denotations.{OnRead}
@@ -32,10 +32,10 @@ use Rattle.pli_type_laws.proofs.Shapes.{IsSimple, simple_assignment, simple_goto
 use Rattle.pli_type_laws.proofs.TypedParts.{OnTyped, on_given, unit_given}
 use Rattle.pli_type_laws.proofs.UnitsNamed.{Given, ListNamed, Named, Placed, all_parts, gives_all, list_named}
 use Rattle.pli_type_laws.specs.TypedUnits.{TypedUnitsAreNumbered}
-use Rattle.pli_type_name_laws.proofs.InitialHeld.{all_after}
-use Rattle.pli_type_name_laws.specs.NameFacts.{KnowsBased}
-use Rattle.pli_type_name_laws.specs.Nesting.{NestsWithin, BodyNests, ListNests, ElseNests}
-use Rattle.pli_type_name_laws.specs.Numbering.{IsNumbered, IsNumberedBody, AreNumbered, IsNumberedElse}
+use Rattle.pli_type_laws.proofs.InitialHeld.{all_after}
+use Rattle.pli_type_laws.specs.NameFacts.{KnowsBased}
+use Rattle.pli_type_laws.specs.Nesting.{NestsWithin, BodyNests, ListNests, ElseNests}
+use Rattle.pli_type_laws.specs.Numbering.{IsNumbered, IsNumberedBody, AreNumbered, IsNumberedElse}
 use Rattle.pli_type_tree.specs.Iterations.{is_iterated}
 use Rattle.pli_type_tree.specs.TypedTree as typed
 use Rattle.pli_type_tree.specs.TypedTree.{TypedExpression, Iteration, Form, TypedStatement, TypedStatements, NoStatement, StatementThen}

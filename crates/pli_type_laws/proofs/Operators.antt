@@ -10,12 +10,12 @@ use Rattle.pli_operation.specs.declared.operation.Operation.{Operation}
 use Rattle.pli_operation.specs.declared.operation.Operation.TheVariants.{Negate, Not, FromBits, Add, Subtract, Multiply, Compare, Concatenate, And, Or}
 use Rattle.pli_operation.specs.declared.operation.Relation.{Relation}
 use Rattle.pli_operation.specs.declared.operation.Relation.TheVariants.{Equal, Unequal, Less, AtMost, Greater, AtLeast}
-use Rattle.pli_type.specs.ExpressionTypes.{TypedValue, precision_of, precisions, paired, with_one, with_two, with_not}
-use Rattle.pli_type.specs.ExpressionTypes.{prefix_value, infix_value, on_numbers, sum_precision, product_precision}
-use Rattle.pli_type.specs.ExpressionTypes.{string_type, string_as, on_strings, as_bits, is_locator, as_pointer, as_offset, are_offsets, compared, locators_compared, locators_beside, comparison, concatenation, of_bits_alone}
-use Rattle.pli_type.specs.TypingSteps.{with_plus, with_minus}
-use Rattle.pli_type.specs.declared.expression_type.ExpressionType.{ExpressionType}
-use Rattle.pli_type.specs.declared.expression_type.ExpressionType.TheVariants as types
+use Rattle.pli_type_rules.specs.ExpressionTypes.{TypedValue, precision_of, precisions, paired, with_one, with_two, with_not}
+use Rattle.pli_type_rules.specs.ExpressionTypes.{prefix_value, infix_value, on_numbers, sum_precision, product_precision}
+use Rattle.pli_type_rules.specs.ExpressionTypes.{string_type, string_as, on_strings, as_bits, is_locator, as_pointer, as_offset, are_offsets, compared, locators_compared, locators_beside, comparison, concatenation, of_bits_alone}
+use Rattle.pli_type_rules.specs.TypingSteps.{with_plus, with_minus}
+use Rattle.pli_type_rules.specs.declared.expression_type.ExpressionType.{ExpressionType}
+use Rattle.pli_type_rules.specs.declared.expression_type.ExpressionType.TheVariants as types
 use Rattle.pli_type_laws.proofs.Conversions.{OnGiven, pointer_made, offset_made}
 use Rattle.pli_type_laws.specs.ExpressionTyping.{HasType, IsShort, IsNumber, AreNear}
 use Rattle.pli_type_tree.specs.TypedTree.{Operate, TypedOperation, TypedExpression}

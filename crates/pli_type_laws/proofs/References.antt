@@ -8,22 +8,22 @@ use Rattle.pli_base.specs.declared.token.Fault.{Fault}
 use Rattle.pli_map.specs.Description.{Description, Pointer, Offset}
 use Rattle.pli_map.specs.ParameterTypes.{ParameterType, Stated, AnyString, AnyArray, ArrayOf, StructureOf, stated, type_if, element_type, is_aggregate_type}
 use Rattle.pli_map.specs.Scalars.{is_aggregate}
-use Rattle.pli_type.specs.ExpressionTypes.{all_operands}
-use Rattle.pli_type.specs.NamedUnits.{is_plain, may_stand, are_dimensions, are_bounds, is_any_length, is_open_element, may_be}
-use Rattle.pli_type.specs.Names.{LocatorVariable, OfPointer, OfOffset, NamedStorage, Begins, IsBased, NamedVariable}
-use Rattle.pli_type.specs.References.{Role, wants_scalar, StridedPart, part_of, with_subscripts, subscripts_at, reference_to, Referent}
-use Rattle.pli_type.specs.References.{LocatorBefore, NotLocated, LocatedBy, LocatedWrongly, pointer_of, root_by, is_passed}
-use Rattle.pli_type.specs.References.{permitted, referent_from, settled, open_part, open_reference, open_referent, open_settled, passed_root, whole_meant}
-use Rattle.pli_type.specs.References.{variable_meant, locator_at, located_by}
-use Rattle.pli_type.specs.TypingSteps.{begins_somewhere}
-use Rattle.pli_type.specs.declared.beginning.Beginning.{Beginning}
+use Rattle.pli_type_rules.specs.ExpressionTypes.{all_operands}
+use Rattle.pli_type_rules.specs.NamedUnits.{is_plain, may_stand, are_dimensions, are_bounds, is_any_length, is_open_element, may_be}
+use Rattle.pli_type_rules.specs.Names.{LocatorVariable, OfPointer, OfOffset, NamedStorage, Begins, IsBased, NamedVariable}
+use Rattle.pli_type_rules.specs.References.{Role, wants_scalar, StridedPart, part_of, with_subscripts, subscripts_at, reference_to, Referent}
+use Rattle.pli_type_rules.specs.References.{LocatorBefore, NotLocated, LocatedBy, LocatedWrongly, pointer_of, root_by, is_passed}
+use Rattle.pli_type_rules.specs.References.{permitted, referent_from, settled, open_part, open_reference, open_referent, open_settled, passed_root, whole_meant}
+use Rattle.pli_type_rules.specs.References.{variable_meant, locator_at, located_by}
+use Rattle.pli_type_rules.specs.TypingSteps.{begins_somewhere}
+use Rattle.pli_type_rules.specs.declared.beginning.Beginning.{Beginning}
 use Rattle.pli_type_laws.proofs.Conversions.{OnGiven}
 use Rattle.pli_type_laws.proofs.Denotations.{OnRead, IsOfWhole, IsReferent}
 use Rattle.pli_type_tree.specs.TypedTree.{Root, Stride, TypedExpression, TypedReference}
 use Rattle.pli_type_tree.specs.ValueTypes.{Numbers, Pointers}
 use Rattle.pli_type_tree.specs.WellTyped.{TypingContext, BeginsWhole, IsTyped, IsRooted, IsPlaced, AreSubscripts, AreNumbers, LeadTo, operand_count}
-use Rattle.pli_type_name_laws.proofs.PlainDescriptions.{plain_stands}
-use Rattle.pli_type_name_laws.specs.NameFacts.{IsAreaNamed, IsLocatorThere, IsImplied, IsStoredIn}
+use Rattle.pli_type_laws.proofs.PlainDescriptions.{plain_stands}
+use Rattle.pli_type_laws.specs.NameFacts.{IsAreaNamed, IsLocatorThere, IsImplied, IsStoredIn}
 
 -- what is read after what was read
 pub read_then : {A B : Type 0} (P : A → Type 0) (Q : B → Type 0) (r : Result A Fault) (f : A → Result B Fault)

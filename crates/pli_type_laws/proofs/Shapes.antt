@@ -15,21 +15,21 @@ use Rattle.pli_map.specs.Description.{Description}
 use Rattle.pli_map.specs.ParameterTypes.{ParameterType, Stated, AnyString, is_aggregate_type}
 use Rattle.pli_map.specs.Scalars.{is_area}
 use Rattle.pli_map.specs.declared.parameter.StringForm.{StringForm}
-use Rattle.pli_type.specs.AllocationTyping.{in_turn, place_given, locator_set, placed_within, placed_freely, placed_in, placed_by, taken_in, taken, allocated, all_allocated, freed}
-use Rattle.pli_type.specs.Beginnings.{area_meant, whole_at}
-use Rattle.pli_type.specs.ExpressionTypes.{TypedValue, converted, conversion_to, suited_to_form}
-use Rattle.pli_type.specs.FunctionCalls.{Denoted, DenotesVariable, DenotesResult, DenotesEmpty, area_of, Meant, OneValue, WholeAggregate, Argument}
-use Rattle.pli_type.specs.NamedUnits.{is_based_whole, names_based}
-use Rattle.pli_type.specs.Names.{LocatorVariable, OfPointer, OfOffset, NamedStorage, Begins, IsBased, NamedAs, AVariable, AFunction, AProcedure, ALabel, Untyped, Naming}
-use Rattle.pli_type.specs.ProcedureCalls.{arguments_passed}
-use Rattle.pli_type.specs.References.{AsArgument, AsLocator, AsTarget, AsValue, Referent}
-use Rattle.pli_type.specs.StatementTyping.{are_alike, aggregate_assigned, area_put, area_assigned, scalar_assigned, string_assigned, one_assigned, variable_assigned, assigned, assignment, Surroundings, label_found, jump, goto_typed}
-use Rattle.pli_type.specs.StatementTyping.{arguments_typed, no_function, call_of, call_typed, area_here, returned_value, return_typed}
-use Rattle.pli_type.specs.StatementTyping.{limit, limits, controls, turned, with_repeat, has_locator, iteration}
-use Rattle.pli_type.specs.Temporaries.{limits_kept, based_among}
-use Rattle.pli_type.specs.Typing.{first_token, own_token, or_fault, denoted, meant, referred, value_of}
-use Rattle.pli_type.specs.TypingSteps.{jump_to, allocate_typed, free_typed, possible_condition}
-use Rattle.pli_type.specs.declared.beginning.Beginning.{Beginning}
+use Rattle.pli_type_rules.specs.AllocationTyping.{in_turn, place_given, locator_set, placed_within, placed_freely, placed_in, placed_by, taken_in, taken, allocated, all_allocated, freed}
+use Rattle.pli_type_rules.specs.Beginnings.{area_meant, whole_at}
+use Rattle.pli_type_rules.specs.ExpressionTypes.{TypedValue, converted, conversion_to, suited_to_form}
+use Rattle.pli_type_rules.specs.FunctionCalls.{Denoted, DenotesVariable, DenotesResult, DenotesEmpty, area_of, Meant, OneValue, WholeAggregate, Argument}
+use Rattle.pli_type_rules.specs.NamedUnits.{is_based_whole, names_based}
+use Rattle.pli_type_rules.specs.Names.{LocatorVariable, OfPointer, OfOffset, NamedStorage, Begins, IsBased, NamedAs, AVariable, AFunction, AProcedure, ALabel, Untyped, Naming}
+use Rattle.pli_type_rules.specs.ProcedureCalls.{arguments_passed}
+use Rattle.pli_type_rules.specs.References.{AsArgument, AsLocator, AsTarget, AsValue, Referent}
+use Rattle.pli_type_rules.specs.StatementTyping.{are_alike, aggregate_assigned, area_put, area_assigned, scalar_assigned, string_assigned, one_assigned, variable_assigned, assigned, assignment, Surroundings, label_found, jump, goto_typed}
+use Rattle.pli_type_rules.specs.StatementTyping.{arguments_typed, no_function, call_of, call_typed, area_here, returned_value, return_typed}
+use Rattle.pli_type_rules.specs.StatementTyping.{limit, limits, controls, turned, with_repeat, has_locator, iteration}
+use Rattle.pli_type_rules.specs.Temporaries.{limits_kept, based_among}
+use Rattle.pli_type_rules.specs.Typing.{first_token, own_token, or_fault, denoted, meant, referred, value_of}
+use Rattle.pli_type_rules.specs.TypingSteps.{jump_to, allocate_typed, free_typed, possible_condition}
+use Rattle.pli_type_rules.specs.declared.beginning.Beginning.{Beginning}
 use Rattle.pli_type_laws.proofs.Conversions.{OnGiven}
 use Rattle.pli_type_laws.proofs.Denotations.{OnRead}
 use Rattle.pli_type_laws.proofs.Expressions.{read_option}

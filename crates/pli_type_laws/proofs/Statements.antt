@@ -8,18 +8,18 @@ use Rattle.pli_base.specs.declared.token.Fault.{Fault}
 use Rattle.pli_map.specs.Description.{Description}
 use Rattle.pli_map.specs.ParameterTypes.{ParameterType, Stated}
 use Rattle.pli_meaning_typed.specs.TypedPrograms.{HasEnd, context_in}
-use Rattle.pli_resolve.specs.declared.block_numbers.ResolvedBlockKind.TheVariants as kinds
-use Rattle.pli_type.specs.Names.{NamedUnit, NamedAs}
-use Rattle.pli_type.specs.declared.beginning.Beginning.{Beginning}
-use Rattle.pli_type.specs.StatementTyping as source
-use Rattle.pli_type.specs.StatementTyping.{Enclosing, Surroundings, naming_at, block_at, leaves_nothing, assignment, function_end}
-use Rattle.pli_type.specs.StatementTyping.{condition, iteration, call_typed, goto_typed, return_typed, WithProcedures, of_own, together}
-use Rattle.pli_type.specs.StatementTyping.{made, head_of, procedure_of, on_unit_of, as_procedure, put_before, inside, after_limits}
-use Rattle.pli_type.specs.StatementTyping.{alone, lasting_alone, listed, only, says_nothing}
-use Rattle.pli_type.specs.StatementTyping.{statement_typed, body_typed, alternative_typed, statements_typed}
-use Rattle.pli_resolve.specs.TreeBlocks as blocks
-use Rattle.pli_type.specs.Temporaries.{Next, next_after}
-use Rattle.pli_type.specs.TypingSteps.{items, allocate_typed, free_typed}
+use Rattle.pli_declare.specs.declared.block_numbers.ResolvedBlockKind.TheVariants as kinds
+use Rattle.pli_type_rules.specs.Names.{NamedUnit, NamedAs}
+use Rattle.pli_type_rules.specs.declared.beginning.Beginning.{Beginning}
+use Rattle.pli_type_rules.specs.StatementTyping as source
+use Rattle.pli_type_rules.specs.StatementTyping.{Enclosing, Surroundings, naming_at, block_at, leaves_nothing, assignment, function_end}
+use Rattle.pli_type_rules.specs.StatementTyping.{condition, iteration, call_typed, goto_typed, return_typed, WithProcedures, of_own, together}
+use Rattle.pli_type_rules.specs.StatementTyping.{made, head_of, procedure_of, on_unit_of, as_procedure, put_before, inside, after_limits}
+use Rattle.pli_type_rules.specs.StatementTyping.{alone, lasting_alone, listed, only, says_nothing}
+use Rattle.pli_type_rules.specs.StatementTyping.{statement_typed, body_typed, alternative_typed, statements_typed}
+use Rattle.pli_declare.specs.TreeBlocks as blocks
+use Rattle.pli_type_rules.specs.Temporaries.{Next, next_after}
+use Rattle.pli_type_rules.specs.TypingSteps.{items, allocate_typed, free_typed}
 use Rattle.pli_type_laws.proofs.Allocations.{allocate_is_typed, free_is_typed}
 use Rattle.pli_type_laws.proofs.BlocksKnown.{Within, within_self, within_both, within_after, begun_count, Sits, sits_parts}
 use Rattle.pli_type_laws.proofs.BlocksKnown.{AreHome, home_labels, home_lasting, StandsDirectly, begin_no_procedure, unit_no_procedure}
@@ -31,10 +31,10 @@ use Rattle.pli_type_laws.proofs.Forms.{iteration_typed}
 use Rattle.pli_type_laws.proofs.TypedParts.{OnTyped, typed_map, has_front, has_back, covers_more, IsOurs, ours_both}
 use Rattle.pli_type_laws.proofs.TypedParts.{Typed, typed_made, typed_own, typed_with, typed_both, with_list}
 use Rattle.pli_type_laws.specs.TypedUnits.{unit_with}
-use Rattle.pli_type_name_laws.proofs.BlocksOfUnits.{innermost_lasting}
-use Rattle.pli_type_name_laws.specs.NameFacts.{IsAreaNamed, NameFacts}
-use Rattle.pli_type_name_laws.specs.SourceBlocks.{SourceBlock, unit_blocks, innermost, known_blocks, known_procedures, begun_in, begun_by}
-use Rattle.pli_type_name_laws.specs.SourceBlocks.{begun_among, begun_after}
+use Rattle.pli_type_laws.proofs.BlocksOfUnits.{innermost_lasting}
+use Rattle.pli_type_laws.specs.NameFacts.{IsAreaNamed, NameFacts}
+use Rattle.pli_type_laws.specs.SourceBlocks.{SourceBlock, unit_blocks, innermost, known_blocks, known_procedures, begun_in, begun_by}
+use Rattle.pli_type_laws.specs.SourceBlocks.{begun_among, begun_after}
 use Rattle.pli_type_tree.specs.Templates.{Template}
 use Rattle.pli_type_tree.specs.TypedTree as typed
 use Rattle.pli_type_tree.specs.TypedTree.{Form, TypedStatement, TypedStatements, NoStatement, NoElse, Else}

@@ -9,12 +9,12 @@ use Rattle.std.proofs.lemmas.Option.{same_Some, none-some}
 use Rattle.pli_base.specs.declared.token.Fault.{Fault}
 use Rattle.pli_meaning_tree.specs.TreeMeaning.{procedure_in}
 use Rattle.pli_meaning_typed.specs.TypedPrograms.{IsTypedProcedure}
-use Rattle.pli_resolve.specs.declared.block_numbers.ResolvedBlockKind.TheVariants as kinds
-use Rattle.pli_type.specs.Checked.{typed_as, unit_of}
-use Rattle.pli_type.specs.Names.{NamedUnit}
-use Rattle.pli_type.specs.StatementTyping.{WithProcedures, of_own, together, made}
+use Rattle.pli_declare.specs.declared.block_numbers.ResolvedBlockKind.TheVariants as kinds
+use Rattle.pli_type_rules.specs.Checked.{typed_as, unit_of}
+use Rattle.pli_type_rules.specs.Names.{NamedUnit}
+use Rattle.pli_type_rules.specs.StatementTyping.{WithProcedures, of_own, together, made}
 use Rattle.pli_type_laws.proofs.Denotations.{OnRead}
-use Rattle.pli_type_name_laws.specs.SourceBlocks.{SourceBlock, known_procedures}
+use Rattle.pli_type_laws.specs.SourceBlocks.{SourceBlock, known_procedures}
 use Rattle.pli_type_tree.specs.TypedTree.{TypedProcedure, TypedStatements, TypedUnit}
 use Rattle.pli_type_tree.specs.WellTyped.{KnownProcedure, TypingContext, AreTypedStatements}
 

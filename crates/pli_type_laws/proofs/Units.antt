@@ -9,22 +9,22 @@ use Rattle.pli_map.specs.Description.{Description}
 use Rattle.pli_map.specs.ParameterTypes.{ParameterType}
 use Rattle.pli_meaning_tree.specs.TreeMeaning.{procedure_in}
 use Rattle.pli_meaning_typed.specs.TypedPrograms.{IsTypedProcedure, IsTypedUnit, context_in}
-use Rattle.pli_resolve.specs.declared.block_numbers.ResolvedBlockKind.{ResolvedBlockKind}
-use Rattle.pli_resolve.specs.declared.block_numbers.ResolvedBlockKind.TheVariants as kinds
-use Rattle.pli_type.specs.Checked.{in_unit, first_inside, external_of, unit_of, checked}
-use Rattle.pli_type.specs.Names.{NamedUnit, NamedAs}
-use Rattle.pli_type.specs.declared.beginning.Beginning.{Beginning}
-use Rattle.pli_type.specs.StatementTyping as source
-use Rattle.pli_type.specs.StatementTyping.{enclosing, WithProcedures, statements_typed}
+use Rattle.pli_declare.specs.declared.block_numbers.ResolvedBlockKind.{ResolvedBlockKind}
+use Rattle.pli_declare.specs.declared.block_numbers.ResolvedBlockKind.TheVariants as kinds
+use Rattle.pli_type_rules.specs.Checked.{in_unit, first_inside, external_of, unit_of, checked}
+use Rattle.pli_type_rules.specs.Names.{NamedUnit, NamedAs}
+use Rattle.pli_type_rules.specs.declared.beginning.Beginning.{Beginning}
+use Rattle.pli_type_rules.specs.StatementTyping as source
+use Rattle.pli_type_rules.specs.StatementTyping.{enclosing, WithProcedures, statements_typed}
 use Rattle.pli_type_laws.proofs.BlocksKnown.{Within, within_self, Sits, sits_all, AreHome, StandsDirectly, AreDirect, direct_among, direct_at}
 use Rattle.pli_type_laws.proofs.Contexts.{Knows, own_procedure}
 use Rattle.pli_type_laws.proofs.Statements.{has_end, list_is_typed, labels_kept}
 use Rattle.pli_type_laws.proofs.TypedParts.{OnTyped, on_given, unit_given, typed_map, Has, has_back, Covers, covers_more, covered, found_among, IsOurs}
 use Rattle.pli_type_laws.proofs.TypedParts.{AreOurs, ours_found, Typed, with_list}
 use Rattle.pli_type_laws.specs.TypedUnits.{TypedUnitsAreTyped, unit_with}
-use Rattle.pli_type_name_laws.specs.NameFacts.{NameFacts}
-use Rattle.pli_type_name_laws.specs.Nesting.{ListNests}
-use Rattle.pli_type_name_laws.specs.SourceBlocks.{SourceBlock, unit_blocks, procedure_known, known_procedures, begun_among}
+use Rattle.pli_type_laws.specs.NameFacts.{NameFacts}
+use Rattle.pli_type_laws.specs.Nesting.{ListNests}
+use Rattle.pli_type_laws.specs.SourceBlocks.{SourceBlock, unit_blocks, procedure_known, known_procedures, begun_among}
 use Rattle.pli_type_tree.specs.Templates.{Template}
 use Rattle.pli_type_tree.specs.TypedTree.{Global, TypedProcedure, TypedStatements, TypedUnit}
 use Rattle.pli_type_tree.specs.WellTyped as trees

@@ -14,20 +14,20 @@ use Rattle.pli_gen.specs.laws.ListLaws.{all_front, all_back}
 use Rattle.pli_gen.specs.WellNumbered.{IsOnUnitIn, NamesOnUnits, NamesUnitsForm, NamesUnitsElse, NameUnits}
 use Rattle.pli_map.specs.Description.{Description}
 use Rattle.pli_program.specs.Program.{OnUnit}
-use Rattle.pli_type.specs.AllocationTyping.{all_allocated}
-use Rattle.pli_type.specs.Names.{NamedUnit}
-use Rattle.pli_type.specs.StatementTyping.{Enclosing, Surroundings, WithProcedures, naming_at, block_at, labels_of, with_labels, in_group, in_begin}
-use Rattle.pli_type.specs.StatementTyping.{in_procedure, in_on_unit, only, inside, after_limits, head_of, procedure_of, on_unit_of}
-use Rattle.pli_type.specs.StatementTyping.{as_procedure, alone, of_own, made, together, put_before, says_nothing}
-use Rattle.pli_type.specs.StatementTyping.{assignment, condition, iteration, call_typed, goto_typed, return_typed}
-use Rattle.pli_type.specs.StatementTyping.{statement_typed, body_typed, alternative_typed, statements_typed}
-use Rattle.pli_type.specs.Temporaries.{Next, next_after}
-use Rattle.pli_type.specs.TypingSteps.{put_form, if_form, items, free_typed}
+use Rattle.pli_type_rules.specs.AllocationTyping.{all_allocated}
+use Rattle.pli_type_rules.specs.Names.{NamedUnit}
+use Rattle.pli_type_rules.specs.StatementTyping.{Enclosing, Surroundings, WithProcedures, naming_at, block_at, labels_of, with_labels, in_group, in_begin}
+use Rattle.pli_type_rules.specs.StatementTyping.{in_procedure, in_on_unit, only, inside, after_limits, head_of, procedure_of, on_unit_of}
+use Rattle.pli_type_rules.specs.StatementTyping.{as_procedure, alone, of_own, made, together, put_before, says_nothing}
+use Rattle.pli_type_rules.specs.StatementTyping.{assignment, condition, iteration, call_typed, goto_typed, return_typed}
+use Rattle.pli_type_rules.specs.StatementTyping.{statement_typed, body_typed, alternative_typed, statements_typed}
+use Rattle.pli_type_rules.specs.Temporaries.{Next, next_after}
+use Rattle.pli_type_rules.specs.TypingSteps.{put_form, if_form, items, free_typed}
 use Rattle.pli_type_laws.proofs.Denotations.{OnRead}
 use Rattle.pli_type_laws.proofs.NumberedParts.{blocks_within}
 use Rattle.pli_type_laws.proofs.Shapes.{IsSimple, simple_assignment, simple_goto, simple_call, simple_return, simple_free}
 use Rattle.pli_type_laws.proofs.TypedParts.{OnTyped}
-use Rattle.pli_type_name_laws.proofs.InitialHeld.{all_after}
+use Rattle.pli_type_laws.proofs.InitialHeld.{all_after}
 use Rattle.pli_type_tree.specs.TypedTree as typed
 use Rattle.pli_type_tree.specs.TypedTree.{AllocatedItem, Form, OtherWise, Else, TypedExpression, TypedProcedure, TypedStatement}
 use Rattle.pli_type_tree.specs.TypedTree.{TypedStatements, NoStatement}

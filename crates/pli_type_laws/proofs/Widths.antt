@@ -3,7 +3,7 @@ use Rattle.std.specs.Prelude.{◌≡◌, ℕ, zero, suc, ◌+◌, ◌^◌, ◌�
 use Rattle.std.proofs.Common.{arith, sym, subst, lit<}
 use Rattle.std.proofs.Math.Nat.{pow-le-pow_right}
 use Rattle.std.proofs.lemmas.Bool.{and_parts, leb-true, eqb-true}
-use Rattle.pli_type.specs.ExpressionTypes.{columns, decimal_digits}
+use Rattle.pli_type_rules.specs.ExpressionTypes.{columns, decimal_digits}
 use Rattle.pli_type_laws.specs.ExpressionTyping.{AreNear}
 use Rattle.pli_type_tree.specs.ValueTypes.{HaveColumns}
 

@@ -2,7 +2,7 @@
 use Rattle.std.specs.Prelude.{◌≡◌, ◌<◌, ◌≤◌, ◌^◌, pos, length}
 use Rattle.pli_base.specs.declared.syntax.ConstantValue.{ConstantValue}
 use Rattle.pli_base.specs.declared.syntax.ConstantValue.TheVariants as constants
-use Rattle.pli_type.specs.ExpressionTypes.{literal_value}
+use Rattle.pli_type_rules.specs.ExpressionTypes.{literal_value}
 use Rattle.pli_type_tree.specs.ValueTypes.{longest}
 use Rattle.pli_value.specs.Value.{Value, Number, Characters, Bits}
 

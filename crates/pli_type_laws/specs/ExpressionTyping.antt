@@ -1,11 +1,11 @@
 -- What expressions that the type checker gives hold (own): values of their types.
 use Rattle.std.specs.Prelude.{◌≡◌, ℕ, ◌≤◌, ◌*◌, Option, Some}
 use Rattle.pli_map.specs.Description.{Description}
-use Rattle.pli_type.specs.ExpressionTypes.{TypedValue, columns, binary_digits, converted, printed}
-use Rattle.pli_type.specs.declared.beginning.Beginning.{Beginning}
-use Rattle.pli_type.specs.declared.expression_type.ExpressionType.{ExpressionType}
-use Rattle.pli_type.specs.declared.expression_type.ExpressionType.TheVariants as types
-use Rattle.pli_type_name_laws.specs.NameFacts.{IsAreaNamed}
+use Rattle.pli_type_rules.specs.ExpressionTypes.{TypedValue, columns, binary_digits, converted, printed}
+use Rattle.pli_type_rules.specs.declared.beginning.Beginning.{Beginning}
+use Rattle.pli_type_rules.specs.declared.expression_type.ExpressionType.{ExpressionType}
+use Rattle.pli_type_rules.specs.declared.expression_type.ExpressionType.TheVariants as types
+use Rattle.pli_type_laws.specs.NameFacts.{IsAreaNamed}
 use Rattle.pli_type_tree.specs.TypedTree.{TypedExpression}
 use Rattle.pli_type_tree.specs.ValueTypes.{StringKind, Numbers, Strings, Pointers, Offsets, OfCharacters}
 use Rattle.pli_type_tree.specs.ValueTypes.{OfBits}

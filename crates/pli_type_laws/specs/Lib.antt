@@ -1,3 +1,10 @@
 pub mod ConstantLaws
 pub mod ExpressionTyping
 pub mod TypedUnits
+pub mod NameFacts
+pub mod Nesting
+pub mod Numbering
+pub mod SourceBlocks
+pub mod UnitBlocks
+pub mod examples
+pub mod laws

@@ -9,14 +9,14 @@ use Rattle.pli_meaning_typed.specs.TypedPrograms.{IsTypedUnit}
 use Rattle.pli_parse_expression.specs.Expressions.{Deeper}
 use Rattle.pli_parse_expression.specs.Operators.{nesting_limit}
 use Rattle.pli_parse_statement.specs.StatementReading.{unit_of}
-use Rattle.pli_resolve.specs.ResolvedUnits.{resolved_unit_of}
-use Rattle.pli_type.specs.Checked.{checked}
-use Rattle.pli_type.specs.NamedUnits.{checked_unit}
-use Rattle.pli_type.specs.Names.{NamedAs, NamedUnit}
-use Rattle.pli_type.specs.declared.beginning.Beginning.{Beginning}
-use Rattle.pli_type_name_laws.specs.NameFacts.{KnowsBased, NameFacts}
-use Rattle.pli_type_name_laws.specs.Nesting.{ListNests}
-use Rattle.pli_type_name_laws.specs.Numbering.{AreNumbered}
+use Rattle.pli_declare.specs.ResolvedUnits.{resolved_unit_of}
+use Rattle.pli_type_rules.specs.Checked.{checked}
+use Rattle.pli_type_rules.specs.NamedUnits.{checked_unit}
+use Rattle.pli_type_rules.specs.Names.{NamedAs, NamedUnit}
+use Rattle.pli_type_rules.specs.declared.beginning.Beginning.{Beginning}
+use Rattle.pli_type_laws.specs.NameFacts.{KnowsBased, NameFacts}
+use Rattle.pli_type_laws.specs.Nesting.{ListNests}
+use Rattle.pli_type_laws.specs.Numbering.{AreNumbered}
 use Rattle.pli_type_tree.specs.Templates.{Template}
 use Rattle.pli_type_tree.specs.TypedTree.{Global, TypedUnit}
 

@@ -3,12 +3,12 @@ use Rattle.std.proofs.Common.{◌≡◌, ℕ, Option, Some, None, [], map, optio
 use Rattle.std.specs.Option.{option_and_then}
 use Rattle.std.specs.Prelude.{if◌then◌else◌}
 use Rattle.pli_base.specs.views.StatementView.{unit_view}
-use Rattle.pli_resolve.specs.ResolvedUnits.{ResolvedUnit, ResolvedBlock, meaning_at, resolved_unit_of, symbol_at}
-use Rattle.pli_resolve.specs.declared.built_in.BuiltInFunction.{BuiltInFunction}
-use Rattle.pli_resolve.specs.declared.symbol.NameMeaning.TheVariants as meanings
-use Rattle.pli_resolve.specs.declared.symbol.SymbolKey.{SymbolKey}
-use Rattle.pli_type.specs.NamedUnits.{area_named, area_returned_by, block_symbols, declared_as, type_in, is_procedure, named_as, of_block}
-use Rattle.pli_type.specs.NamedUnits.{parameters_of, returned_area_of, returned_by, returned_of}
+use Rattle.pli_declare.specs.ResolvedUnits.{ResolvedUnit, ResolvedBlock, meaning_at, resolved_unit_of, symbol_at}
+use Rattle.pli_declare.specs.declared.built_in.BuiltInFunction.{BuiltInFunction}
+use Rattle.pli_declare.specs.declared.symbol.NameMeaning.TheVariants as meanings
+use Rattle.pli_declare.specs.declared.symbol.SymbolKey.{SymbolKey}
+use Rattle.pli_type_rules.specs.NamedUnits.{area_named, area_returned_by, block_symbols, declared_as, type_in, is_procedure, named_as, of_block}
+use Rattle.pli_type_rules.specs.NamedUnits.{parameters_of, returned_area_of, returned_by, returned_of}
 use Rattle.pli_type_names.specs.BlockEntries.{BlockEntry, area_of, entry_at, parameters_in, returned_in}
 use Rattle.pli_type_names.specs.SymbolMeaning.{IsMeantAs}
 use Rattle.pli_type_names.specs.Seen.{seen}

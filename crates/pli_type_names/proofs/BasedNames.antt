@@ -1,11 +1,11 @@
 -- Which names are those of BASED variables, by the answers about names.
 use Rattle.std.proofs.Common.{◌≡◌, ℕ, false, not, ◌&&◌, List, [], ◌∷◌, refl, ap, ◌∙◌}
 use Rattle.pli_base.specs.views.StatementView.{unit_view}
-use Rattle.pli_resolve.specs.ResolvedUnits.{meaning_at, resolved_unit_of}
-use Rattle.pli_resolve.specs.declared.built_in.BuiltInFunction.{BuiltInFunction}
-use Rattle.pli_type.specs.Names.{NamedAs, NamedStorage, Begins, IsBased, AVariable, AFunction, AProcedure, ALabel, Untyped}
-use Rattle.pli_type.specs.NamedUnits.{is_based_whole, names_based}
-use Rattle.pli_type.proofs.BasedNames.{named_anywhere}
+use Rattle.pli_declare.specs.ResolvedUnits.{meaning_at, resolved_unit_of}
+use Rattle.pli_declare.specs.declared.built_in.BuiltInFunction.{BuiltInFunction}
+use Rattle.pli_type_rules.specs.Names.{NamedAs, NamedStorage, Begins, IsBased, AVariable, AFunction, AProcedure, ALabel, Untyped}
+use Rattle.pli_type_rules.specs.NamedUnits.{is_based_whole, names_based}
+use Rattle.pli_type_rules.proofs.BasedNames.{named_anywhere}
 use Rattle.pli_type_names.specs.SymbolMeaning.{IsMeantAs, is_way}
 use Rattle.pli_type_names.specs.UnitNaming.{Names, based_in, naming_in}
 use Rattle.pli_type_names.specs.declared.naming.NamedAs.TheVariants as answers

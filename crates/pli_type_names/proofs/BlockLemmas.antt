@@ -6,12 +6,12 @@ use Rattle.std.specs.Option.{unwrap_or}
 use Rattle.std.proofs.lemmas.Grind.{flat_map-append}
 use Rattle.std.proofs.lemmas.List.{append-nil, length-append, length-map, length-replicate, take_all}
 use Rattle.std.proofs.lemmas.Option.{slice_get-get_or, unwrap_or-slice_get}
-use Rattle.pli_resolve.specs.ResolvedUnits.{ResolvedUnit, ResolvedBlock, all_symbols}
-use Rattle.pli_resolve.specs.Symbols.{Symbol}
+use Rattle.pli_declare.specs.ResolvedUnits.{ResolvedUnit, ResolvedBlock, all_symbols}
+use Rattle.pli_declare.specs.Symbols.{Symbol}
 use Rattle.pli_resolve.specs.views.UnitView.{without_symbols}
-use Rattle.pli_type.specs.NamedUnits.{all_tokens, block_symbols, global_tokens, globals_before, globals_in, one_global}
-use Rattle.pli_type.specs.TextOrder.{numbers_from, place_from, text_order, text_places}
-use Rattle.pli_type.proofs.TextNumbers.{numbers_counted}
+use Rattle.pli_type_rules.specs.NamedUnits.{all_tokens, block_symbols, global_tokens, globals_before, globals_in, one_global}
+use Rattle.pli_type_rules.specs.TextOrder.{numbers_from, place_from, text_order, text_places}
+use Rattle.pli_type_rules.proofs.TextNumbers.{numbers_counted}
 use Rattle.pli_type_names.specs.BlockEntries.{BlockEntry, entry_at}
 use Rattle.pli_type_names.specs.BlockFacts.{facts_of}
 use Rattle.pli_type_names.specs.Numbered.{each_from}

@@ -5,9 +5,9 @@ use Rattle.std.proofs.lemmas.Option.{same_Some, none-some}
 use Rattle.pli_map.specs.Description as tree
 use Rattle.pli_map.specs.Description.{Description, Members, Structure}
 use Rattle.pli_map.specs.Parts.{PlacedPart, Member, member_after, part_at}
-use Rattle.pli_type.specs.NamedUnits.{may_stand}
+use Rattle.pli_type_rules.specs.NamedUnits.{may_stand}
 use Rattle.pli_type_names.proofs.PlainLemmas.{PlainMember, plain_step}
-use Rattle.pli_type.specs.References.{StridedPart, element_of, member_of, part_on}
+use Rattle.pli_type_rules.specs.References.{StridedPart, element_of, member_of, part_on}
 use Rattle.pli_type_tree.specs.TypedTree.{Stride}
 use Rattle.pli_map.specs.views.DescriptionView.{members_view}
 use Rattle.pli_type_names.specs.OnWays.{IsLevel, SameStructure, part_in, placed_in}

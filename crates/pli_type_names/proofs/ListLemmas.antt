@@ -4,9 +4,9 @@ use Rattle.std.proofs.Common.{refl, ap, sym, ◌∙◌, arith}
 use Rattle.std.specs.Option.{unwrap_or}
 use Rattle.std.proofs.lemmas.Option.{none-some, same_Some}
 use Rattle.std.proofs.lemmas.List.{append_assoc, at_drop_more, length-append, map-append}
-use Rattle.pli_resolve.specs.Symbols.{Symbol}
-use Rattle.pli_resolve.specs.declared.symbol.Symbol as program
-use Rattle.pli_resolve.specs.views.SymbolView.{symbol_view}
+use Rattle.pli_declare.specs.Symbols.{Symbol}
+use Rattle.pli_declare.specs.declared.symbol.Symbol as program
+use Rattle.pli_declare.specs.views.SymbolView.{symbol_view}
 use Rattle.pli_type_names.proofs.StrideLemmas.{one_more}
 use Rattle.pli_type_names.specs.Numbered.{each_from}
 

@@ -5,17 +5,17 @@ use Rattle.std.specs.Option.{option_and_then}
 use Rattle.std.specs.Prelude.{if◌then◌else◌}
 use Rattle.pli_map.specs.Description.{Description}
 use Rattle.pli_map.specs.ParameterTypes.{ParameterType, Stated, AnyString, AnyArray, ArrayOf, StructureOf, stated}
-use Rattle.pli_resolve.specs.ResolvedUnits.{ResolvedUnit, ResolvedBlock}
-use Rattle.pli_resolve.specs.Symbols.{Symbol, SymbolKind, Variable, OpenParameter, Member, Label, Procedure, Entry, BuiltIn}
-use Rattle.pli_resolve.specs.declared.built_in.BuiltInFunction.{BuiltInFunction}
-use Rattle.pli_resolve.specs.declared.symbol.StorageClass.{StorageClass}
-use Rattle.pli_resolve.specs.declared.symbol.SymbolKey.{SymbolKey}
-use Rattle.pli_type.specs.Names as plain
-use Rattle.pli_type.specs.Names.{Begins, AVariable, AFunction, AProcedure, ALabel, Untyped}
-use Rattle.pli_type.specs.NamedUnits.{area_named, block_symbols, declared_as, gives_stored, global_number, is_procedure, is_reached}
-use Rattle.pli_type.specs.NamedUnits.{named_procedure, returned_area_of, returned_of, stands_around, storage_of}
-use Rattle.pli_type.specs.NamedUnits.{in_slot, is_open_parameter, is_parameter, open_root, open_storage, outward_to, parameter_numbers, symbol_meant, variable_at, variable_from}
-use Rattle.pli_type.specs.References.{StridedPart, part_on, whole_part}
+use Rattle.pli_declare.specs.ResolvedUnits.{ResolvedUnit, ResolvedBlock}
+use Rattle.pli_declare.specs.Symbols.{Symbol, SymbolKind, Variable, OpenParameter, Member, Label, Procedure, Entry, BuiltIn}
+use Rattle.pli_declare.specs.declared.built_in.BuiltInFunction.{BuiltInFunction}
+use Rattle.pli_declare.specs.declared.symbol.StorageClass.{StorageClass}
+use Rattle.pli_declare.specs.declared.symbol.SymbolKey.{SymbolKey}
+use Rattle.pli_type_rules.specs.Names as plain
+use Rattle.pli_type_rules.specs.Names.{Begins, AVariable, AFunction, AProcedure, ALabel, Untyped}
+use Rattle.pli_type_rules.specs.NamedUnits.{area_named, block_symbols, declared_as, gives_stored, global_number, is_procedure, is_reached}
+use Rattle.pli_type_rules.specs.NamedUnits.{named_procedure, returned_area_of, returned_of, stands_around, storage_of}
+use Rattle.pli_type_rules.specs.NamedUnits.{in_slot, is_open_parameter, is_parameter, open_root, open_storage, outward_to, parameter_numbers, symbol_meant, variable_at, variable_from}
+use Rattle.pli_type_rules.specs.References.{StridedPart, part_on, whole_part}
 use Rattle.pli_type_names.specs.BlockEntries.{BlockEntry, entry_at}
 use Rattle.pli_type_names.specs.BlockFacts.{facts_of}
 use Rattle.pli_type_names.specs.SymbolMeaning.{IsMeantAs, is_way}
@@ -23,7 +23,7 @@ use Rattle.pli_type_names.specs.OwnVariables.{begun, own_at, own_variables, plac
 use Rattle.pli_type_names.specs.Seen.{Seen, SeenVariable, SeenFunction, SeenProcedure, SeenLabel, SeenUntyped, seen}
 use Rattle.pli_type_names.specs.Seen.{Kept, KeptVariable, KeptEntry, KeptNothing, area_under, kept_seen, kept_symbols, kind_kept, on_way, open_kept, procedure_seen}
 use Rattle.pli_type_names.specs.Seen.{storage_from, variable_seen}
-use Rattle.pli_type.specs.declared.beginning.Beginning.{Beginning}
+use Rattle.pli_type_rules.specs.declared.beginning.Beginning.{Beginning}
 use Rattle.pli_type_names.specs.declared.naming.NamedAs.{NamedAs}
 use Rattle.pli_type_names.specs.declared.naming.NamedAs.TheVariants as answers
 use Rattle.pli_type_names.specs.declared.place.Location.{Location}

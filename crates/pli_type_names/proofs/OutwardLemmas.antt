@@ -4,7 +4,7 @@ use Rattle.std.specs.Prelude.{if◌then◌else◌}
 use Rattle.std.proofs.lemmas.Bool.{ne_eqb}
 use Rattle.std.proofs.lemmas.List.{at_drop_more, at_drop_all, get_or-reverse, length-reverse}
 use Rattle.std.proofs.lemmas.Option.{slice_get-get_or, slice_get_past}
-use Rattle.pli_type.specs.NamedUnits.{outward_to}
+use Rattle.pli_type_rules.specs.NamedUnits.{outward_to}
 
 -- so many links further
 abbrev pub further : ℕ → Option ℕ → Option ℕ

@@ -3,8 +3,8 @@ use Rattle.std.proofs.Common.{◌≡◌, ℕ, zero, suc, ◌+◌, ◌<◌, ◌�
 use Rattle.std.specs.Prelude.{if◌then◌else◌}
 use Rattle.std.proofs.lemmas.Bool.{cond-true, cond-false, eq-eqb, ne_eqb}
 use Rattle.std.proofs.lemmas.List.{drop_all, drop_more}
-use Rattle.pli_type.specs.TextOrder.{numbers_from, place_from}
-use Rattle.pli_type.proofs.TextNumbers.{numbers_alike}
+use Rattle.pli_type_rules.specs.TextOrder.{numbers_from, place_from}
+use Rattle.pli_type_rules.proofs.TextNumbers.{numbers_alike}
 
 chosen : {A : Type 0} (m n : ℕ) (x y : A) → m ≡ n → (if nat_eq m n then x else y) ≡ x
 chosen m n x y e = cond-true _ _ _ (eq-eqb m n e)

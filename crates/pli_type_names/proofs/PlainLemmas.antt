@@ -12,7 +12,7 @@ use Rattle.pli_map.specs.Sizes.{count_of, size_of, alignment_of, stride_of}
 use Rattle.pli_map.specs.views.DescriptionView.{members_view}
 use Rattle.pli_map.proofs.Places.{fits_stride, member_inside}
 use Rattle.pli_map.specs.Scalars.{is_area}
-use Rattle.pli_type.specs.NamedUnits.{are_bounds, is_plain, all_plain, is_stored, is_valued, may_stand}
+use Rattle.pli_type_rules.specs.NamedUnits.{are_bounds, is_plain, all_plain, is_stored, is_valued, may_stand}
 use Rattle.std.specs.Int.{next_multiple_of}
 
 -- a dimension with subscripts leaves the test of the others

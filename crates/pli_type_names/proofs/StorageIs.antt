@@ -7,19 +7,19 @@ use Rattle.std.specs.Prelude.{if◌then◌else◌}
 use Rattle.pli_map.specs.Description as described
 use Rattle.pli_map.specs.Description.{Description}
 use Rattle.pli_map.specs.ParameterTypes.{ParameterType, Stated, AnyString, AnyArray, ArrayOf, StructureOf}
-use Rattle.pli_resolve.specs.ResolvedUnits.{ResolvedUnit}
-use Rattle.pli_resolve.specs.Symbols.{Symbol, SymbolKind, Variable, OpenParameter, Member, Label, Procedure, Entry, BuiltIn}
-use Rattle.pli_resolve.specs.declared.symbol.StorageClass.{StorageClass}
-use Rattle.pli_resolve.specs.declared.symbol.StorageClass.TheVariants as classes
-use Rattle.pli_resolve.specs.declared.symbol.SymbolKey.{SymbolKey}
-use Rattle.pli_type.specs.Beginnings.{root_at}
-use Rattle.pli_type.specs.Names.{LocatorVariable, Begins, IsBased}
-use Rattle.pli_type.specs.NamedUnits.{area_on, area_in, area_at, area_named, block_symbols, gives_stored, global_number, is_based, is_open_parameter, is_parameter}
-use Rattle.pli_type.specs.NamedUnits.{is_stored, is_valued, parameter_numbers, root_of, locator_part, locator_on, locator_in, locator_meant}
-use Rattle.pli_type.specs.NamedUnits.{locator_named, storage_of, such_before}
-use Rattle.pli_type.specs.References.{StridedPart, part_on, locator_at, reference_to, whole_part}
-use Rattle.pli_type.specs.declared.beginning.Beginning.{Beginning}
-use Rattle.pli_type.specs.declared.beginning.Beginning.TheVariants as beginnings
+use Rattle.pli_declare.specs.ResolvedUnits.{ResolvedUnit}
+use Rattle.pli_declare.specs.Symbols.{Symbol, SymbolKind, Variable, OpenParameter, Member, Label, Procedure, Entry, BuiltIn}
+use Rattle.pli_declare.specs.declared.symbol.StorageClass.{StorageClass}
+use Rattle.pli_declare.specs.declared.symbol.StorageClass.TheVariants as classes
+use Rattle.pli_declare.specs.declared.symbol.SymbolKey.{SymbolKey}
+use Rattle.pli_type_rules.specs.Beginnings.{root_at}
+use Rattle.pli_type_rules.specs.Names.{LocatorVariable, Begins, IsBased}
+use Rattle.pli_type_rules.specs.NamedUnits.{area_on, area_in, area_at, area_named, block_symbols, gives_stored, global_number, is_based, is_open_parameter, is_parameter}
+use Rattle.pli_type_rules.specs.NamedUnits.{is_stored, is_valued, parameter_numbers, root_of, locator_part, locator_on, locator_in, locator_meant}
+use Rattle.pli_type_rules.specs.NamedUnits.{locator_named, storage_of, such_before}
+use Rattle.pli_type_rules.specs.References.{StridedPart, part_on, locator_at, reference_to, whole_part}
+use Rattle.pli_type_rules.specs.declared.beginning.Beginning.{Beginning}
+use Rattle.pli_type_rules.specs.declared.beginning.Beginning.TheVariants as beginnings
 use Rattle.pli_type_names.specs.BlockFacts.{BlockFacts, facts_of}
 use Rattle.pli_type_names.specs.SymbolMeaning.{is_way}
 use Rattle.pli_type_names.specs.OwnVariables.{OwnVariable, begun, global_at, own_at, own_variables, place_at}

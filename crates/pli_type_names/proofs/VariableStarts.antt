@@ -3,13 +3,13 @@ use Rattle.std.proofs.Common.{◌≡◌, ℕ, zero, suc, ◌+◌, ◌<◌, ◌�
 use Rattle.std.proofs.Common.{refl, ap, ◌∙◌, arith}
 use Rattle.std.specs.Prelude.{if◌then◌else◌}
 use Rattle.pli_map.specs.Description.{Description}
-use Rattle.pli_resolve.specs.Symbols as plain
-use Rattle.pli_resolve.specs.Symbols.{SymbolKind, Variable, OpenParameter, Member, Label, Procedure, Entry, BuiltIn}
-use Rattle.pli_resolve.specs.declared.symbol.Symbol.{Symbol}
-use Rattle.pli_resolve.specs.declared.symbol.StorageClass.{StorageClass}
-use Rattle.pli_resolve.specs.declared.symbol.StorageClass.TheVariants as classes
-use Rattle.pli_resolve.specs.views.SymbolView.{symbol_view, symbol_kind_view}
-use Rattle.pli_type.specs.NamedUnits.{is_parameter, is_stored, is_valued, is_automatic, is_based, is_global, one_such, such_before, one_global, globals_before}
+use Rattle.pli_declare.specs.Symbols as plain
+use Rattle.pli_declare.specs.Symbols.{SymbolKind, Variable, OpenParameter, Member, Label, Procedure, Entry, BuiltIn}
+use Rattle.pli_declare.specs.declared.symbol.Symbol.{Symbol}
+use Rattle.pli_declare.specs.declared.symbol.StorageClass.{StorageClass}
+use Rattle.pli_declare.specs.declared.symbol.StorageClass.TheVariants as classes
+use Rattle.pli_declare.specs.views.SymbolView.{symbol_view, symbol_kind_view}
+use Rattle.pli_type_rules.specs.NamedUnits.{is_parameter, is_stored, is_valued, is_automatic, is_based, is_global, one_such, such_before, one_global, globals_before}
 use Rattle.pli_type_names.specs.BlockFacts.{BlockFacts}
 use Rattle.pli_type_names.specs.OwnVariables.{begun, global_at, is_kept, own_at, own_after, slots_of, globals_of, based_of}
 use Rattle.pli_type_names.specs.declared.place.Location.{Location}

@@ -3,11 +3,11 @@ use Rattle.std.specs.Prelude.{ℕ, Bool, ◌&&◌, Option, None, Some, List, []}
 use Rattle.pli_map.specs.Description as described
 use Rattle.pli_map.specs.Description.{Description}
 use Rattle.pli_map.specs.ParameterTypes.{ParameterType, Stated}
-use Rattle.pli_resolve.specs.ResolvedUnits.{ResolvedUnit, ResolvedBlock}
-use Rattle.pli_resolve.specs.Symbols.{SymbolKind, Variable, OpenParameter, Procedure}
-use Rattle.pli_resolve.specs.declared.symbol.SymbolKey.{SymbolKey}
-use Rattle.pli_type.specs.NamedUnits.{gives_stored, is_procedure, parameters_of, returned_of}
-use Rattle.pli_type.specs.NamedUnits.{returned_area_of}
+use Rattle.pli_declare.specs.ResolvedUnits.{ResolvedUnit, ResolvedBlock}
+use Rattle.pli_declare.specs.Symbols.{SymbolKind, Variable, OpenParameter, Procedure}
+use Rattle.pli_declare.specs.declared.symbol.SymbolKey.{SymbolKey}
+use Rattle.pli_type_rules.specs.NamedUnits.{gives_stored, is_procedure, parameters_of, returned_of}
+use Rattle.pli_type_rules.specs.NamedUnits.{returned_area_of}
 
 -- whether it is a procedure whose value, if it gives one, a variable could hold; the block round it; what its
 -- parameters are, and what it gives; and the area that OFFSET in its RETURNS names

@@ -1,9 +1,9 @@
 -- What is known of a block where its variables are placed.
 use Rattle.std.specs.Prelude.{ℕ, List, take}
-use Rattle.pli_resolve.specs.ResolvedUnits.{ResolvedUnit, all_symbols}
-use Rattle.pli_resolve.specs.Symbols.{Symbol}
-use Rattle.pli_type.specs.NamedUnits.{all_tokens, block_symbols, globals_in, parameter_numbers}
-use Rattle.pli_type.specs.TextOrder.{text_places}
+use Rattle.pli_declare.specs.ResolvedUnits.{ResolvedUnit, all_symbols}
+use Rattle.pli_declare.specs.Symbols.{Symbol}
+use Rattle.pli_type_rules.specs.NamedUnits.{all_tokens, block_symbols, globals_in, parameter_numbers}
+use Rattle.pli_type_rules.specs.TextOrder.{text_places}
 
 -- the numbers of its parameters among its symbols, each under its slot; for each global of the unit, block
 -- after block, its number in the order of the text; how many globals the blocks before it have; and its

@@ -1,8 +1,8 @@
 -- References to locator variables and members, as BASED names them.
 use Rattle.std.specs.Prelude.{ℕ, Option, Some, None}
 use Rattle.pli_map.specs.Description.{Description, Pointer, Offset}
-use Rattle.pli_type.specs.Names.{LocatorVariable, OfPointer, OfOffset}
-use Rattle.pli_type.specs.declared.beginning.Beginning.{Beginning}
+use Rattle.pli_type_rules.specs.Names.{LocatorVariable, OfPointer, OfOffset}
+use Rattle.pli_type_rules.specs.declared.beginning.Beginning.{Beginning}
 use Rattle.pli_type_tree.specs.TypedTree.{Root, TypedReference, Whole, Part, NoSubscript}
 
 -- a variable that begins here, or a member without dimensions that stands so many bytes after its beginning,

@@ -3,7 +3,7 @@ use Rattle.std.specs.Prelude.{◌≡◌, ℕ, ◌+◌, Option, Some, None, optio
 use Rattle.pli_map.specs.Description.{Structure}
 use Rattle.pli_map.specs.Parts.{PlacedPart}
 use Rattle.pli_map.specs.views.DescriptionView.{description_view, members_view}
-use Rattle.pli_type.specs.References.{StridedPart, element_of, part_on}
+use Rattle.pli_type_rules.specs.References.{StridedPart, element_of, part_on}
 use Rattle.pli_type_names.specs.OwnVariables.{OwnVariable}
 use Rattle.pli_type_names.specs.declared.level.StructureLevel.{StructureLevel}
 use Rattle.pli_type_names.specs.views.NameView.{part_view}

@@ -1,11 +1,11 @@
 -- The variables of their own among the symbols of a block: where each has its storage.
 use Rattle.std.specs.Prelude.{ℕ, ◌+◌, Bool, ◌&&◌, Option, Some, None, List, get_or, length, if◌then◌else◌}
 use Rattle.pli_map.specs.Description.{Description}
-use Rattle.pli_resolve.specs.Symbols.{SymbolKind, Variable}
-use Rattle.pli_resolve.specs.declared.symbol.StorageClass.{StorageClass}
-use Rattle.pli_resolve.specs.declared.symbol.StorageClass.TheVariants as classes
-use Rattle.pli_type.specs.NamedUnits.{globals_before, is_automatic, is_based, is_parameter, is_stored}
-use Rattle.pli_type.specs.NamedUnits.{is_valued, such_before}
+use Rattle.pli_declare.specs.Symbols.{SymbolKind, Variable}
+use Rattle.pli_declare.specs.declared.symbol.StorageClass.{StorageClass}
+use Rattle.pli_declare.specs.declared.symbol.StorageClass.TheVariants as classes
+use Rattle.pli_type_rules.specs.NamedUnits.{globals_before, is_automatic, is_based, is_parameter, is_stored}
+use Rattle.pli_type_rules.specs.NamedUnits.{is_valued, such_before}
 use Rattle.pli_type_names.specs.BlockFacts.{BlockFacts}
 use Rattle.pli_type_names.specs.Numbered.{each_from}
 use Rattle.pli_type_names.specs.declared.place.Location.{Location}

@@ -4,16 +4,18 @@ use Rattle.std.specs.Prelude.{length, get_or, option_and_then, slice_get, if◌t
 use Rattle.pli_map.specs.Description as described
 use Rattle.pli_map.specs.Description.{Description}
 use Rattle.pli_map.specs.ParameterTypes.{ParameterType, Stated}
-use Rattle.pli_resolve.specs.Symbols.{SymbolKind, Variable, OpenParameter, Member, Label, Procedure, Entry}
-use Rattle.pli_resolve.specs.Symbols.{BuiltIn}
-use Rattle.pli_resolve.specs.declared.built_in.BuiltInFunction.{BuiltInFunction}
-use Rattle.pli_resolve.specs.declared.symbol.SymbolKey.{SymbolKey}
-use Rattle.pli_type.specs.Names.{NamedAs, NamedProcedure, AVariable, AFunction, AProcedure, ALabel, Untyped}
-use Rattle.pli_type.specs.Beginnings.{beginning_of}
-use Rattle.pli_type.specs.Names.{LocatorVariable, OfPointer, OfOffset, NamedStorage, Begins, IsBased}
-use Rattle.pli_type.specs.NamedUnits.{gives_stored, in_slot, is_open_parameter, is_parameter, outward_to}
-use Rattle.pli_type.specs.NamedUnits.{stands_around}
-use Rattle.pli_type.specs.References.{StridedPart, part_of, part_on, whole_part}
+use Rattle.pli_declare.specs.Symbols.{SymbolKind, Variable, OpenParameter, Member, Label, Procedure, Entry}
+use Rattle.pli_declare.specs.Symbols.{BuiltIn}
+use Rattle.pli_declare.specs.declared.built_in.BuiltInFunction.{BuiltInFunction}
+use Rattle.pli_declare.specs.declared.symbol.SymbolKey.{SymbolKey}
+use Rattle.pli_type_rules.specs.Names.{NamedAs, NamedProcedure, AVariable, AFunction, AProcedure, ALabel}
+use Rattle.pli_type_rules.specs.Names.{Untyped}
+use Rattle.pli_type_rules.specs.Beginnings.{beginning_of}
+use Rattle.pli_type_rules.specs.Names.{LocatorVariable, OfPointer, OfOffset, NamedStorage, Begins, IsBased}
+use Rattle.pli_type_rules.specs.NamedUnits.{gives_stored, in_slot, is_open_parameter, is_parameter}
+use Rattle.pli_type_rules.specs.NamedUnits.{outward_to}
+use Rattle.pli_type_rules.specs.NamedUnits.{stands_around}
+use Rattle.pli_type_rules.specs.References.{StridedPart, part_of, part_on, whole_part}
 use Rattle.pli_type_names.specs.BlockEntries.{BlockEntry}
 use Rattle.pli_type_names.specs.BlockFacts.{BlockFacts}
 use Rattle.pli_type_names.specs.LocatorReferences.{locator_reference}
@@ -22,7 +24,7 @@ use Rattle.pli_type_names.specs.Numbered.{each_from}
 use Rattle.pli_type_names.specs.OwnVariables.{OwnVariable, global_at, own_variables}
 use Rattle.pli_type_names.specs.declared.place.Location.{Location}
 use Rattle.pli_type_names.specs.declared.place.Location.TheVariants as locations
-use Rattle.pli_type.specs.declared.beginning.Beginning.{Beginning}
+use Rattle.pli_type_rules.specs.declared.beginning.Beginning.{Beginning}
 use Rattle.pli_type_tree.specs.TypedTree.{OfBlock, OfEntry, Root, OfProgram, NewestOf}
 
 -- where a name is used

@@ -2,8 +2,8 @@
 use Rattle.std.specs.Prelude.{◌≡◌, ℕ, Bool, true, false, List, [], ◌∷◌, map, option_map}
 use Rattle.pli_map.specs.views.DescriptionView.{description_view}
 use Rattle.pli_map.specs.views.ParameterView.{type_seen}
-use Rattle.pli_type.specs.Names as plain
-use Rattle.pli_type.specs.References.{part_of}
+use Rattle.pli_type_rules.specs.Names as plain
+use Rattle.pli_type_rules.specs.References.{part_of}
 use Rattle.pli_type_tree.specs.views.TypedView.{callee_view}
 use Rattle.pli_type_names.specs.declared.naming.NamedAs.{NamedAs}
 use Rattle.pli_type_names.specs.declared.naming.NamedAs.TheVariants as answers

@@ -4,10 +4,10 @@ use Rattle.std.specs.Coded.{Coded, code_by, coded×, coded_list, coded_ℕ}
 use Rattle.pli_base.specs.contracts.statement.Body.TheKnot.{coded-Procedure}
 use Rattle.pli_base.specs.declared.statement.Procedure.{Procedure}
 use Rattle.pli_base.specs.views.StatementView.{unit_view}
-use Rattle.pli_resolve.specs.ResolvedUnits.{resolved_unit_of}
-use Rattle.pli_resolve.specs.Symbols.{Symbol}
-use Rattle.pli_type.specs.NamedUnits.{block_symbols, named_procedure, named_unit}
-use Rattle.pli_type.specs.Names.{Naming, NamedProcedure}
+use Rattle.pli_declare.specs.ResolvedUnits.{resolved_unit_of}
+use Rattle.pli_declare.specs.Symbols.{Symbol}
+use Rattle.pli_type_rules.specs.NamedUnits.{block_symbols, named_procedure, named_unit}
+use Rattle.pli_type_rules.specs.Names.{Naming, NamedProcedure}
 
 -- a unit, and the blocks around, the innermost first
 pub record Names : Type 0 where

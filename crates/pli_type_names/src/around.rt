@@ -1,11 +1,11 @@
 //! The blocks around, the innermost last.
 ghost use Rattle.std.specs.Prelude.{◌≡◌, option_map, reverse, slice_get};
-ghost use Rattle.pli_type.specs.Beginnings.{root_at};
-ghost use Rattle.pli_type.specs.NamedUnits.{outward_to, stands_around};
+ghost use Rattle.pli_type_rules.specs.Beginnings.{root_at};
+ghost use Rattle.pli_type_rules.specs.NamedUnits.{outward_to, stands_around};
 ghost use Rattle.pli_type_names.specs.Seen.{root_from};
 
 use crate::place::Location;
-use pli_type::Beginning;
+use pli_type_rules::Beginning;
 
 /// How many static links outward a block is, if it stands around.
 fn outward_to(around: &[usize], block: usize) -> Option<usize>

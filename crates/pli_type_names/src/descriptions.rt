@@ -3,7 +3,7 @@ ghost use Rattle.std.specs.Prelude.{◌≡◌, nat_lt};
 ghost use Rattle.pli_map.specs.Sizes.{count_of};
 ghost use Rattle.pli_map.specs.views.DescriptionView.{description_view, members_view};
 ghost use Rattle.pli_map.specs.views.ParameterView.{type_view};
-ghost use Rattle.pli_type.specs.NamedUnits as spec;
+ghost use Rattle.pli_type_rules.specs.NamedUnits as spec;
 
 use pli_map::{Bounds, Description, ParameterType, is_aggregate, is_area, size};
 

@@ -4,16 +4,17 @@ ghost use Rattle.pli_base.specs.views.StatementView.{unit_view};
 ghost use Rattle.pli_map.specs.Description as described;
 ghost use Rattle.pli_map.specs.views.DescriptionView.{description_view};
 ghost use Rattle.pli_map.specs.views.ParameterView.{type_seen};
-ghost use Rattle.pli_resolve.specs.ResolvedUnits.{resolved_unit_of};
+ghost use Rattle.pli_declare.specs.ResolvedUnits.{resolved_unit_of};
 ghost use Rattle.pli_resolve.specs.views.UnitView.{resolved_block_view};
-ghost use Rattle.pli_type.specs.NamedUnits as units;
+ghost use Rattle.pli_type_rules.specs.NamedUnits as units;
 ghost use Rattle.pli_type_names.specs.BlockEntries.{area_of, entry_at, parameters_in, returned_in};
 ghost use Rattle.pli_type_names.specs.views.EntryView.{AreEntries, entry_view};
 
 use crate::descriptions::is_valued;
 use crate::parameters::{parameters_of, returned_area_of, returned_of};
+use pli_declare::{ResolvedBlockKind, SymbolKey};
 use pli_map::{Description, TypeRef};
-use pli_resolve::{ResolvedBlock, ResolvedBlockKind, ResolvedUnit, SymbolKey};
+use pli_resolve::{ResolvedBlock, ResolvedUnit};
 use std::alloc::{AllocError, Global};
 
 /// What is found once for a block.

@@ -1,4 +1,5 @@
 //! Structures on the way to members.
+
 use crate::part::StridedPart;
 use crate::passed_members::PassedMembers;
 

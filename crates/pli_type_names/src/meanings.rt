@@ -4,9 +4,9 @@ ghost use Rattle.std.specs.List.{All};
 ghost use Rattle.pli_base.specs.views.StatementView.{unit_view};
 ghost use Rattle.pli_map.specs.views.DescriptionView.{description_view};
 ghost use Rattle.pli_map.specs.views.ParameterView.{type_seen, type_view};
-ghost use Rattle.pli_resolve.specs.ResolvedUnits.{resolved_unit_of};
-ghost use Rattle.pli_resolve.specs.views.SymbolView.{symbol_view, symbol_kind_view};
-ghost use Rattle.pli_type.specs.NamedUnits.{block_symbols, globals_before, parameter_numbers};
+ghost use Rattle.pli_declare.specs.ResolvedUnits.{resolved_unit_of};
+ghost use Rattle.pli_declare.specs.views.SymbolView.{symbol_view, symbol_kind_view};
+ghost use Rattle.pli_type_rules.specs.NamedUnits.{block_symbols, globals_before, parameter_numbers};
 ghost use Rattle.pli_type_names.specs.OnWays.{IsLevel};
 ghost use Rattle.pli_type_names.specs.Seen.{entry_kept, kept_symbols, kind_kept, on_way, open_kept};
 ghost use Rattle.pli_type_names.specs.views.MeaningView.{AreMeanings, meant_view, row_view};
@@ -23,8 +23,9 @@ use crate::parameters::parameter_numbers;
 use crate::part::StridedPart;
 use crate::place::Location;
 use crate::unit_symbols::symbols;
+use pli_declare::{Symbol, SymbolKey, SymbolKind};
 use pli_map::{Description, ParameterType, TypeRef};
-use pli_resolve::{ResolvedUnit, Symbol, SymbolKey, SymbolKind};
+use pli_resolve::ResolvedUnit;
 use std::alloc::{AllocError, Global};
 
 /// What a symbol means, wherever its name is used.

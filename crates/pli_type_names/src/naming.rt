@@ -1,11 +1,11 @@
 //! What names mean where types are asked for.
 ghost use Rattle.std.specs.Prelude.{◌≡◌, [], slice_get, IfOk, OnErr, OnOk};
-ghost use Rattle.pli_type.specs.NamedUnits.{declared_as, names_based};
-ghost use Rattle.pli_type.specs.Names as plain;
+ghost use Rattle.pli_type_rules.specs.NamedUnits.{declared_as, names_based};
+ghost use Rattle.pli_type_rules.specs.Names as plain;
 ghost use Rattle.pli_base.specs.views.StatementView.{unit_view};
 ghost use Rattle.pli_map.specs.Description as described;
 ghost use Rattle.pli_map.specs.views.DescriptionView.{description_view};
-ghost use Rattle.pli_resolve.specs.ResolvedUnits.{resolved_unit_of};
+ghost use Rattle.pli_declare.specs.ResolvedUnits.{resolved_unit_of};
 ghost use Rattle.pli_type_names.specs.SymbolMeaning.{IsMeantAs, IsProcedure};
 ghost use Rattle.pli_type_names.specs.Seen.{seen};
 ghost use Rattle.pli_type_names.specs.UnitNaming.{based_in, inside, naming_in, outside, procedure_in};
@@ -19,9 +19,10 @@ use crate::part::StridedPart;
 use crate::seen::{area_under, symbol_seen};
 use crate::storage::NamedStorage;
 use pli_base::statement::Procedure;
+use pli_declare::{BuiltInFunction, NameMeaning, SymbolKey};
 use pli_map::{Description, TypeRef};
-use pli_resolve::{BuiltInFunction, NameMeaning, ResolvedUnit, SymbolKey};
-use pli_type::Beginning;
+use pli_resolve::ResolvedUnit;
+use pli_type_rules::Beginning;
 use pli_type_tree::Callee;
 use std::alloc::{AllocError, Global};
 use std::marker::Model;

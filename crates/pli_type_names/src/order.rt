@@ -3,16 +3,17 @@ ghost use Rattle.std.specs.Prelude.{◌≡◌, ◌<◌, ◌++◌, IfOk, OnOk, ge
 ghost use Rattle.std.specs.List.{All};
 ghost use Rattle.pli_base.specs.views.StatementView.{unit_view};
 ghost use Rattle.pli_map.specs.views.DescriptionView.{description_view};
-ghost use Rattle.pli_resolve.specs.ResolvedUnits.{all_symbols, resolved_unit_of};
-ghost use Rattle.pli_resolve.specs.views.SymbolView.{symbol_view, symbol_kind_view};
-ghost use Rattle.pli_type.specs.NamedUnits as units;
-ghost use Rattle.pli_type.specs.NamedUnits.{all_tokens, block_symbols, global_tokens, one_global};
-ghost use Rattle.pli_type.specs.TextOrder.{numbers_from, place_from, text_order, text_places};
+ghost use Rattle.pli_declare.specs.ResolvedUnits.{all_symbols, resolved_unit_of};
+ghost use Rattle.pli_declare.specs.views.SymbolView.{symbol_view, symbol_kind_view};
+ghost use Rattle.pli_type_rules.specs.NamedUnits as units;
+ghost use Rattle.pli_type_rules.specs.NamedUnits.{all_tokens, block_symbols, global_tokens, one_global};
+ghost use Rattle.pli_type_rules.specs.TextOrder.{numbers_from, place_from, text_order, text_places};
 
 use crate::descriptions::is_stored;
 use crate::unit_symbols::symbols;
+use pli_declare::{StorageClass, Symbol, SymbolKind};
 use pli_map::Description;
-use pli_resolve::{ResolvedUnit, StorageClass, Symbol, SymbolKind};
+use pli_resolve::ResolvedUnit;
 use std::alloc::{AllocError, Global};
 
 /// Whether a variable is STATIC or CONTROLLED, and compiled.

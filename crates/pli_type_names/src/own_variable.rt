@@ -1,7 +1,7 @@
 //! Variables of their own.
 ghost use Rattle.std.specs.Prelude.{◌≡◌, true};
 ghost use Rattle.pli_map.specs.views.DescriptionView.{description_view};
-ghost use Rattle.pli_type.specs.NamedUnits.{is_stored};
+ghost use Rattle.pli_type_rules.specs.NamedUnits.{is_stored};
 
 use crate::place::Location;
 use pli_map::Description;

@@ -1,9 +1,9 @@
 //! The variables of their own among the symbols of a block, and where each begins.
 ghost use Rattle.std.specs.Prelude.{◌≡◌, ◌≤◌, ◌<◌, ◌+◌, ◌++◌, IfOk, get_or, length, map, option_map, true};
 ghost use Rattle.pli_map.specs.views.DescriptionView.{description_view};
-ghost use Rattle.pli_resolve.specs.views.SymbolView.{symbol_view, symbol_kind_view};
-ghost use Rattle.pli_type.specs.NamedUnits as units;
-ghost use Rattle.pli_type.specs.NamedUnits.{globals_before, is_automatic, is_based, one_global, one_such};
+ghost use Rattle.pli_declare.specs.views.SymbolView.{symbol_view, symbol_kind_view};
+ghost use Rattle.pli_type_rules.specs.NamedUnits as units;
+ghost use Rattle.pli_type_rules.specs.NamedUnits.{globals_before, is_automatic, is_based, one_global, one_such};
 ghost use Rattle.pli_type_names.specs.Numbered.{each_from};
 ghost use Rattle.pli_type_names.specs.OwnVariables as spec;
 ghost use Rattle.pli_type_names.specs.OwnVariables.{based_of, globals_of, own_after, place_after, slots_of};
@@ -13,8 +13,8 @@ use crate::descriptions::{is_stored, is_valued};
 use crate::order::under;
 use crate::own_variable::OwnVariable;
 use crate::place::Location;
+use pli_declare::{StorageClass, Symbol, SymbolKind};
 use pli_map::Description;
-use pli_resolve::{StorageClass, Symbol, SymbolKind};
 use std::alloc::{AllocError, Global};
 
 /// The first slot of a block's activation that is free, how many globals there are before, block after block, and how

@@ -6,14 +6,15 @@ ghost use Rattle.pli_map.specs.Description as described;
 ghost use Rattle.pli_map.specs.ParameterTypes as types;
 ghost use Rattle.pli_map.specs.views.DescriptionView.{description_view};
 ghost use Rattle.pli_map.specs.views.ParameterView.{type_seen};
-ghost use Rattle.pli_resolve.specs.ResolvedUnits.{resolved_unit_of, symbol_at};
-ghost use Rattle.pli_resolve.specs.views.SymbolView.{symbol_kind_view};
-ghost use Rattle.pli_type.specs.NamedUnits as units;
+ghost use Rattle.pli_declare.specs.ResolvedUnits.{resolved_unit_of, symbol_at};
+ghost use Rattle.pli_declare.specs.views.SymbolView.{symbol_kind_view};
+ghost use Rattle.pli_type_rules.specs.NamedUnits as units;
 ghost use Rattle.pli_type_names.specs.BlockEntries as spec;
-ghost use Rattle.pli_type.specs.NamedUnits.{type_in, parameters_of, returned_area_of, returned_of};
+ghost use Rattle.pli_type_rules.specs.NamedUnits.{type_in, parameters_of, returned_area_of, returned_of};
 
+use pli_declare::{ResolvedBlockKind, SymbolKey, SymbolKind};
 use pli_map::{Description, TypeRef};
-use pli_resolve::{ResolvedBlockKind, ResolvedUnit, SymbolKey, SymbolKind};
+use pli_resolve::ResolvedUnit;
 use std::alloc::{AllocError, Global};
 
 /// Whether a block is a procedure.

@@ -5,8 +5,8 @@ ghost use Rattle.pli_map.specs.Parts.{part_at};
 ghost use Rattle.pli_map.specs.Sizes.{count_of, size_of, stride_of};
 ghost use Rattle.pli_map.specs.views.DescriptionView.{description_view};
 ghost use Rattle.pli_map.specs.views.PartView.{part_view as placed_view};
-ghost use Rattle.pli_type.specs.NamedUnits.{is_stored, may_stand};
-ghost use Rattle.pli_type.specs.References.{strides_of};
+ghost use Rattle.pli_type_rules.specs.NamedUnits.{is_stored, may_stand};
+ghost use Rattle.pli_type_rules.specs.References.{strides_of};
 ghost use Rattle.pli_type_tree.specs.views.TypedView.{stride_view};
 
 use pli_map::{Bounds, Description, PathStep, PlacedPart, place, size};
@@ -57,7 +57,7 @@ fn push_strides(
 }
 
 impl<'a> StridedPart<'a> {
-    ghost use Rattle.pli_type.specs.References.{element_of, member_of, part_on};
+    ghost use Rattle.pli_type_rules.specs.References.{element_of, member_of, part_on};
     ghost use Rattle.pli_type_names.specs.views.NameView.{part_view};
 
     /// A whole variable of its own.

@@ -1,5 +1,6 @@
 //! Where variables begin.
-use pli_resolve::SymbolKey;
+
+use pli_declare::SymbolKey;
 
 /// Where a variable begins, seen from its own block.
 #[derive(Clone, Copy)]

@@ -3,8 +3,8 @@ ghost use Rattle.std.specs.Prelude.{◌≡◌, [], false, get_or, map, option_ma
 ghost use Rattle.pli_map.specs.ParameterTypes as types;
 ghost use Rattle.pli_map.specs.views.DescriptionView.{description_view};
 ghost use Rattle.pli_map.specs.views.ParameterView.{type_seen, type_view};
-ghost use Rattle.pli_type.specs.Beginnings.{root_at};
-ghost use Rattle.pli_type.specs.Names.{Begins};
+ghost use Rattle.pli_type_rules.specs.Beginnings.{root_at};
+ghost use Rattle.pli_type_rules.specs.Names.{Begins};
 ghost use Rattle.pli_type_names.specs.Seen.{KeptNothing, area_from, area_kept, area_under, if_locator, kept_seen};
 ghost use Rattle.pli_type_names.specs.Seen.{locator_from, locator_kept, locator_under, offset_if, procedure_seen};
 ghost use Rattle.pli_type_names.specs.Seen.{storage_from};
@@ -20,9 +20,9 @@ use crate::naming::{NamedAs, NamedProcedure, NamedVariable};
 use crate::part::StridedPart;
 use crate::place::Location;
 use crate::storage::{NamedLocator, NamedStorage};
+use pli_declare::SymbolKey;
 use pli_map::{Description, ParameterType, TypeRef};
-use pli_resolve::SymbolKey;
-use pli_type::Beginning;
+use pli_type_rules::Beginning;
 use pli_type_tree::Callee;
 
 /// The procedure that is the block of this number, where it may be called.

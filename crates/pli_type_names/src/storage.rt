@@ -1,15 +1,15 @@
 //! Where the storage of variables is, seen from where their names are used.
 ghost use Rattle.std.specs.Prelude.{◌≡◌, []};
 ghost use Rattle.pli_map.specs.views.DescriptionView.{description_view};
-ghost use Rattle.pli_type.specs.Beginnings.{root_at};
-ghost use Rattle.pli_type.specs.NamedUnits.{is_based_whole};
-ghost use Rattle.pli_type.specs.References.{is_passed};
+ghost use Rattle.pli_type_rules.specs.Beginnings.{root_at};
+ghost use Rattle.pli_type_rules.specs.NamedUnits.{is_based_whole};
+ghost use Rattle.pli_type_rules.specs.References.{is_passed};
 ghost use Rattle.pli_type_names.specs.LocatorReferences.{described_by, locator_reference};
 ghost use Rattle.pli_type_names.specs.views.StorageView.{storage_view};
 ghost use Rattle.pli_type_tree.specs.views.TypedView.{reference_view};
 
 use pli_map::Description;
-use pli_type::Beginning;
+use pli_type_rules::Beginning;
 use pli_type_tree::TypedReference;
 use std::alloc::Global;
 

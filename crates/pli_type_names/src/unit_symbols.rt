@@ -1,9 +1,10 @@
 //! The symbols of a block.
 ghost use Rattle.std.specs.Prelude.{◌≡◌, IfOk, map, option_map, slice_get};
-ghost use Rattle.pli_resolve.specs.views.SymbolView.{symbol_view};
+ghost use Rattle.pli_declare.specs.views.SymbolView.{symbol_view};
 ghost use Rattle.pli_type_names.specs.UnitNaming.{symbols_in};
 
-use pli_resolve::{ResolvedUnit, Symbol, SymbolKey};
+use pli_declare::{Symbol, SymbolKey};
+use pli_resolve::ResolvedUnit;
 use std::alloc::{AllocError, Global};
 
 /// The symbol of this number in the block of this number.

@@ -8,13 +8,13 @@ use Rattle.std.proofs.lemmas.Bool.{cases_lt, le-leb, leb-true, false≢true}
 use Rattle.pli_map.specs.Dimensions.{bound_of}
 use Rattle.pli_map.specs.declared.description.Bounds.{Bounds}
 use Rattle.pli_map.specs.declared.dimension.WhichBound.{WhichBound}
-use Rattle.pli_type.specs.ExpressionTypes.{TypedValue}
-use Rattle.pli_resolve.specs.declared.built_in.BuiltInFunction.{BuiltInFunction}
-use Rattle.pli_resolve.specs.declared.built_in.BuiltInFunction.TheVariants as functions
-use Rattle.pli_type.specs.FunctionCalls.{Meant, OneValue, WholeAggregate, meant_as, bound_value, bound_among}
-use Rattle.pli_type.specs.FunctionCalls.{address_of, area_of, the_bound, value_in, divided, Argument, located_within, of_values, of_arguments}
-use Rattle.pli_type.specs.FunctionCalls.{values_in}
-use Rattle.pli_type.specs.declared.beginning.Beginning.{Beginning}
+use Rattle.pli_type_rules.specs.ExpressionTypes.{TypedValue}
+use Rattle.pli_declare.specs.declared.built_in.BuiltInFunction.{BuiltInFunction}
+use Rattle.pli_declare.specs.declared.built_in.BuiltInFunction.TheVariants as functions
+use Rattle.pli_type_rules.specs.FunctionCalls.{Meant, OneValue, WholeAggregate, meant_as, bound_value, bound_among}
+use Rattle.pli_type_rules.specs.FunctionCalls.{address_of, area_of, the_bound, value_in, divided, Argument, located_within, of_values, of_arguments}
+use Rattle.pli_type_rules.specs.FunctionCalls.{values_in}
+use Rattle.pli_type_rules.specs.declared.beginning.Beginning.{Beginning}
 use Rattle.pli_type_operands.specs.Bounded.{bound_given, dimension_given, if_dimension, is_bound, which_bound}
 use Rattle.pli_type_operands.specs.declared.argument.Argument.{Argument as Code}
 use Rattle.pli_type_operands.specs.views.TypingView.{argument_view, denoted_view}

@@ -1,9 +1,9 @@
 -- Arguments as they are handed over, one after another.
 use Rattle.std.proofs.Common.{◌≡◌, ℕ, Option, Some, None, List, [], ◌∷◌, ◌++◌, refl, ap, ◌∙◌, sym, option_map}
 use Rattle.pli_map.specs.ParameterTypes.{ParameterType}
-use Rattle.pli_type.specs.FunctionCalls.{Argument, meant_as}
-use Rattle.pli_type.specs.ProcedureCalls.{passed, passed_place, passed_value}
-use Rattle.pli_type.specs.TypingSteps.{passed_before}
+use Rattle.pli_type_rules.specs.FunctionCalls.{Argument, meant_as}
+use Rattle.pli_type_rules.specs.ProcedureCalls.{passed, passed_place, passed_value}
+use Rattle.pli_type_rules.specs.TypingSteps.{passed_before}
 use Rattle.pli_type_tree.specs.TypedTree.{TypedArguments, NoArgument}
 use Rattle.pli_type_tree.specs.declared.expression.TypedArgument.{TypedArgument}
 use Rattle.pli_type_tree.specs.views.TypedView.{argument_before, arguments_view}

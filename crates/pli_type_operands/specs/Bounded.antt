@@ -3,10 +3,10 @@ use Rattle.std.specs.Prelude.{ℕ, nat_le, Bool, true, false, ◌&&◌, if◌the
 use Rattle.std.specs.Prelude.{[], ◌∷◌}
 use Rattle.pli_map.specs.declared.dimension.WhichBound.{WhichBound}
 use Rattle.pli_map.specs.declared.dimension.WhichBound.TheVariants.{Low, High}
-use Rattle.pli_resolve.specs.declared.built_in.BuiltInFunction.{BuiltInFunction}
-use Rattle.pli_resolve.specs.declared.built_in.BuiltInFunction.TheVariants as functions
-use Rattle.pli_type.specs.ExpressionTypes.{TypedValue}
-use Rattle.pli_type.specs.FunctionCalls.{Argument, meant_as, the_bound}
+use Rattle.pli_declare.specs.declared.built_in.BuiltInFunction.{BuiltInFunction}
+use Rattle.pli_declare.specs.declared.built_in.BuiltInFunction.TheVariants as functions
+use Rattle.pli_type_rules.specs.ExpressionTypes.{TypedValue}
+use Rattle.pli_type_rules.specs.FunctionCalls.{Argument, meant_as, the_bound}
 
 -- LBOUND and HBOUND
 abbrev pub is_bound : BuiltInFunction → Bool

@@ -6,10 +6,10 @@ use Rattle.pli_base.specs.declared.syntax.PrefixOperator.{PrefixOperator}
 use Rattle.pli_base.specs.declared.syntax.InfixOperator.{InfixOperator}
 use Rattle.pli_base.specs.declared.code.Code.TheVariants.{WrongOperandType}
 use Rattle.pli_base.specs.declared.token.Fault.{Fault}
-use Rattle.pli_type.specs.ExpressionTypes.{TypedValue, prefix_value, infix_value}
-use Rattle.pli_type.specs.FunctionCalls.{Denoted, DenotesResult}
-use Rattle.pli_type.specs.Names.{Naming}
-use Rattle.pli_type.specs.Typing.{or_fault, value_of}
+use Rattle.pli_type_rules.specs.ExpressionTypes.{TypedValue, prefix_value, infix_value}
+use Rattle.pli_type_rules.specs.FunctionCalls.{Denoted, DenotesResult}
+use Rattle.pli_type_rules.specs.Names.{Naming}
+use Rattle.pli_type_rules.specs.Typing.{or_fault, value_of}
 
 -- what a prefix operator at a token makes of a value
 abbrev pub prefix_of : (greatest : ℕ) → PrefixOperator → (at : ℕ) → TypedValue → Result Denoted Fault

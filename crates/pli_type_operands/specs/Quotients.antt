@@ -1,7 +1,7 @@
 -- DIVIDE, by the values of its first two arguments.
 use Rattle.std.specs.Prelude.{ℕ, Option, Some, None, List, [], ◌∷◌}
-use Rattle.pli_type.specs.ExpressionTypes.{TypedValue}
-use Rattle.pli_type.specs.FunctionCalls.{Argument, the_quotient}
+use Rattle.pli_type_rules.specs.ExpressionTypes.{TypedValue}
+use Rattle.pli_type_rules.specs.FunctionCalls.{Argument, the_quotient}
 
 -- the number that the third of three arguments is, if it is one
 abbrev pub precision_written : List Argument → Option (Option ℕ)

@@ -1,11 +1,11 @@
 -- POINTER and OFFSET, by the value of their first argument and the area that is the second.
 use Rattle.std.specs.Prelude.{Option, Some, None, List, [], ◌∷◌}
-use Rattle.pli_resolve.specs.declared.built_in.BuiltInFunction.{BuiltInFunction}
-use Rattle.pli_resolve.specs.declared.built_in.BuiltInFunction.TheVariants as functions
-use Rattle.pli_type.specs.ExpressionTypes.{TypedValue}
-use Rattle.pli_type.specs.FunctionCalls.{Argument, area_of, offset_within, pointer_within}
-use Rattle.pli_type.specs.declared.beginning.Beginning.{Beginning}
-use Rattle.pli_type.specs.declared.expression_type.ExpressionType.{ExpressionType}
+use Rattle.pli_declare.specs.declared.built_in.BuiltInFunction.{BuiltInFunction}
+use Rattle.pli_declare.specs.declared.built_in.BuiltInFunction.TheVariants as functions
+use Rattle.pli_type_rules.specs.ExpressionTypes.{TypedValue}
+use Rattle.pli_type_rules.specs.FunctionCalls.{Argument, area_of, offset_within, pointer_within}
+use Rattle.pli_type_rules.specs.declared.beginning.Beginning.{Beginning}
+use Rattle.pli_type_rules.specs.declared.expression_type.ExpressionType.{ExpressionType}
 use Rattle.pli_type_operands.specs.declared.within.LocatorFunction.{LocatorFunction}
 use Rattle.pli_type_operands.specs.declared.within.LocatorFunction.TheVariants as locators
 use Rattle.pli_type_tree.specs.TypedTree.{TypedExpression}

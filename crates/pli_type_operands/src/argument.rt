@@ -1,7 +1,7 @@
 //! Arguments of functions and procedures.
 ghost use Rattle.std.specs.Prelude.{◌≡◌};
 ghost use Rattle.pli_base.specs.views.SyntaxView.{expression_view};
-ghost use Rattle.pli_type.specs.FunctionCalls.{number_written};
+ghost use Rattle.pli_type_rules.specs.FunctionCalls.{number_written};
 
 use crate::meaning::Denoted;
 use pli_base::syntax::{ConstantValue, Expression};

@@ -1,12 +1,13 @@
 //! Constants with their types.
 ghost use Rattle.std.specs.Prelude.{◌≡◌, ◌≤◌, length, take, IfOk};
-ghost use Rattle.pli_type.specs.ExpressionTypes as spec;
+ghost use Rattle.pli_type_rules.specs.ExpressionTypes as spec;
 ghost use Rattle.pli_type.specs.views.ValueView.{value_view as typed_view};
 ghost use Rattle.pli_type_tree.specs.ValueTypes.{longest};
 ghost use Rattle.pli_value.specs.Value.{value_view};
 
 use pli_base::syntax::ConstantValue;
-use pli_type::{ExpressionType, TypedValue, binary_digits};
+use pli_type::TypedValue;
+use pli_type_rules::{ExpressionType, binary_digits};
 use pli_type_tree::TypedExpression;
 use pli_value::Value;
 use pli_value::bit::Bits;

@@ -3,9 +3,9 @@ ghost use Rattle.std.specs.Prelude.{◌≡◌, ◌<◌, ◌-◌, ℕ, true, map,
 ghost use Rattle.pli_map.specs.ParameterTypes as types;
 ghost use Rattle.pli_map.specs.views.DescriptionView.{description_view};
 ghost use Rattle.pli_map.specs.views.ParameterView.{type_seen, type_view};
-ghost use Rattle.pli_type.specs.FunctionCalls as spec;
+ghost use Rattle.pli_type_rules.specs.FunctionCalls as spec;
 ghost use Rattle.pli_type.specs.views.ValueView.{value_view};
-ghost use Rattle.pli_type.specs.TypingSteps as steps;
+ghost use Rattle.pli_type_rules.specs.TypingSteps as steps;
 ghost use Rattle.pli_type_operands.specs.Bounded.{bound_given, dimension_given, if_dimension, is_bound, which_bound};
 ghost use Rattle.pli_type_operands.specs.Quotients.{precision_written, quotient_of};
 ghost use Rattle.pli_base.specs.answers.FailureAnswers.{Gives};
@@ -19,12 +19,12 @@ use crate::meaning::{Denoted, ExpressionMeaning};
 use crate::role::Role;
 use crate::within::{LocatorFunction, located_called};
 use pli_base::{Code, fault};
+use pli_declare::BuiltInFunction;
 use pli_map::{Bounds, Description, ParameterType, TypeRef, WhichBound};
-use pli_resolve::BuiltInFunction;
 use pli_type::{
-    ExpressionType, TypedValue, address, bound_there, call, empty_value, generations, null_value,
-    quotient,
+    TypedValue, address, bound_there, call, empty_value, generations, null_value, quotient,
 };
+use pli_type_rules::ExpressionType;
 use pli_type_tree::{TypedExpression, TypedReference};
 use pli_value::Value;
 use std::alloc::{AllocError, Global};

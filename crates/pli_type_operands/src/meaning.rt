@@ -1,8 +1,8 @@
 //! What references and expressions are.
 ghost use Rattle.std.specs.Prelude.{◌≡◌};
 ghost use Rattle.pli_base.specs.views.SyntaxView.{expression_view};
-ghost use Rattle.pli_type.specs.FunctionCalls.{area_of, meant_as, meant_by};
-ghost use Rattle.pli_type.specs.Typing.{first_token, one_value};
+ghost use Rattle.pli_type_rules.specs.FunctionCalls.{area_of, meant_as, meant_by};
+ghost use Rattle.pli_type_rules.specs.Typing.{first_token, one_value};
 ghost use Rattle.pli_type.specs.views.ValueView.{value_view};
 ghost use Rattle.pli_base.specs.answers.FailureAnswers.{Gives};
 ghost use Rattle.pli_type_operands.specs.views.TypingView.{denoted_view, meant_view, referent_view};
@@ -12,7 +12,8 @@ use crate::token::first_token;
 use pli_base::syntax::Expression;
 use pli_base::{Code, fault};
 use pli_map::TypeRef;
-use pli_type::{Beginning, ExpressionType, TypedValue, area_meant, empty_value};
+use pli_type::{TypedValue, empty_value};
+use pli_type_rules::{Beginning, ExpressionType, area_meant};
 use pli_type_tree::{TypedExpression, TypedReference};
 
 /// A variable or a part of one, a scalar, an area or an aggregate, with its type.

@@ -1,8 +1,8 @@
 //! Operators on typed values.
 ghost use Rattle.std.specs.Prelude.{◌≡◌};
 ghost use Rattle.pli_base.specs.declared.code.Code.TheVariants.{WrongOperandType};
-ghost use Rattle.pli_type.specs.ExpressionTypes as spec;
-ghost use Rattle.pli_type.specs.Typing.{or_fault};
+ghost use Rattle.pli_type_rules.specs.ExpressionTypes as spec;
+ghost use Rattle.pli_type_rules.specs.Typing.{or_fault};
 ghost use Rattle.pli_type.specs.views.ValueView.{value_view};
 ghost use Rattle.pli_base.specs.answers.FailureAnswers.{Gives};
 ghost use Rattle.pli_type_operands.specs.Operated.{prefix_of};

@@ -3,10 +3,10 @@ ghost use Rattle.std.specs.Prelude.{◌≡◌, ℕ, length, map, option_map, Non
 ghost use Rattle.pli_map.specs.ParameterTypes as types;
 ghost use Rattle.pli_map.specs.views.DescriptionView.{description_view};
 ghost use Rattle.pli_map.specs.views.ParameterView.{type_seen, type_view};
-ghost use Rattle.pli_type.specs.FunctionCalls.{meant_as, meant_by};
-ghost use Rattle.pli_type.specs.ProcedureCalls as spec;
+ghost use Rattle.pli_type_rules.specs.FunctionCalls.{meant_as, meant_by};
+ghost use Rattle.pli_type_rules.specs.ProcedureCalls as spec;
 ghost use Rattle.pli_type.specs.views.ValueView.{value_view};
-ghost use Rattle.pli_type.specs.TypingSteps as steps;
+ghost use Rattle.pli_type_rules.specs.TypingSteps as steps;
 ghost use Rattle.pli_base.specs.answers.FailureAnswers.{Gives};
 ghost use Rattle.pli_type_operands.specs.views.TypingView.{argument_view, denoted_view, meant_view, referent_view};
 ghost use Rattle.pli_type_tree.specs.TypedTree as tree;
@@ -17,10 +17,8 @@ use crate::argument::Argument;
 use crate::meaning::{Denoted, ExpressionMeaning, Referent};
 use pli_base::{Code, fault};
 use pli_map::{Description, ParameterType, StringForm, TypeRef, agrees};
-use pli_type::{
-    Beginning, ExpressionType, TypedValue, area_meant, converted, empty_value, is_area_type,
-    suited_to_form,
-};
+use pli_type::{TypedValue, converted, empty_value, suited_to_form};
+use pli_type_rules::{Beginning, ExpressionType, area_meant, is_area_type};
 use pli_type_tree::{Callee, TypedArgument, TypedExpression};
 use std::alloc::{AllocError, Global};
 

@@ -1,6 +1,6 @@
 //! For what references and expressions stand.
 ghost use Rattle.std.specs.Prelude.{◌≡◌, map, get_or};
-ghost use Rattle.pli_type.specs.References.{wants_scalar, AsArgument};
+ghost use Rattle.pli_type_rules.specs.References.{wants_scalar, AsArgument};
 ghost use Rattle.pli_type_operands.specs.views.TypingView.{role_view};
 
 /// For what a reference or an expression stands.

@@ -1,7 +1,7 @@
 //! Subscripts.
 ghost use Rattle.std.specs.Prelude.{◌≡◌};
 ghost use Rattle.pli_base.specs.views.SyntaxView as syntax;
-ghost use Rattle.pli_type.specs.Typing.{first_token, subscript_value};
+ghost use Rattle.pli_type_rules.specs.Typing.{first_token, subscript_value};
 ghost use Rattle.pli_type.specs.views.ValueView.{value_view};
 ghost use Rattle.pli_base.specs.answers.FailureAnswers.{Gives};
 ghost use Rattle.pli_type_tree.specs.views.TypedView.{expression_view};

@@ -1,7 +1,7 @@
 //! Where expressions begin, and where the faults of references stand.
 ghost use Rattle.std.specs.Prelude.{◌≡◌};
 ghost use Rattle.pli_base.specs.views.SyntaxView.{expression_view, joined_view, reference_view};
-ghost use Rattle.pli_type.specs.Typing.{after_arrows, first_token, own_token};
+ghost use Rattle.pli_type_rules.specs.Typing.{after_arrows, first_token, own_token};
 
 use pli_base::syntax::{Expression, JoinedPart, Joining, Reference};
 

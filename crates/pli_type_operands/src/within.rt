@@ -1,6 +1,6 @@
 //! Calls of POINTER and OFFSET.
 ghost use Rattle.std.specs.Prelude.{◌≡◌, ℕ, map, option_map, IfOk};
-ghost use Rattle.pli_type.specs.FunctionCalls as spec;
+ghost use Rattle.pli_type_rules.specs.FunctionCalls as spec;
 ghost use Rattle.pli_type.specs.views.ValueView.{value_view};
 ghost use Rattle.pli_type_operands.specs.Within.{area_given, built_in, located_of, made_within};
 ghost use Rattle.pli_type_operands.specs.views.TypingView.{argument_view};
@@ -8,7 +8,8 @@ ghost use Rattle.pli_type_tree.specs.views.TypedView.{expression_view};
 
 use crate::argument::Argument;
 use crate::function::values_in;
-use pli_type::{Beginning, TypedValue, offset_within, pointer_within};
+use pli_type::{TypedValue, offset_within, pointer_within};
+use pli_type_rules::Beginning;
 use std::alloc::{AllocError, Global};
 
 /// The functions that make something of a locator within an area.

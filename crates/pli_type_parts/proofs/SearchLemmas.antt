@@ -7,7 +7,7 @@ use Rattle.pli_base.specs.declared.statement.Body as bodies
 use Rattle.pli_base.specs.declared.statement.Procedure.{Procedure}
 use Rattle.pli_base.specs.laws.StatementLaws.{procedure_body}
 use Rattle.pli_base.specs.views.StatementView.{body_view}
-use Rattle.pli_type.specs.StatementTyping.{Enclosing, leaves_nothing, label_found, lasting_alone}
+use Rattle.pli_type_rules.specs.StatementTyping.{Enclosing, leaves_nothing, label_found, lasting_alone}
 use Rattle.pli_type_parts.specs.Around.{Listing, blocks_with, blocks_from, found_in, gone_into, kept_after, number_of}
 use Rattle.pli_type_parts.specs.declared.labels.ListLabels.{ListLabels}
 use Rattle.pli_type_parts.specs.views.AroundView.{lists_view}

@@ -3,7 +3,8 @@ use Rattle.std.specs.Prelude.{ℕ, suc, nat_eq, Bool, true, false, ◌&&◌, Opt
 use Rattle.std.specs.Prelude.{List, [], ◌∷◌, if◌then◌else◌}
 use Rattle.std.specs.List.{list_any}
 use Rattle.pli_map.specs.Description.{Description}
-use Rattle.pli_type.specs.StatementTyping.{Enclosing, Surroundings, block_at, lasting_alone, with_labels}
+use Rattle.pli_type_rules.specs.StatementTyping.{Enclosing, Surroundings, block_at, lasting_alone}
+use Rattle.pli_type_rules.specs.StatementTyping.{with_labels}
 
 -- a list with its labels: that of a block of this number, which may be an ON-unit, or of a group
 pub record Listing : Type 0 where

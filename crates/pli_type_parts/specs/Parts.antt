@@ -6,12 +6,12 @@ use Rattle.pli_base.specs.Statements as source
 use Rattle.pli_base.specs.declared.statement.Procedure.{Procedure}
 use Rattle.pli_base.specs.declared.token.Fault.{Fault}
 use Rattle.pli_base.specs.views.StatementView.{unit_view}
-use Rattle.pli_resolve.specs.ResolvedUnits.{resolved_unit_of}
-use Rattle.pli_type.specs.Names.{NamedUnit}
-use Rattle.pli_type.specs.NamedUnits.{named_unit}
-use Rattle.pli_type.specs.StatementTyping.{WithProcedures}
-use Rattle.pli_resolve.specs.TreeBlocks.{blocks_of, blocks_among}
-use Rattle.pli_type.specs.Temporaries.{Next, temporaries_of, temporaries_among}
+use Rattle.pli_declare.specs.ResolvedUnits.{resolved_unit_of}
+use Rattle.pli_type_rules.specs.Names.{NamedUnit}
+use Rattle.pli_type_rules.specs.NamedUnits.{named_unit}
+use Rattle.pli_type_rules.specs.StatementTyping.{WithProcedures}
+use Rattle.pli_declare.specs.TreeBlocks.{blocks_of, blocks_among}
+use Rattle.pli_type_rules.specs.Temporaries.{Next, temporaries_of, temporaries_among}
 use Rattle.pli_base.specs.declared.failure.Failure.{Failure}
 use Rattle.pli_base.specs.declared.failure.Failure.TheVariants as errors
 use Rattle.pli_type_tree.specs.TypedTree as typed

@@ -3,7 +3,7 @@ use Rattle.std.proofs.Common.{◌≡◌, false, Some, None, refl, ap, ◌∙◌}
 use Rattle.pli_map.specs.Description.{Description}
 use Rattle.pli_map.specs.ParameterTypes.{ParameterType, Stated, AnyString, AnyArray, ArrayOf, StructureOf, stated}
 use Rattle.pli_map.specs.Same.{same}
-use Rattle.pli_type.specs.StatementTyping.{are_alike}
+use Rattle.pli_type_rules.specs.StatementTyping.{are_alike}
 
 same_some : (d e : Description) → Some d ≡ Some e → d ≡ e
 same_some d e h = cc

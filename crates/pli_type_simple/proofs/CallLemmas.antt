@@ -5,16 +5,16 @@ use Rattle.pli_base.specs.Results.{◌>>=◌}
 use Rattle.pli_base.specs.Syntax.{Arguments, Expression}
 use Rattle.pli_base.specs.declared.syntax.Expression as program_tree
 use Rattle.pli_base.specs.views.SyntaxView as syntax_view
-use Rattle.pli_type.specs.ExpressionTypes.{TypedValue}
-use Rattle.pli_type.specs.Typing.{first_token, value_of}
+use Rattle.pli_type_rules.specs.ExpressionTypes.{TypedValue}
+use Rattle.pli_type_rules.specs.Typing.{first_token, value_of}
 use Rattle.pli_base.specs.declared.syntax.Identifier.{Identifier}
 use Rattle.pli_base.specs.declared.token.Fault.{Fault}
 use Rattle.pli_map.specs.Description.{Description}
-use Rattle.pli_type.specs.FunctionCalls.{Argument}
-use Rattle.pli_type.specs.Names.{Naming, NamedAs, NamedProcedure, AVariable, AFunction, AProcedure, ALabel, Untyped}
-use Rattle.pli_type.specs.ProcedureCalls.{arguments_passed}
-use Rattle.pli_type.specs.declared.beginning.Beginning.{Beginning}
-use Rattle.pli_type.specs.StatementTyping.{Enclosing, Surroundings, area_here, jump, arguments_typed, call_of, call_typed, no_function, return_typed, returned_value}
+use Rattle.pli_type_rules.specs.FunctionCalls.{Argument}
+use Rattle.pli_type_rules.specs.Names.{Naming, NamedAs, NamedProcedure, AVariable, AFunction, AProcedure, ALabel, Untyped}
+use Rattle.pli_type_rules.specs.ProcedureCalls.{arguments_passed}
+use Rattle.pli_type_rules.specs.declared.beginning.Beginning.{Beginning}
+use Rattle.pli_type_rules.specs.StatementTyping.{Enclosing, Surroundings, area_here, jump, arguments_typed, call_of, call_typed, no_function, return_typed, returned_value}
 use Rattle.pli_type_expression.proofs.BindLemmas.{bind_ok, fails_as, fails_on}
 use Rattle.pli_base.specs.answers.FailureAnswers.{Fails, Gives}
 use Rattle.pli_base.specs.declared.failure.Failure.{Failure}

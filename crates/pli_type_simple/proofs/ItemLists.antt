@@ -5,9 +5,9 @@ use Rattle.pli_base.specs.Syntax as tree
 use Rattle.pli_base.specs.declared.syntax.Expression.{Expression}
 use Rattle.pli_base.specs.declared.token.Fault.{Fault}
 use Rattle.pli_base.specs.views.SyntaxView as syntax
-use Rattle.pli_type.specs.Names.{Naming}
-use Rattle.pli_type.specs.StatementTyping.{item}
-use Rattle.pli_type.specs.TypingSteps.{items}
+use Rattle.pli_type_rules.specs.Names.{Naming}
+use Rattle.pli_type_rules.specs.StatementTyping.{item}
+use Rattle.pli_type_rules.specs.TypingSteps.{items}
 use Rattle.pli_base.specs.answers.FailureAnswers.{Fails}
 use Rattle.pli_base.specs.declared.failure.Failure.{Failure}
 use Rattle.pli_base.specs.declared.failure.Failure.TheVariants as errors

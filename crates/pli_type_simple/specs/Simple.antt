@@ -4,10 +4,10 @@ use Rattle.pli_base.specs.Results.{◌>>=◌}
 use Rattle.pli_base.specs.Statements as tree
 use Rattle.pli_base.specs.Syntax.{Expression}
 use Rattle.pli_base.specs.declared.token.Fault.{Fault}
-use Rattle.pli_type.specs.Names.{Naming}
-use Rattle.pli_type.specs.StatementTyping.{Surroundings, assignment, call_typed, goto_typed}
-use Rattle.pli_type.specs.StatementTyping.{return_typed}
-use Rattle.pli_type.specs.TypingSteps.{allocate_typed, free_typed, items}
+use Rattle.pli_type_rules.specs.Names.{Naming}
+use Rattle.pli_type_rules.specs.StatementTyping.{Surroundings, assignment, call_typed, goto_typed}
+use Rattle.pli_type_rules.specs.StatementTyping.{return_typed}
+use Rattle.pli_type_rules.specs.TypingSteps.{allocate_typed, free_typed, items}
 use Rattle.pli_type_tree.specs.TypedTree as typed
 use Rattle.pli_type_tree.specs.TypedTree.{Form}
 

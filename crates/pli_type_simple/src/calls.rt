@@ -1,7 +1,7 @@
 //! CALL.
 ghost use Rattle.std.specs.Prelude.{map};
 ghost use Rattle.pli_base.specs.views.SyntaxView as syntax;
-ghost use Rattle.pli_type.specs.StatementTyping as spec;
+ghost use Rattle.pli_type_rules.specs.StatementTyping as spec;
 ghost use Rattle.pli_base.specs.answers.FailureAnswers.{Gives};
 ghost use Rattle.pli_type_operands.specs.views.TypingView.{argument_view};
 ghost use Rattle.pli_type_names.specs.UnitNaming.{naming_in};

@@ -1,8 +1,8 @@
 //! PUT and its items.
 ghost use Rattle.std.specs.Prelude.{map};
 ghost use Rattle.pli_base.specs.views.SyntaxView as syntax;
-ghost use Rattle.pli_type.specs.StatementTyping as spec;
-ghost use Rattle.pli_type.specs.TypingSteps as steps;
+ghost use Rattle.pli_type_rules.specs.StatementTyping as spec;
+ghost use Rattle.pli_type_rules.specs.TypingSteps as steps;
 ghost use Rattle.pli_base.specs.answers.FailureAnswers.{Gives};
 ghost use Rattle.pli_type_names.specs.UnitNaming.{naming_in};
 ghost use Rattle.pli_type_tree.specs.views.TypedView.{expression_view, form_view};

@@ -1,7 +1,7 @@
 //! GOTO and RETURN.
 ghost use Rattle.std.specs.Prelude.{◌≡◌, map, option_map};
 ghost use Rattle.pli_base.specs.views.SyntaxView as syntax;
-ghost use Rattle.pli_type.specs.StatementTyping as spec;
+ghost use Rattle.pli_type_rules.specs.StatementTyping as spec;
 ghost use Rattle.pli_type.specs.views.ValueView.{value_view};
 ghost use Rattle.pli_base.specs.answers.FailureAnswers.{Gives};
 ghost use Rattle.pli_type_names.specs.UnitNaming.{naming_in};
@@ -11,11 +11,12 @@ ghost use Rattle.pli_type_tree.specs.views.TypedView.{form_view};
 
 use pli_base::syntax::{Expression, Identifier};
 use pli_base::{Code, fault};
-use pli_type::{Beginning, TypedValue, converted};
+use pli_type::{TypedValue, converted};
 use pli_type_expression::value_of;
 use pli_type_names::{NamedAs, Naming};
 use pli_type_operands::{TypeError, first_token};
 use pli_type_parts::{Surroundings, outward_to};
+use pli_type_rules::Beginning;
 use pli_type_tree::Form;
 use std::alloc::Global;
 

@@ -7,11 +7,11 @@ use Rattle.pli_base.specs.Syntax.{Expression}
 use Rattle.pli_base.specs.declared.statement.Statement.{Statement}
 use Rattle.pli_base.specs.declared.token.Fault.{Fault}
 use Rattle.pli_base.specs.views.StatementView as source
-use Rattle.pli_type.specs.Names.{NamedUnit}
-use Rattle.pli_type.specs.StatementTyping as spec
-use Rattle.pli_type.specs.StatementTyping.{Surroundings, WithProcedures, alone, of_own, together, made, put_before, leaves_nothing, body_typed, statement_typed, statements_typed, naming_at, condition, iteration}
-use Rattle.pli_type.specs.Temporaries.{Next, next_after, kept_by, temporaries_of}
-use Rattle.pli_type.specs.TypingSteps.{items, put_form}
+use Rattle.pli_type_rules.specs.Names.{NamedUnit}
+use Rattle.pli_type_rules.specs.StatementTyping as spec
+use Rattle.pli_type_rules.specs.StatementTyping.{Surroundings, WithProcedures, alone, of_own, together, made, put_before, leaves_nothing, body_typed, statement_typed, statements_typed, naming_at, condition, iteration}
+use Rattle.pli_type_rules.specs.Temporaries.{Next, next_after, kept_by, temporaries_of}
+use Rattle.pli_type_rules.specs.TypingSteps.{items, put_form}
 use Rattle.pli_type_tree.specs.TypedTree as typed
 use Rattle.pli_type_tree.specs.TypedTree.{Form, TypedExpression, TypedStatement, TypedStatements, StatementThen, NoStatement}
 use Rattle.pli_type_tree.specs.declared.statement.TypedStatement as program

@@ -1,7 +1,7 @@
 //! The check of a unit.
 ghost use Rattle.pli_base.specs.views.StatementView.{unit_view};
-ghost use Rattle.pli_resolve.specs.ResolvedUnits.{resolved_unit_of};
-ghost use Rattle.pli_type.specs.NamedUnits.{checked_unit};
+ghost use Rattle.pli_declare.specs.ResolvedUnits.{resolved_unit_of};
+ghost use Rattle.pli_type_rules.specs.NamedUnits.{checked_unit};
 ghost use Rattle.pli_type_statement.specs.answers.Answers.{Checks};
 
 use crate::statement::type_statements;

@@ -3,8 +3,8 @@ ghost use Rattle.std.specs.Prelude.{◌≡◌, ◌≤◌, ◌+◌, None, false, 
 ghost use Rattle.pli_base.specs.views.StatementView as source;
 ghost use Rattle.pli_base.specs.views.SyntaxView as syntax;
 ghost use Rattle.pli_map.specs.views.DescriptionView.{description_view};
-ghost use Rattle.pli_type.specs.StatementTyping as spec;
-ghost use Rattle.pli_type.specs.Temporaries.{next_after, kept_by, temporaries_of};
+ghost use Rattle.pli_type_rules.specs.StatementTyping as spec;
+ghost use Rattle.pli_type_rules.specs.Temporaries.{next_after, kept_by, temporaries_of};
 ghost use Rattle.pli_type_iteration.specs.Headers.{Header as PlainHeader, header_typed};
 ghost use Rattle.pli_type_walk.specs.NumbersTaken.{taken_among, taken_in, taken_of};
 ghost use Rattle.pli_type_walk.specs.Compound.{is_compound};

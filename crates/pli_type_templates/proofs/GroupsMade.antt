@@ -3,9 +3,9 @@ use Rattle.std.proofs.Common.{◌≡◌, ℕ, suc, ◌+◌, Bool, true, false, S
 use Rattle.std.specs.Prelude.{if◌then◌else◌}
 use Rattle.pli_base.specs.Name.{Name}
 use Rattle.pli_declare_outline.specs.Outlines.{PlacedMark}
-use Rattle.pli_resolve.specs.Symbols.{Symbol, SymbolKind, Variable, OpenParameter, Member, Label, Procedure, Entry, BuiltIn}
-use Rattle.pli_type.specs.InitialScalars.{InitialItem}
-use Rattle.pli_type.specs.NamedUnits.{member_items, template_at, templates_from, global_of, global_with, globals_from, kind_of_class, PlacedGlobal, placed}
+use Rattle.pli_declare.specs.Symbols.{Symbol, SymbolKind, Variable, OpenParameter, Member, Label, Procedure, Entry, BuiltIn}
+use Rattle.pli_type_rules.specs.InitialScalars.{InitialItem}
+use Rattle.pli_type_rules.specs.NamedUnits.{member_items, template_at, templates_from, global_of, global_with, globals_from, kind_of_class, PlacedGlobal, placed}
 use Rattle.pli_type_templates.specs.Groups.{HasItem, MadeVariable, global_as, global_made, is_such, made_as, made_in, template_with, templates_with}
 use Rattle.pli_type_templates.specs.ItemNames.{IsOfItem}
 use Rattle.pli_type_templates.specs.declared.lifetime.Lifetime.{Lifetime}

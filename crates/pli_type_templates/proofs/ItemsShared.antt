@@ -3,12 +3,12 @@ use Rattle.std.proofs.Common.{◌≡◌, ℕ, Option, List, [], ◌∷◌, map, 
 use Rattle.pli_base.specs.Declarations.{Item}
 use Rattle.pli_base.specs.Name.{Name}
 use Rattle.pli_base.specs.declared.declaration.InitialValue.{InitialValue}
-use Rattle.pli_declare_attributes.specs.Faults.{described_scalar, parameter_of, parameters_in, returned_in}
-use Rattle.pli_declare_attributes.specs.Initials.{values_in}
+use Rattle.pli_declare.specs.Faults.{described_scalar, parameter_of, parameters_in, returned_in}
+use Rattle.pli_declare.specs.Initials.{values_in}
 use Rattle.pli_declare_outline.specs.Outlines.{PlacedMark}
 use Rattle.pli_map.specs.Description.{Description}
 use Rattle.pli_map.specs.ParameterTypes.{ParameterType}
-use Rattle.pli_type.specs.InitialScalars.{InitialItem, template_of}
+use Rattle.pli_type_rules.specs.InitialScalars.{InitialItem, template_of}
 use Rattle.pli_type_templates.specs.Globals.{IsLike}
 use Rattle.pli_type_templates.specs.Groups.{MadeVariable, template_with}
 use Rattle.pli_type_templates.specs.ItemNames.{HasEntry, HasValues}

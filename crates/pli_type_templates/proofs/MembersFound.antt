@@ -6,9 +6,9 @@ use Rattle.std.proofs.lemmas.Bool.{cases_eq, cases_lt}
 use Rattle.std.proofs.lemmas.List.{append_assoc, append-nil, get_or-set_same, get_or-set_other, get_or-replicate, length-set, length-replicate, set_past}
 use Rattle.std.proofs.lemmas.Option.{same_Some, none-some}
 use Rattle.pli_base.specs.declared.syntax.Identifier.{Identifier}
-use Rattle.pli_resolve.specs.Symbols.{Symbol, SymbolKind, Variable, OpenParameter, Member, Label, Procedure, Entry, BuiltIn}
-use Rattle.pli_type.specs.InitialScalars.{InitialItem}
-use Rattle.pli_type.specs.NamedUnits.{member_items}
+use Rattle.pli_declare.specs.Symbols.{Symbol, SymbolKind, Variable, OpenParameter, Member, Label, Procedure, Entry, BuiltIn}
+use Rattle.pli_type_rules.specs.InitialScalars.{InitialItem}
+use Rattle.pli_type_rules.specs.NamedUnits.{member_items}
 use Rattle.pli_type_templates.specs.Groups.{AreMembers, Owned, member_in, with_member}
 
 -- those found so far with those among the symbols that are left are those among all

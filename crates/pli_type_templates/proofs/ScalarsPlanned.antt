@@ -8,7 +8,7 @@ use Rattle.pli_map.specs.Description.{Description, FixedBinary, Character, Varyi
 use Rattle.pli_map.specs.Description.{Members, NoMembers, MemberThen}
 use Rattle.pli_map.specs.Sizes.{alignment_of, count_of, size_of, stride_of}
 use Rattle.pli_map.specs.Parts.{PlacedPart}
-use Rattle.pli_type.specs.InitialScalars.{InitialItem, counted_from, each_with, initial_scalars, scalars_on, scalars_in_member, values_written}
+use Rattle.pli_type_rules.specs.InitialScalars.{InitialItem, counted_from, each_with, initial_scalars, scalars_on, scalars_in_member, values_written}
 use Rattle.pli_type_templates.specs.Items.{item_scalars}
 use Rattle.pli_type_templates.proofs.ValuesWritten.{wanted_are_enough}
 use Rattle.pli_type_templates.specs.Plans.{Leaf, Plan, leaf_in, leaf_in_member, levels_in, levels_in_member, placed, placed_as, plan_from, plans_from, scalars_planned, spread}

@@ -17,7 +17,7 @@ use Rattle.pli_map.proofs.Places.{fits_stride}
 use Rattle.pli_map.proofs.ScalarPlaces.{nodes, nodes_among}
 use Rattle.pli_bytes.proofs.DescriptionTrees.{structure_view}
 use Rattle.pli_map.specs.Scalars.{is_area}
-use Rattle.pli_type.specs.NamedUnits.{all_plain, is_length, is_plain, is_stored, is_valued, may_stand}
+use Rattle.pli_type_rules.specs.NamedUnits.{all_plain, is_length, is_plain, is_stored, is_valued, may_stand}
 use Rattle.pli_type_names.proofs.PlainLemmas.{plain_array}
 use Rattle.pli_type_templates.specs.Plans.{IsStoredLeaf, IsStoredPlan, Leaf, NoPlans, OfStructure, Plan, is_compiled_scalar, leaf_in, leaf_in_member, levels_in, levels_in_member, plan_from, plans_from}
 use Rattle.pli_type_templates.specs.declared.plan.ArrayLevel.{ArrayLevel}

@@ -13,21 +13,21 @@ use Rattle.pli_declare.specs.Resolution.{parameters_of}
 use Rattle.pli_declare.specs.Resolved as declare
 use Rattle.pli_declare.specs.Resolved.{block_at, resolved_of}
 use Rattle.pli_declare.proofs.ListsByNumber.{made_at, made_length}
-use Rattle.pli_declare_attributes.specs.Completed.{Completed, Variable, OfVariable, OfEntry, OfBuiltIn, completed_of, variable_of}
-use Rattle.pli_declare_attributes.specs.Faults.{described_scalar, parameter_of, parameters_in, returned_in}
-use Rattle.pli_declare_attributes.specs.Initials.{values_in}
-use Rattle.pli_declare_attributes.specs.Sets.{built_in, entry, has, outermost, set_of}
-use Rattle.pli_declare_attributes.specs.declared.place.ItemPlace.{ItemPlace}
+use Rattle.pli_declare.specs.Completed.{Completed, Variable, OfVariable, OfEntry, OfBuiltIn, completed_of, variable_of}
+use Rattle.pli_declare.specs.Faults.{described_scalar, parameter_of, parameters_in, returned_in}
+use Rattle.pli_declare.specs.Initials.{values_in}
+use Rattle.pli_declare.specs.Sets.{built_in, entry, has, outermost, set_of}
+use Rattle.pli_declare.specs.declared.place.ItemPlace.{ItemPlace}
 use Rattle.pli_declare_outline.specs.Outlines.{Mark, Declared, Labelled, Entered, Used, Jumped, PlacedMark, Outline, outline_of}
-use Rattle.pli_declare_tables.specs.Tables.{Entity, AsItem, AsLabel, AsProcedure, Entry, no_entry, entries_in, entries_of, inner_marks, named, unit_entries}
-use Rattle.pli_declare_variables.specs.Declarations.{Declaration, OfItem, OfLabel, OfProcedure, declaration_at, declared_in, described_result, kind_of, returned_by, whole_description}
-use Rattle.pli_declare_variables.specs.Places.{place_in}
+use Rattle.pli_declare.specs.Tables.{Entity, AsItem, AsLabel, AsProcedure, Entry, no_entry, entries_in, entries_of, inner_marks, named, unit_entries}
+use Rattle.pli_declare.specs.Declarations.{Declaration, OfItem, OfLabel, OfProcedure, declaration_at, declared_in, described_result, kind_of, returned_by, whole_description}
+use Rattle.pli_declare.specs.Places.{place_in}
 use Rattle.pli_map.specs.Description.{Description}
 use Rattle.pli_map.specs.ParameterTypes.{ParameterType}
-use Rattle.pli_resolve.specs.ResolvedUnits.{all_symbols, block_regions_of, facts_of, no_block, region_block, resolved_unit_of}
-use Rattle.pli_resolve.specs.Symbols.{Symbol, SymbolKind, SymbolFacts, Way, kind_with, symbol_kind, symbol_of, symbols_of, ways_of}
-use Rattle.pli_resolve.specs.declared.block_numbers.BlockRegion.{BlockRegion}
-use Rattle.pli_resolve.specs.declared.symbol.SymbolKey.{SymbolKey}
+use Rattle.pli_declare.specs.ResolvedUnits.{all_symbols, block_regions_of, facts_of, no_block, region_block, resolved_unit_of}
+use Rattle.pli_declare.specs.Symbols.{Symbol, SymbolKind, SymbolFacts, Way, kind_with, symbol_kind, symbol_of, symbols_of, ways_of}
+use Rattle.pli_declare.specs.declared.block_numbers.BlockRegion.{BlockRegion}
+use Rattle.pli_declare.specs.declared.symbol.SymbolKey.{SymbolKey}
 use Rattle.pli_resolve.proofs.MembersAreParts.{found_of}
 use Rattle.pli_resolve.proofs.NamesOfMarks.{item_of_entry, mark_of}
 use Rattle.pli_resolve.proofs.SymbolsAt.{symbol_beyond, symbol_inside, symbol_outside}

@@ -5,10 +5,10 @@ use Rattle.std.proofs.Math.ListN as lists
 use Rattle.std.proofs.lemmas.List.{get_or-map, length-map}
 use Rattle.std.proofs.lemmas.List.Elements.{All-get_or}
 use Rattle.pli_map.specs.Description.{Description}
-use Rattle.pli_resolve.specs.ResolvedUnits.{ResolvedUnit, all_symbols}
-use Rattle.pli_resolve.specs.declared.symbol.StorageClass.{StorageClass}
-use Rattle.pli_type.specs.NamedUnits as units
-use Rattle.pli_type.specs.NamedUnits.{block_symbols, templates_of}
+use Rattle.pli_declare.specs.ResolvedUnits.{ResolvedUnit, all_symbols}
+use Rattle.pli_declare.specs.declared.symbol.StorageClass.{StorageClass}
+use Rattle.pli_type_rules.specs.NamedUnits as units
+use Rattle.pli_type_rules.specs.NamedUnits.{block_symbols, templates_of}
 use Rattle.pli_type_templates.specs.declared.placed_globals.PlacedGlobal.{PlacedGlobal}
 use Rattle.pli_type_templates.specs.views.PlacedView.{global_view, placed_view}
 use Rattle.pli_type_tree.specs.Templates.{Template}

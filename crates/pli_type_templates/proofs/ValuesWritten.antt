@@ -7,7 +7,7 @@ use Rattle.pli_base.specs.declared.declaration.InitialValue.{InitialValue}
 use Rattle.pli_base.specs.declared.declaration.InitialValue.TheVariants as initial
 use Rattle.pli_map.specs.Description.{Description, FixedBinary, Character, Varying, Bit, Pointer, Offset, Area, Array, Structure}
 use Rattle.pli_map.specs.Values.{first_value}
-use Rattle.pli_type.specs.InitialScalars.{as_held, each_with, values_written}
+use Rattle.pli_type_rules.specs.InitialScalars.{as_held, each_with, values_written}
 use Rattle.pli_type_templates.specs.Items.{all_with, elements_of, value_of}
 use Rattle.pli_type_templates.specs.Plans.{is_compiled_scalar, placed_as}
 use Rattle.pli_value.specs.Numbers.{has_digits}

@@ -6,11 +6,11 @@ use Rattle.pli_base.specs.Name.{Name}
 use Rattle.pli_base.specs.declared.declaration.InitialValue.{InitialValue}
 use Rattle.pli_declare_outline.specs.Outlines.{PlacedMark}
 use Rattle.pli_map.specs.Description.{Description}
-use Rattle.pli_resolve.specs.Symbols.{Symbol, SymbolKind, Variable, Member, Entry}
-use Rattle.pli_resolve.specs.declared.symbol.StorageClass.{StorageClass}
-use Rattle.pli_type.specs.InitialScalars.{InitialItem, template_of}
-use Rattle.pli_type.specs.NamedUnits.{global_of, is_automatic, is_based, is_global, kind_of_class}
-use Rattle.pli_type.specs.NamedUnits.{member_items}
+use Rattle.pli_declare.specs.Symbols.{Symbol, SymbolKind, Variable, Member, Entry}
+use Rattle.pli_declare.specs.declared.symbol.StorageClass.{StorageClass}
+use Rattle.pli_type_rules.specs.InitialScalars.{InitialItem, template_of}
+use Rattle.pli_type_rules.specs.NamedUnits.{global_of, is_automatic, is_based, is_global, kind_of_class}
+use Rattle.pli_type_rules.specs.NamedUnits.{member_items}
 use Rattle.pli_type_templates.specs.ItemNames.{HasValues}
 use Rattle.pli_type_templates.specs.declared.lifetime.Lifetime.{Lifetime}
 use Rattle.pli_type_templates.specs.declared.lifetime.Lifetime.TheVariants as lifetimes

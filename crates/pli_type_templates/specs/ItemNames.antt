@@ -6,12 +6,12 @@ use Rattle.pli_base.specs.Declarations.{Item}
 use Rattle.pli_base.specs.Statements.{ExternalProcedure}
 use Rattle.pli_base.specs.declared.declaration.InitialValue.{InitialValue}
 use Rattle.pli_base.specs.declared.syntax.Identifier.{Identifier}
-use Rattle.pli_declare_attributes.specs.Faults.{described_scalar, parameter_of, parameters_in, returned_in}
-use Rattle.pli_declare_attributes.specs.Initials.{values_in}
+use Rattle.pli_declare.specs.Faults.{described_scalar, parameter_of, parameters_in, returned_in}
+use Rattle.pli_declare.specs.Initials.{values_in}
 use Rattle.pli_declare_outline.specs.Outlines.{Mark, Declared, PlacedMark, outline_of}
 use Rattle.pli_map.specs.Description.{Description}
 use Rattle.pli_map.specs.ParameterTypes.{ParameterType}
-use Rattle.pli_resolve.specs.Symbols.{Symbol, SymbolKind, Variable, Entry}
+use Rattle.pli_declare.specs.Symbols.{Symbol, SymbolKind, Variable, Entry}
 use Rattle.pli_type_templates.specs.declared.item_number.ItemNumber.{ItemNumber}
 
 -- the items that a mark declares

@@ -3,7 +3,7 @@ use Rattle.std.specs.Prelude.{ℕ, Option, Some, None, List, map}
 use Rattle.pli_base.specs.declared.declaration.InitialValue.{InitialValue}
 use Rattle.pli_base.specs.declared.declaration.InitialValue.TheVariants as initial
 use Rattle.pli_base.specs.Declarations.{integer_of}
-use Rattle.pli_type.specs.InitialScalars.{InitialItem, each_with, values_written}
+use Rattle.pli_type_rules.specs.InitialScalars.{InitialItem, each_with, values_written}
 use Rattle.pli_type_templates.specs.Plans.{Plan, scalars_planned}
 use Rattle.pli_type_tree.specs.Templates.{InitialScalar}
 use Rattle.pli_value.specs.Value.{Value, Number, Characters, Bits, Located}

@@ -8,8 +8,8 @@ use Rattle.pli_map.specs.Description.{Description, FixedBinary, Character, Varyi
 use Rattle.pli_map.specs.Description.{Area, Array, Structure, Members, NoMembers, MemberThen}
 use Rattle.pli_map.specs.Parts.{PlacedPart}
 use Rattle.pli_map.specs.Sizes.{alignment_of, count_of, size_of, stride_of}
-use Rattle.pli_type.specs.InitialScalars.{counted_from}
-use Rattle.pli_type.specs.NamedUnits.{is_length}
+use Rattle.pli_type_rules.specs.InitialScalars.{counted_from}
+use Rattle.pli_type_rules.specs.NamedUnits.{is_length}
 use Rattle.pli_type_templates.specs.declared.plan.ArrayLevel.{ArrayLevel}
 
 -- a scalar, and the byte on which it begins where all subscripts above it are the lowest

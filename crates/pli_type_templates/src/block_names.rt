@@ -2,13 +2,14 @@
 ghost use Rattle.std.specs.Prelude.{◌≡◌, IfOk, map};
 ghost use Rattle.std.specs.List.{All};
 ghost use Rattle.pli_base.specs.views.StatementView.{unit_view};
-ghost use Rattle.pli_resolve.specs.ResolvedUnits.{all_symbols, resolved_unit_of};
+ghost use Rattle.pli_declare.specs.ResolvedUnits.{all_symbols, resolved_unit_of};
 ghost use Rattle.pli_type_names.specs.UnitNaming.{symbols_in};
 ghost use Rattle.pli_type_templates.specs.views.BlockView.{AreKnown, block_symbols};
 
 use crate::items::ValuedItem;
 use crate::members::members_by_root;
-use pli_resolve::{ResolvedUnit, Symbol};
+use pli_declare::Symbol;
+use pli_resolve::ResolvedUnit;
 use pli_type_names::symbols;
 use std::alloc::{AllocError, Global};
 

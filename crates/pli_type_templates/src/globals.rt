@@ -2,8 +2,8 @@
 ghost use Rattle.std.specs.Prelude.{◌≡◌, ◌++◌, List, IfSome, OnOk, map};
 ghost use Rattle.std.specs.List.{All};
 ghost use Rattle.pli_declare_outline.specs.Outlines.{PlacedMark};
-ghost use Rattle.pli_resolve.specs.views.SymbolView.{symbol_view};
-ghost use Rattle.pli_type.specs.NamedUnits.{global_of, globals_of, kind_of_class, placed};
+ghost use Rattle.pli_declare.specs.views.SymbolView.{symbol_view};
+ghost use Rattle.pli_type_rules.specs.NamedUnits.{global_of, globals_of, kind_of_class, placed};
 ghost use Rattle.pli_type_templates.specs.Groups.{AreMembers, global_made};
 ghost use Rattle.pli_type_templates.specs.ItemNames.{AreOfItems};
 ghost use Rattle.pli_type_templates.specs.views.ItemView.{HasMadeItem, items_view, made_template, rows_view};
@@ -16,9 +16,8 @@ use crate::lifetime::Lifetime;
 use crate::made_variable::MadeVariable;
 use crate::placed_globals::{PlacedGlobal, UnitGlobal};
 use pli_base::Name;
-use pli_declare_attributes::ScopeAttribute;
+use pli_declare::{ScopeAttribute, StorageClass, Symbol, SymbolKind};
 use pli_program::VariableKind;
-use pli_resolve::{StorageClass, Symbol, SymbolKind};
 use std::alloc::AllocError;
 
 /// How the generations come of a variable of this class that is there for the whole program.

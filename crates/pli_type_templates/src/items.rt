@@ -1,7 +1,7 @@
 //! Items with INITIAL: which initial values their scalars have.
 ghost use Rattle.std.specs.Prelude.{◌≡◌, ◌++◌, IfOk, map, true};
 ghost use Rattle.pli_map.specs.views.DescriptionView.{description_view};
-ghost use Rattle.pli_type.specs.InitialScalars.{as_held, each_with, values_written};
+ghost use Rattle.pli_type_rules.specs.InitialScalars.{as_held, each_with, values_written};
 ghost use Rattle.pli_type_templates.specs.Items.{all_with, item_scalars, value_of};
 ghost use Rattle.pli_type_templates.specs.Plans.{IsStoredPlan, is_compiled_scalar, placed_as};
 ghost use Rattle.pli_type_templates.specs.views.ItemView.{item_view};

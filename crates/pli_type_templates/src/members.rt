@@ -1,11 +1,11 @@
 //! The members of variables.
 ghost use Rattle.std.specs.Prelude.{◌≡◌, ◌<◌, ◌++◌, ◌∷◌, [], IfOk, OnOk, map, option_map, slice_set, get_or, length};
-ghost use Rattle.pli_resolve.specs.views.SymbolView.{symbol_view, symbol_kind_view};
+ghost use Rattle.pli_declare.specs.views.SymbolView.{symbol_view, symbol_kind_view};
 ghost use Rattle.pli_type_templates.specs.Groups.{AreMembers, member_in, with_member};
 ghost use Rattle.pli_type_templates.specs.views.ItemView.{item_view, owned_view, rows_view};
 
 use crate::items::ValuedItem;
-use pli_resolve::{Symbol, SymbolKind};
+use pli_declare::{Symbol, SymbolKind};
 use std::alloc::{AllocError, Global};
 
 /// A member, and the number of the variable that it is a member of.

@@ -1,8 +1,8 @@
 //! The globals of a unit in the order of their names in the text.
 ghost use Rattle.std.specs.Prelude.{◌≡◌, OnOk, map};
 ghost use Rattle.std.specs.List.Sorted.{IsPermutation};
-ghost use Rattle.pli_type.specs.NamedUnits as units;
-ghost use Rattle.pli_type.specs.TextOrder.{in_order};
+ghost use Rattle.pli_type_rules.specs.NamedUnits as units;
+ghost use Rattle.pli_type_rules.specs.TextOrder.{in_order};
 ghost use Rattle.pli_type_templates.specs.views.PlacedView.{placed_view};
 
 use crate::made_variable::MadeVariable;

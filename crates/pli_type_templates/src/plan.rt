@@ -4,7 +4,7 @@ ghost use Rattle.std.specs.Int.{next_multiple_of};
 ghost use Rattle.std.specs.Prelude.{◌≡◌, ◌<◌, ◌≤◌, ◌+◌, ◌*◌, ◌++◌, IfOk, option_map, slice_get, true};
 ghost use Rattle.pli_map.specs.Sizes.{alignment_of, count_of, end_after, size_of, stride_of};
 ghost use Rattle.pli_map.specs.views.DescriptionView.{description_view, members_view};
-ghost use Rattle.pli_type.specs.NamedUnits.{all_plain, is_plain, is_stored};
+ghost use Rattle.pli_type_rules.specs.NamedUnits.{all_plain, is_plain, is_stored};
 ghost use Rattle.pli_type_templates.specs.Plans as planned;
 ghost use Rattle.pli_type_templates.specs.Plans.{plan_from, plans_from, leaf_in, levels_in};
 ghost use Rattle.pli_type_templates.specs.views.PlanView.{leaf_view, plan_view};

@@ -3,9 +3,9 @@ ghost use Rattle.std.specs.Prelude.{◌≡◌, ℕ, List, IfOk, map, option_map,
 ghost use Rattle.std.specs.List.{All};
 ghost use Rattle.pli_base.specs.views.StatementView.{unit_view};
 ghost use Rattle.pli_declare_outline.specs.Outlines.{PlacedMark};
-ghost use Rattle.pli_resolve.specs.ResolvedUnits.{resolved_unit_of};
-ghost use Rattle.pli_type.specs.NamedUnits as units;
-ghost use Rattle.pli_type.specs.NamedUnits.{all_globals, block_globals, is_based, named_unit, templates_of};
+ghost use Rattle.pli_declare.specs.ResolvedUnits.{resolved_unit_of};
+ghost use Rattle.pli_type_rules.specs.NamedUnits as units;
+ghost use Rattle.pli_type_rules.specs.NamedUnits.{all_globals, block_globals, is_based, named_unit, templates_of};
 ghost use Rattle.pli_type_templates.specs.Groups.{is_such};
 ghost use Rattle.pli_type_templates.specs.ItemNames.{AreOfItems, HasFewMarks, HasFewRegions};
 ghost use Rattle.pli_type_templates.specs.views.BlockView.{AreKnown, block_symbols};

@@ -4,7 +4,7 @@ ghost use Rattle.std.specs.Prelude.{true};
 ghost use Rattle.std.specs.Option.{unwrap_or};
 ghost use Rattle.pli_map.specs.Values.{first_value};
 ghost use Rattle.pli_map.specs.views.DescriptionView.{description_view};
-ghost use Rattle.pli_type.specs.InitialScalars.{as_held, values_written};
+ghost use Rattle.pli_type_rules.specs.InitialScalars.{as_held, values_written};
 ghost use Rattle.pli_type_templates.specs.Items.{elements_of, value_of};
 ghost use Rattle.pli_type_templates.specs.Plans.{is_compiled_scalar};
 ghost use Rattle.pli_value.specs.Strings.{fitted};
@@ -13,7 +13,8 @@ ghost use Rattle.pli_value.specs.Value as plain;
 ghost use Rattle.pli_value.specs.Value.{value_view};
 
 use pli_base::declaration::InitialValue;
-use pli_map::{Description, holds};
+use pli_bytes::holds;
+use pli_map::Description;
 use pli_value::bit::Bits;
 use pli_value::{Locator, Value, character};
 use std::alloc::{AllocError, Global};

@@ -1,7 +1,7 @@
 -- Templates (own): what a variable is made from. Initial values stand as they are written, also where they
 -- equal the value with which their scalar would begin without them.
 use Rattle.std.specs.Prelude.{List, [], ◌∷◌}
-use Rattle.pli_bytes.specs.ScalarPlaces.{scalars_at, with_value_on}
+use Rattle.pli_map.specs.ScalarPlaces.{scalars_at, with_value_on}
 use Rattle.pli_map.specs.PlacedParts.{PlacedPart}
 use Rattle.pli_value.specs.Value.{Value}
 use Rattle.pli_map.specs.Values.{first_values}

@@ -1,4 +1,5 @@
 //! What converts a value to a variable that gets it.
+
 use crate::expression::{TypedOperation, TypedReference};
 
 /// A conversion of a value that is evaluated already (X3.74).

@@ -1,4 +1,5 @@
 //! Typed references and expressions. A conversion is an operation like any other.
+
 use pli_map::{Description, StringForm, WhichBound};
 use pli_operation::Operation;
 use pli_value::Value;

@@ -1,4 +1,5 @@
 //! Groups with a control variable (X3.74).
+
 use crate::conversion::Conversion;
 use crate::expression::{TypedExpression, TypedReference};
 

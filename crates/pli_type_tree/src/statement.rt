@@ -1,5 +1,6 @@
 //! Typed statements. Statements of a unit are numbered from 1 in the order in which they begin, its blocks from 0 in
 //! the order of the text (own).
+
 use crate::conversion::Conversion;
 use crate::expression::{Callee, TypedArgument, TypedExpression, TypedReference};
 use crate::iteration::Iteration;

@@ -1,4 +1,5 @@
 //! Templates: what a variable is made from.
+
 use pli_map::Description;
 use pli_value::Value;
 

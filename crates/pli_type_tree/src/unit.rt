@@ -1,4 +1,5 @@
 //! Typed procedures and units.
+
 use crate::statement::{BlockHead, TypedStatement};
 use crate::template::{Template, VariableGroup};
 use pli_base::Name;

@@ -8,18 +8,18 @@ use Rattle.pli_map.specs.declared.dimension.WhichBound.{WhichBound}
 use Rattle.pli_map.specs.declared.dimension.WhichBound.TheVariants.{Low, High}
 use Rattle.pli_operation.specs.declared.operation.Operation.{Operation}
 use Rattle.pli_operation.specs.declared.operation.Operation.TheVariants.{Absolute, Sign as SignOf, LengthOf, Greatest, Least, Modulo, Divide as DivideTo, Index as IndexOf, Rest, Substring as SubstringOf}
-use Rattle.pli_resolve.specs.declared.built_in.BuiltInFunction.{BuiltInFunction}
-use Rattle.pli_resolve.specs.declared.built_in.BuiltInFunction.TheVariants as functions
-use Rattle.pli_type.specs.ExpressionTypes.{TypedValue, held_type, paired, null_value, empty_value}
-use Rattle.pli_type.specs.Faults.{or_fault}
-use Rattle.pli_type.specs.FunctionCalls as old
-use Rattle.pli_type.specs.FunctionCalls.{Denoted, DenotesVariable, DenotesResult, DenotesEmpty, Meant, OneValue, WholeAggregate, Argument, meant_as, area_of}
-use Rattle.pli_type.specs.FunctionCalls.{a_count, string_kind, of_one_kind, offset_within, pointer_within}
-use Rattle.pli_type.specs.References.{Referent}
-use Rattle.pli_type.specs.Typing.{one_value}
-use Rattle.pli_type.specs.declared.beginning.Beginning.{Beginning}
-use Rattle.pli_type.specs.declared.expression_type.ExpressionType.{ExpressionType}
-use Rattle.pli_type.specs.declared.expression_type.ExpressionType.TheVariants as types
+use Rattle.pli_declare.specs.declared.built_in.BuiltInFunction.{BuiltInFunction}
+use Rattle.pli_declare.specs.declared.built_in.BuiltInFunction.TheVariants as functions
+use Rattle.pli_type_rules.specs.ExpressionTypes.{TypedValue, held_type, paired, null_value, empty_value}
+use Rattle.pli_type_rules.specs.Faults.{or_fault}
+use Rattle.pli_type_rules.specs.FunctionCalls as old
+use Rattle.pli_type_rules.specs.FunctionCalls.{Denoted, DenotesVariable, DenotesResult, DenotesEmpty, Meant, OneValue, WholeAggregate, Argument, meant_as, area_of}
+use Rattle.pli_type_rules.specs.FunctionCalls.{a_count, string_kind, of_one_kind, offset_within, pointer_within}
+use Rattle.pli_type_rules.specs.References.{Referent}
+use Rattle.pli_type_rules.specs.Typing.{one_value}
+use Rattle.pli_type_rules.specs.declared.beginning.Beginning.{Beginning}
+use Rattle.pli_type_rules.specs.declared.expression_type.ExpressionType.{ExpressionType}
+use Rattle.pli_type_rules.specs.declared.expression_type.ExpressionType.TheVariants as types
 use Rattle.pli_type_tree.specs.TypedTree.{TypedExpression, TypedReference, Held}
 use Rattle.pli_type_unit.specs.Found.{◌>>=◌}
 use Rattle.pli_type_unit.specs.BuiltIns as new

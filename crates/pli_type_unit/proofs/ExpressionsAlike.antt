@@ -12,20 +12,20 @@ use Rattle.pli_base.specs.declared.code.Code.TheVariants.{WrongArgument, WrongBu
 use Rattle.pli_base.specs.declared.syntax.Joining.TheVariants.{Member, Located}
 use Rattle.pli_base.specs.declared.token.Fault.{Fault}
 use Rattle.pli_map.specs.ParameterTypes.{ParameterType, Stated, AnyString, AnyArray, ArrayOf, StructureOf}
-use Rattle.pli_resolve.specs.declared.built_in.BuiltInFunction.{BuiltInFunction}
-use Rattle.pli_resolve.specs.declared.built_in.BuiltInFunction.TheVariants as named
-use Rattle.pli_type.specs.ExpressionTypes.{type_of}
-use Rattle.pli_type.specs.declared.expression_type.ExpressionType.{ExpressionType}
-use Rattle.pli_type.specs.Faults.{or_fault}
-use Rattle.pli_type.specs.FunctionCalls as functions
-use Rattle.pli_type.specs.FunctionCalls.{Argument, Denoted, DenotesVariable, DenotesResult, DenotesEmpty, Meant, OneValue, WholeAggregate, meant_as}
-use Rattle.pli_type.specs.Names.{NamedProcedure, NamedAs, AVariable, AFunction, AProcedure, ALabel, Untyped}
-use Rattle.pli_type.specs.ProcedureCalls as calls
-use Rattle.pli_type.specs.ProcedureCalls.{handed}
-use Rattle.pli_type.specs.References.{Role, AsValue, AsArgument, AsLocator, LocatorBefore, NotLocated}
-use Rattle.pli_type.specs.Typing as old
-use Rattle.pli_type.specs.Typing.{Segment, OfVariable, OfFunction, OfEmpty, OfNoVariable, as_locator, first_token}
-use Rattle.pli_type.specs.Typing.{given_by, how_many, is_call, with_more}
+use Rattle.pli_declare.specs.declared.built_in.BuiltInFunction.{BuiltInFunction}
+use Rattle.pli_declare.specs.declared.built_in.BuiltInFunction.TheVariants as named
+use Rattle.pli_type_rules.specs.ExpressionTypes.{type_of}
+use Rattle.pli_type_rules.specs.declared.expression_type.ExpressionType.{ExpressionType}
+use Rattle.pli_type_rules.specs.Faults.{or_fault}
+use Rattle.pli_type_rules.specs.FunctionCalls as functions
+use Rattle.pli_type_rules.specs.FunctionCalls.{Argument, Denoted, DenotesVariable, DenotesResult, DenotesEmpty, Meant, OneValue, WholeAggregate, meant_as}
+use Rattle.pli_type_rules.specs.Names.{NamedProcedure, NamedAs, AVariable, AFunction, AProcedure, ALabel, Untyped}
+use Rattle.pli_type_rules.specs.ProcedureCalls as calls
+use Rattle.pli_type_rules.specs.ProcedureCalls.{handed}
+use Rattle.pli_type_rules.specs.References.{Role, AsValue, AsArgument, AsLocator, LocatorBefore, NotLocated}
+use Rattle.pli_type_rules.specs.Typing as old
+use Rattle.pli_type_rules.specs.Typing.{Segment, OfVariable, OfFunction, OfEmpty, OfNoVariable, as_locator, first_token}
+use Rattle.pli_type_rules.specs.Typing.{given_by, how_many, is_call, with_more}
 use Rattle.pli_type_tree.specs.TypedTree.{ByPlace, Called, TypedArguments, TypedExpression, TypedReference}
 use Rattle.pli_type_unit.specs.BuiltIns as built_in
 use Rattle.pli_type_unit.specs.Contexts.{Context, meaning_in}

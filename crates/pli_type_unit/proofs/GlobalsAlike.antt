@@ -11,20 +11,20 @@ use Rattle.std.proofs.lemmas.List.Sorted.{Contains-permutation}
 use Rattle.std.proofs.lemmas.Option.{same_Some, none-some, slice_get_within}
 use Rattle.pli_base.specs.Name.{Name}
 use Rattle.pli_base.specs.declared.declaration.InitialValue.{InitialValue}
-use Rattle.pli_declare_attributes.specs.declared.completed.ScopeAttribute.{ScopeAttribute}
-use Rattle.pli_declare_attributes.specs.declared.completed.ScopeAttribute.TheVariants as scopes
+use Rattle.pli_declare.specs.declared.completed.ScopeAttribute.{ScopeAttribute}
+use Rattle.pli_declare.specs.declared.completed.ScopeAttribute.TheVariants as scopes
 use Rattle.pli_map.specs.Description.{Description}
-use Rattle.pli_resolve.specs.ResolvedUnits.{ResolvedUnit, all_symbols}
-use Rattle.pli_resolve.specs.Symbols.{Symbol, SymbolKind, Variable, OpenParameter, Member, Label, Procedure, Entry, BuiltIn}
-use Rattle.pli_resolve.specs.declared.symbol.StorageClass.{StorageClass}
-use Rattle.pli_resolve.specs.declared.symbol.StorageClass.TheVariants as classes
-use Rattle.pli_resolve.specs.declared.symbol.SymbolKey.{SymbolKey}
+use Rattle.pli_declare.specs.ResolvedUnits.{ResolvedUnit, all_symbols}
+use Rattle.pli_declare.specs.Symbols.{Symbol, SymbolKind, Variable, OpenParameter, Member, Label, Procedure, Entry, BuiltIn}
+use Rattle.pli_declare.specs.declared.symbol.StorageClass.{StorageClass}
+use Rattle.pli_declare.specs.declared.symbol.StorageClass.TheVariants as classes
+use Rattle.pli_declare.specs.declared.symbol.SymbolKey.{SymbolKey}
 use Rattle.pli_sort.proofs.CorrespondLemmas.{AllBoth, both_in_order}
-use Rattle.pli_type.proofs.TextNumbers.{given_under, numbers_counted, same_items}
-use Rattle.pli_type.specs.InitialScalars.{template_of}
-use Rattle.pli_type.specs.NamedUnits as old
-use Rattle.pli_type.specs.NamedUnits.{PlacedGlobal}
-use Rattle.pli_type.specs.TextOrder.{numbers_from, text_order, text_places, place_from}
+use Rattle.pli_type_rules.proofs.TextNumbers.{given_under, numbers_counted, same_items}
+use Rattle.pli_type_rules.specs.InitialScalars.{template_of}
+use Rattle.pli_type_rules.specs.NamedUnits as old
+use Rattle.pli_type_rules.specs.NamedUnits.{PlacedGlobal}
+use Rattle.pli_type_rules.specs.TextOrder.{numbers_from, text_order, text_places, place_from}
 use Rattle.pli_type_tree.specs.Templates.{Template}
 use Rattle.pli_type_tree.specs.TypedTree.{Global}
 use Rattle.pli_type_unit.specs.UnitNames.{PlacedSymbol, block_symbols, numbered, numbered_in, count_before, may_stand, is_lasting, is_global, globals_in, global_number, global_of, kind_of_class, global_at, globals_of}

@@ -10,13 +10,13 @@ use Rattle.pli_map.specs.ParameterTypes.{ParameterType, Stated, AnyString, AnyAr
 use Rattle.pli_map.specs.Scalars.{is_area}
 use Rattle.pli_map.specs.Sizes.{extent_of, count_of, size_of}
 use Rattle.pli_map.specs.declared.description.Bounds.{Bounds}
-use Rattle.pli_resolve.specs.ResolvedUnits.{resolved_unit_of, all_symbols}
-use Rattle.pli_resolve.specs.Symbols.{Symbol, SymbolKind, Variable, OpenParameter, Member, Label, Procedure, Entry, BuiltIn}
+use Rattle.pli_declare.specs.ResolvedUnits.{resolved_unit_of, all_symbols}
+use Rattle.pli_declare.specs.Symbols.{Symbol, SymbolKind, Variable, OpenParameter, Member, Label, Procedure, Entry, BuiltIn}
 use Rattle.pli_resolve_bounds.proofs.SymbolsWithin.{symbols_are_limited}
 use Rattle.pli_resolve_bounds.specs.SymbolBounds.{IsTaken, IsLimited}
-use Rattle.pli_type.specs.NamedUnits as old
-use Rattle.pli_type.specs.NamedUnits.{checked_unit}
-use Rattle.pli_type.specs.Checked.{checked}
+use Rattle.pli_type_rules.specs.NamedUnits as old
+use Rattle.pli_type_rules.specs.NamedUnits.{checked_unit}
+use Rattle.pli_type_rules.specs.Checked.{checked}
 use Rattle.pli_type_unit.proofs.SymbolsAlike.{IsAlike, AreAlike, AreStored, IsGiven}
 use Rattle.pli_type_unit.proofs.StatementsAlike.{typed_alike}
 use Rattle.pli_type_unit.proofs.UnitsAlike.{unit_alike}

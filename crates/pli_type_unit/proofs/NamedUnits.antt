@@ -1,6 +1,6 @@
 -- The unit as the type checker sees it, by what its names mean.
-use Rattle.pli_resolve.specs.ResolvedUnits.{ResolvedUnit, meaning_at}
-use Rattle.pli_type.specs.Names.{NamedUnit, Naming}
+use Rattle.pli_declare.specs.ResolvedUnits.{ResolvedUnit, meaning_at}
+use Rattle.pli_type_rules.specs.Names.{NamedUnit, Naming}
 use Rattle.pli_type_unit.specs.Contexts.{Context}
 use Rattle.pli_type_unit.specs.UnitNames.{area_named, globals_of, is_automatic, is_based, named_as, names_based}
 use Rattle.pli_type_unit.specs.UnitNames.{parameters_of, returns_at, templates_in}

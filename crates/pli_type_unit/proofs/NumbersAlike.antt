@@ -4,10 +4,10 @@ use Rattle.std.specs.Prelude.{if◌then◌else◌}
 use Rattle.std.proofs.Common.{ap, ◌∙◌, arith}
 use Rattle.pli_base.specs.Statements as tree
 use Rattle.pli_base.specs.Statements.{Statement, Numbered, Body, Assign, Declare, Statements, Allocation, Before, Ended, Alternative}
-use Rattle.pli_resolve.specs.BlockCounts.{blocks_in, blocks_of, blocks_among, blocks_in_else}
-use Rattle.pli_resolve.specs.ResolvedUnits.{ResolvedUnit, meaning_at}
-use Rattle.pli_type.specs.StatementTyping.{inside}
-use Rattle.pli_type.specs.Temporaries.{Next, limits_kept, based_among, temporaries_in, temporaries_of, temporaries_among, temporaries_in_else}
+use Rattle.pli_declare.specs.BlockCounts.{blocks_in, blocks_of, blocks_among, blocks_in_else}
+use Rattle.pli_declare.specs.ResolvedUnits.{ResolvedUnit, meaning_at}
+use Rattle.pli_type_rules.specs.StatementTyping.{inside}
+use Rattle.pli_type_rules.specs.Temporaries.{Next, limits_kept, based_among, temporaries_in, temporaries_of, temporaries_among, temporaries_in_else}
 use Rattle.pli_type_unit.specs.Contexts.{after, after_body, after_else, after_all, taking}
 use Rattle.pli_type_unit.specs.UnitNames.{names_based}
 

@@ -17,24 +17,24 @@ use Rattle.pli_base.specs.declared.token.Fault.{Fault}
 use Rattle.pli_map.specs.Description.{Description, Members, FixedBinary, Character, Varying, Bit, Pointer, Offset, Area, Array, Structure}
 use Rattle.pli_map.specs.ParameterTypes.{ParameterType, ParameterTypes, Stated, AnyString, AnyArray, ArrayOf, StructureOf}
 use Rattle.pli_map.specs.declared.description.Bounds.{Bounds}
-use Rattle.pli_resolve.specs.ResolvedUnits.{ResolvedUnit}
-use Rattle.pli_type.specs.AllocationTyping as allocation
-use Rattle.pli_type.specs.AllocationTyping.{if_written, in_turn, only_variable, kept_for, locator_set, placed_in, placed_by, released}
-use Rattle.pli_type.specs.Beginnings.{area_meant}
-use Rattle.pli_type.specs.Checked.{checked, first_inside, in_unit, typed_as}
-use Rattle.pli_type.specs.ExpressionTypes as types
-use Rattle.pli_type.specs.ExpressionTypes.{TypedValue, unconverted}
-use Rattle.pli_type.specs.Faults.{or_fault}
-use Rattle.pli_type.specs.FunctionCalls.{Argument, Denoted, DenotesVariable, DenotesResult, DenotesEmpty, meant_as}
-use Rattle.pli_type.specs.Names.{AVariable, AProcedure, AFunction, ALabel, Untyped, LocatorVariable, NamedAs, NamedProcedure, NamedStorage, Begins, IsBased, Naming, NamedUnit}
-use Rattle.pli_type.specs.References.{Role, AsArgument, AsLocator, AsTarget, AsValue, Referent}
-use Rattle.pli_type.specs.StatementTyping as old
-use Rattle.pli_type.specs.StatementTyping.{Surroundings, WithProcedures, are_alike, area_here, as_procedure, has_locator, suits_range, without_subscripts}
-use Rattle.pli_type.specs.StatementTyping.{Enclosing, after_limits, alone, area_put, enclosing, head_of, inside, labels_of, leaves_nothing, listed, made, of_own, on_unit_of, only, procedure_of, together}
-use Rattle.pli_type.specs.Temporaries.{Next, next_after}
-use Rattle.pli_type.specs.Typing as expressions
-use Rattle.pli_type.specs.Typing.{first_token, own_token}
-use Rattle.pli_type.specs.declared.beginning.Beginning.{Beginning}
+use Rattle.pli_declare.specs.ResolvedUnits.{ResolvedUnit}
+use Rattle.pli_type_rules.specs.AllocationTyping as allocation
+use Rattle.pli_type_rules.specs.AllocationTyping.{if_written, in_turn, only_variable, kept_for, locator_set, placed_in, placed_by, released}
+use Rattle.pli_type_rules.specs.Beginnings.{area_meant}
+use Rattle.pli_type_rules.specs.Checked.{checked, first_inside, in_unit, typed_as}
+use Rattle.pli_type_rules.specs.ExpressionTypes as types
+use Rattle.pli_type_rules.specs.ExpressionTypes.{TypedValue, unconverted}
+use Rattle.pli_type_rules.specs.Faults.{or_fault}
+use Rattle.pli_type_rules.specs.FunctionCalls.{Argument, Denoted, DenotesVariable, DenotesResult, DenotesEmpty, meant_as}
+use Rattle.pli_type_rules.specs.Names.{AVariable, AProcedure, AFunction, ALabel, Untyped, LocatorVariable, NamedAs, NamedProcedure, NamedStorage, Begins, IsBased, Naming, NamedUnit}
+use Rattle.pli_type_rules.specs.References.{Role, AsArgument, AsLocator, AsTarget, AsValue, Referent}
+use Rattle.pli_type_rules.specs.StatementTyping as old
+use Rattle.pli_type_rules.specs.StatementTyping.{Surroundings, WithProcedures, are_alike, area_here, as_procedure, has_locator, suits_range, without_subscripts}
+use Rattle.pli_type_rules.specs.StatementTyping.{Enclosing, after_limits, alone, area_put, enclosing, head_of, inside, labels_of, leaves_nothing, listed, made, of_own, on_unit_of, only, procedure_of, together}
+use Rattle.pli_type_rules.specs.Temporaries.{Next, next_after}
+use Rattle.pli_type_rules.specs.Typing as expressions
+use Rattle.pli_type_rules.specs.Typing.{first_token, own_token}
+use Rattle.pli_type_rules.specs.declared.beginning.Beginning.{Beginning}
 use Rattle.pli_type_tree.specs.Extents.{is_area_type}
 use Rattle.pli_type_tree.specs.Templates.{Template}
 use Rattle.pli_type_tree.specs.TypedTree as typed

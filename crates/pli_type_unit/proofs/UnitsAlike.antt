@@ -7,16 +7,16 @@ use Rattle.std.proofs.Math.Path.{fun_ext}
 use Rattle.std.proofs.lemmas.Bool.{ne_eqb}
 use Rattle.pli_map.specs.Description.{Description}
 use Rattle.pli_map.specs.ParameterTypes.{ParameterType}
-use Rattle.pli_resolve.specs.ResolvedUnits.{ResolvedUnit, ResolvedBlock, meaning_at, all_symbols}
-use Rattle.pli_resolve.specs.Symbols.{SymbolKind, Variable, OpenParameter, Member, Label, Procedure, Entry, BuiltIn}
-use Rattle.pli_resolve.specs.declared.symbol.NameMeaning.{NameMeaning}
-use Rattle.pli_resolve.specs.declared.symbol.NameMeaning.TheVariants as meanings
-use Rattle.pli_resolve.specs.declared.symbol.StorageClass.{StorageClass}
-use Rattle.pli_resolve.specs.declared.symbol.StorageClass.TheVariants as classes
-use Rattle.pli_resolve.specs.declared.symbol.SymbolKey.{SymbolKey}
-use Rattle.pli_type.specs.NamedUnits as old
-use Rattle.pli_type.specs.Names.{NamedAs, AVariable, AProcedure, Untyped, Naming, NamedUnit, NamedStorage, Begins}
-use Rattle.pli_type.specs.declared.beginning.Beginning.{Beginning}
+use Rattle.pli_declare.specs.ResolvedUnits.{ResolvedUnit, ResolvedBlock, meaning_at, all_symbols}
+use Rattle.pli_declare.specs.Symbols.{SymbolKind, Variable, OpenParameter, Member, Label, Procedure, Entry, BuiltIn}
+use Rattle.pli_declare.specs.declared.symbol.NameMeaning.{NameMeaning}
+use Rattle.pli_declare.specs.declared.symbol.NameMeaning.TheVariants as meanings
+use Rattle.pli_declare.specs.declared.symbol.StorageClass.{StorageClass}
+use Rattle.pli_declare.specs.declared.symbol.StorageClass.TheVariants as classes
+use Rattle.pli_declare.specs.declared.symbol.SymbolKey.{SymbolKey}
+use Rattle.pli_type_rules.specs.NamedUnits as old
+use Rattle.pli_type_rules.specs.Names.{NamedAs, AVariable, AProcedure, Untyped, Naming, NamedUnit, NamedStorage, Begins}
+use Rattle.pli_type_rules.specs.declared.beginning.Beginning.{Beginning}
 use Rattle.pli_type_tree.specs.Templates.{Template}
 use Rattle.pli_type_tree.specs.TypedTree.{Callee, OfBlock, OfEntry, Global, Root}
 use Rattle.pli_type_unit.specs.UnitNames as new

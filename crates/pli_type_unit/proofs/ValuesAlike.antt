@@ -16,11 +16,11 @@ use Rattle.pli_operation.specs.declared.operation.Operation.{Operation}
 use Rattle.pli_operation.specs.declared.operation.Operation.TheVariants.{Not, Compare, Concatenate, Add, Subtract, Multiply, And, Or}
 use Rattle.pli_operation.specs.declared.operation.Relation.{Relation}
 use Rattle.pli_operation.specs.declared.operation.Relation.TheVariants.{Equal, Unequal, Less, AtMost, Greater, AtLeast}
-use Rattle.pli_type.specs.ExpressionTypes as old
-use Rattle.pli_type.specs.ExpressionTypes.{TypedValue, only_bits, string_type, string_as, string_conversions, bit_conversions, pointer_conversion, offset_conversion, null_as_offset, is_locator, precision_of}
-use Rattle.pli_type.specs.declared.beginning.Beginning.{Beginning}
-use Rattle.pli_type.specs.declared.expression_type.ExpressionType.{ExpressionType}
-use Rattle.pli_type.specs.declared.expression_type.ExpressionType.TheVariants as types
+use Rattle.pli_type_rules.specs.ExpressionTypes as old
+use Rattle.pli_type_rules.specs.ExpressionTypes.{TypedValue, only_bits, string_type, string_as, string_conversions, bit_conversions, pointer_conversion, offset_conversion, null_as_offset, is_locator, precision_of}
+use Rattle.pli_type_rules.specs.declared.beginning.Beginning.{Beginning}
+use Rattle.pli_type_rules.specs.declared.expression_type.ExpressionType.{ExpressionType}
+use Rattle.pli_type_rules.specs.declared.expression_type.ExpressionType.TheVariants as types
 use Rattle.pli_type_tree.specs.TypedTree.{TypedExpression, Fit, Conversion, ByOperations, ToPlace}
 use Rattle.pli_type_unit.specs.Found.{◌>>=◌, where_holds}
 use Rattle.pli_type_unit.specs.Values as new

@@ -8,12 +8,12 @@ use Rattle.pli_base.specs.declared.code.Code.TheVariants.{LocatorMissingOrNotAll
 use Rattle.pli_base.specs.declared.token.Fault.{Fault}
 use Rattle.pli_map.specs.Description.{Description}
 use Rattle.pli_map.specs.ParameterTypes.{ParameterType, Stated, stated, is_aggregate_type}
-use Rattle.pli_type.specs.Faults.{or_fault}
-use Rattle.pli_type.specs.Names.{NamedStorage, Begins, IsBased, NamedVariable}
-use Rattle.pli_type.specs.References as old
-use Rattle.pli_type.specs.References.{Role, wants_scalar, LocatorBefore, NotLocated, LocatedBy, LocatedWrongly}
-use Rattle.pli_type.specs.References.{Referent, is_passed, open_part, open_reference, part_of, StridedPart}
-use Rattle.pli_type.specs.References.{reference_to, with_subscripts}
+use Rattle.pli_type_rules.specs.Faults.{or_fault}
+use Rattle.pli_type_rules.specs.Names.{NamedStorage, Begins, IsBased, NamedVariable}
+use Rattle.pli_type_rules.specs.References as old
+use Rattle.pli_type_rules.specs.References.{Role, wants_scalar, LocatorBefore, NotLocated, LocatedBy, LocatedWrongly}
+use Rattle.pli_type_rules.specs.References.{Referent, is_passed, open_part, open_reference, part_of, StridedPart}
+use Rattle.pli_type_rules.specs.References.{reference_to, with_subscripts}
 use Rattle.pli_type_tree.specs.TypedTree.{Root, TypedExpression}
 use Rattle.pli_type_unit.specs.Variables as new
 use Rattle.pli_type_unit.specs.Variables.{MeantPart, part_meant}

@@ -15,19 +15,19 @@ use Rattle.pli_base.specs.declared.code.Code.TheVariants.{BadControlVariable, Ca
 use Rattle.pli_base.specs.declared.syntax.Identifier.{Identifier}
 use Rattle.pli_base.specs.declared.token.Fault.{Fault}
 use Rattle.pli_map.specs.ParameterTypes.{ParameterType, Stated, AnyString, is_aggregate_type}
-use Rattle.pli_type.specs.AllocationTyping.{if_written, kept_for, locator_set, placed_in, released}
-use Rattle.pli_type.specs.Beginnings.{area_meant}
-use Rattle.pli_type.specs.ExpressionTypes.{TypedValue, only_bits, unconverted}
-use Rattle.pli_type.specs.Faults.{or_fault}
-use Rattle.pli_type.specs.FunctionCalls.{Argument, Denoted}
-use Rattle.pli_type.specs.Names.{AVariable, AProcedure, NamedAs, NamedProcedure}
-use Rattle.pli_type.specs.Names.{NamedStorage}
-use Rattle.pli_type.specs.Names.{Begins, IsBased}
-use Rattle.pli_type.specs.References.{AsArgument, AsLocator, AsTarget, AsValue, Referent, Role}
-use Rattle.pli_type.specs.StatementTyping.{are_alike, area_put, has_locator, suits_range}
-use Rattle.pli_type.specs.StatementTyping.{without_subscripts}
-use Rattle.pli_type.specs.Typing.{first_token, own_token}
-use Rattle.pli_type.specs.declared.beginning.Beginning.{Beginning}
+use Rattle.pli_type_rules.specs.AllocationTyping.{if_written, kept_for, locator_set, placed_in, released}
+use Rattle.pli_type_rules.specs.Beginnings.{area_meant}
+use Rattle.pli_type_rules.specs.ExpressionTypes.{TypedValue, only_bits, unconverted}
+use Rattle.pli_type_rules.specs.Faults.{or_fault}
+use Rattle.pli_type_rules.specs.FunctionCalls.{Argument, Denoted}
+use Rattle.pli_type_rules.specs.Names.{AVariable, AProcedure, NamedAs, NamedProcedure}
+use Rattle.pli_type_rules.specs.Names.{NamedStorage}
+use Rattle.pli_type_rules.specs.Names.{Begins, IsBased}
+use Rattle.pli_type_rules.specs.References.{AsArgument, AsLocator, AsTarget, AsValue, Referent, Role}
+use Rattle.pli_type_rules.specs.StatementTyping.{are_alike, area_put, has_locator, suits_range}
+use Rattle.pli_type_rules.specs.StatementTyping.{without_subscripts}
+use Rattle.pli_type_rules.specs.Typing.{first_token, own_token}
+use Rattle.pli_type_rules.specs.declared.beginning.Beginning.{Beginning}
 use Rattle.pli_type_tree.specs.Extents.{is_area_type}
 use Rattle.pli_type_tree.specs.TypedTree as typed
 use Rattle.pli_type_tree.specs.TypedTree.{AllocatedItem, AllocatesControlled, Form, FreedItem, Iteration}

@@ -7,14 +7,15 @@ use Rattle.pli_operation.specs.declared.operation.Operation.TheVariants.{Absolut
 use Rattle.pli_operation.specs.declared.operation.Operation.TheVariants.{Greatest, Least, Modulo}
 use Rattle.pli_operation.specs.declared.operation.Operation.TheVariants.{Divide as DivideTo, Index as IndexOf}
 use Rattle.pli_operation.specs.declared.operation.Operation.TheVariants.{Rest, Substring as SubstringOf}
-use Rattle.pli_resolve.specs.declared.built_in.BuiltInFunction.{BuiltInFunction}
-use Rattle.pli_resolve.specs.declared.built_in.BuiltInFunction.TheVariants as functions
-use Rattle.pli_type.specs.ExpressionTypes.{TypedValue, held_type, null_value, empty_value}
-use Rattle.pli_type.specs.FunctionCalls.{Denoted, DenotesVariable, DenotesResult, DenotesEmpty, Argument}
-use Rattle.pli_type.specs.FunctionCalls.{a_count, string_kind, of_one_kind, generations_in, address_in}
-use Rattle.pli_type.specs.FunctionCalls.{area_of, bound_in, offset_within, pointer_within}
-use Rattle.pli_type.specs.References.{Role, AsValue, AsArgument, Referent}
-use Rattle.pli_type.specs.declared.expression_type.ExpressionType.TheVariants as types
+use Rattle.pli_declare.specs.declared.built_in.BuiltInFunction.{BuiltInFunction}
+use Rattle.pli_declare.specs.declared.built_in.BuiltInFunction.TheVariants as functions
+use Rattle.pli_type_rules.specs.ExpressionTypes.{TypedValue, held_type, null_value, empty_value}
+use Rattle.pli_type_rules.specs.FunctionCalls.{Denoted, DenotesVariable, DenotesResult, DenotesEmpty}
+use Rattle.pli_type_rules.specs.FunctionCalls.{Argument}
+use Rattle.pli_type_rules.specs.FunctionCalls.{a_count, string_kind, of_one_kind, generations_in, address_in}
+use Rattle.pli_type_rules.specs.FunctionCalls.{area_of, bound_in, offset_within, pointer_within}
+use Rattle.pli_type_rules.specs.References.{Role, AsValue, AsArgument, Referent}
+use Rattle.pli_type_rules.specs.declared.expression_type.ExpressionType.TheVariants as types
 use Rattle.pli_type_tree.specs.TypedTree.{Held}
 use Rattle.pli_type_unit.specs.Found.{◌>>=◌, where_holds}
 use Rattle.pli_type_unit.specs.Values.{calculated, digits_of, on_numbers}

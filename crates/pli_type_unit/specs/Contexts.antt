@@ -7,10 +7,10 @@ use Rattle.std.specs.List.{list_any}
 use Rattle.pli_base.specs.Statements as tree
 use Rattle.pli_base.specs.Statements.{Statement, Numbered, Body, Statements, Ended, Before, Alternative}
 use Rattle.pli_map.specs.Description.{Description}
-use Rattle.pli_resolve.specs.ResolvedUnits.{ResolvedUnit, meaning_at}
-use Rattle.pli_type.specs.Names.{NamedAs}
-use Rattle.pli_type.specs.StatementTyping.{labels_of, inside}
-use Rattle.pli_type.specs.Temporaries.{Next, limits_kept}
+use Rattle.pli_declare.specs.ResolvedUnits.{ResolvedUnit, meaning_at}
+use Rattle.pli_type_rules.specs.Names.{NamedAs}
+use Rattle.pli_type_rules.specs.StatementTyping.{labels_of, inside}
+use Rattle.pli_type_rules.specs.Temporaries.{Next, limits_kept}
 use Rattle.pli_type_unit.specs.UnitNames.{named_as, names_based}
 
 -- labels

@@ -18,15 +18,16 @@ use Rattle.pli_base.specs.declared.code.Code.TheVariants.{NotCallableHere}
 use Rattle.pli_base.specs.declared.syntax.Joining.TheVariants.{Member, Located}
 use Rattle.pli_base.specs.declared.token.Fault.{Fault}
 use Rattle.pli_map.specs.ParameterTypes.{ParameterType}
-use Rattle.pli_type.specs.ExpressionTypes.{TypedValue, type_of}
-use Rattle.pli_type.specs.Faults.{or_fault}
-use Rattle.pli_type.specs.FunctionCalls.{Argument, Denoted, DenotesVariable, DenotesResult, DenotesEmpty}
-use Rattle.pli_type.specs.Names.{NamedProcedure, NamedAs, AVariable, AFunction, AProcedure}
-use Rattle.pli_type.specs.ProcedureCalls.{handed, place_of}
-use Rattle.pli_type.specs.References.{Role, AsValue, AsArgument, AsLocator, LocatorBefore, NotLocated}
-use Rattle.pli_type.specs.Typing.{Segment, OfVariable, OfFunction, OfEmpty, OfNoVariable, argument}
-use Rattle.pli_type.specs.Typing.{as_locator, first_token}
-use Rattle.pli_type.specs.Typing.{given_by, how_many, is_call, with_more}
+use Rattle.pli_type_rules.specs.ExpressionTypes.{TypedValue, type_of}
+use Rattle.pli_type_rules.specs.Faults.{or_fault}
+use Rattle.pli_type_rules.specs.FunctionCalls.{Argument, Denoted, DenotesVariable, DenotesResult}
+use Rattle.pli_type_rules.specs.FunctionCalls.{DenotesEmpty}
+use Rattle.pli_type_rules.specs.Names.{NamedProcedure, NamedAs, AVariable, AFunction, AProcedure}
+use Rattle.pli_type_rules.specs.ProcedureCalls.{handed, place_of}
+use Rattle.pli_type_rules.specs.References.{Role, AsValue, AsArgument, AsLocator, LocatorBefore, NotLocated}
+use Rattle.pli_type_rules.specs.Typing.{Segment, OfVariable, OfFunction, OfEmpty, OfNoVariable, argument}
+use Rattle.pli_type_rules.specs.Typing.{as_locator, first_token}
+use Rattle.pli_type_rules.specs.Typing.{given_by, how_many, is_call, with_more}
 use Rattle.pli_type_tree.specs.TypedTree.{ByPlace, Called, NoArgument, TypedArguments, TypedExpression}
 use Rattle.pli_type_unit.specs.BuiltIns.{of_arguments, of_values, referent_in, roles_asked, value_in}
 use Rattle.pli_type_unit.specs.Contexts.{Context, meaning_in}

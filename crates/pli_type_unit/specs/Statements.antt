@@ -11,16 +11,18 @@ use Rattle.pli_base.specs.Statements.{Statement, Numbered, Body, Assign, Declare
 use Rattle.pli_base.specs.Statements.{Before, Ended, Alternative}
 use Rattle.pli_base.specs.declared.code.Code.TheVariants.{BadGoto, CannotPrint}
 use Rattle.pli_base.specs.declared.token.Fault.{Fault}
-use Rattle.pli_resolve.specs.ResolvedUnits.{ResolvedUnit}
-use Rattle.pli_type.specs.AllocationTyping.{in_turn}
-use Rattle.pli_type.specs.Checked.{is_main_option, is_nothing}
-use Rattle.pli_type.specs.Faults.{or_fault}
-use Rattle.pli_type.specs.Names.{NamedAs, ALabel}
-use Rattle.pli_type.specs.StatementTyping.{WithProcedures, alone, as_procedure, inside, leaves_nothing, made}
-use Rattle.pli_type.specs.StatementTyping.{of_own, only, together}
-use Rattle.pli_type.specs.Temporaries.{Next, limits_kept}
+use Rattle.pli_declare.specs.ResolvedUnits.{ResolvedUnit}
+use Rattle.pli_type_rules.specs.AllocationTyping.{in_turn}
+use Rattle.pli_type_rules.specs.Checked.{is_main_option, is_nothing}
+use Rattle.pli_type_rules.specs.Faults.{or_fault}
+use Rattle.pli_type_rules.specs.Names.{NamedAs, ALabel}
+use Rattle.pli_type_rules.specs.StatementTyping.{WithProcedures, alone, as_procedure, inside, leaves_nothing}
+use Rattle.pli_type_rules.specs.StatementTyping.{made}
+use Rattle.pli_type_rules.specs.StatementTyping.{of_own, only, together}
+use Rattle.pli_type_rules.specs.Temporaries.{Next, limits_kept}
 use Rattle.pli_type_tree.specs.TypedTree as typed
-use Rattle.pli_type_tree.specs.TypedTree.{BlockHead, Form, NoElse, Else, NoStatement, OtherWise, StatementThen}
+use Rattle.pli_type_tree.specs.TypedTree.{BlockHead, Form, NoElse, Else, NoStatement, OtherWise}
+use Rattle.pli_type_tree.specs.TypedTree.{StatementThen}
 use Rattle.pli_type_tree.specs.TypedTree.{TypedProcedure, TypedStatement, TypedStatements, TypedUnit}
 use Rattle.pli_type_unit.specs.Actions.{all_allocated, assignment, call_typed, condition, freed, iteration}
 use Rattle.pli_type_unit.specs.Actions.{return_typed}

@@ -10,8 +10,8 @@ use Rattle.std.specs.Option.{unwrap_or}
 use Rattle.std.specs.Ordering.{nat_cmp}
 use Rattle.pli_base.specs.Name.{Name}
 use Rattle.pli_base.specs.declared.declaration.InitialValue.{InitialValue}
-use Rattle.pli_declare_attributes.specs.declared.completed.ScopeAttribute.{ScopeAttribute}
-use Rattle.pli_declare_attributes.specs.declared.completed.ScopeAttribute.TheVariants as scopes
+use Rattle.pli_declare.specs.declared.completed.ScopeAttribute.{ScopeAttribute}
+use Rattle.pli_declare.specs.declared.completed.ScopeAttribute.TheVariants as scopes
 use Rattle.pli_map.specs.Description as described
 use Rattle.pli_map.specs.Description.{Description, Array, Structure, Members, NoMembers, MemberThen}
 use Rattle.pli_map.specs.ParameterTypes.{ParameterType, Stated, stated, is_stated}
@@ -19,23 +19,23 @@ use Rattle.pli_map.specs.Scalars.{is_area}
 use Rattle.pli_map.specs.Sizes.{size_of}
 use Rattle.pli_program.specs.declared.kind.VariableKind.{VariableKind}
 use Rattle.pli_program.specs.declared.kind.VariableKind.TheVariants as generations
-use Rattle.pli_resolve.specs.ResolvedUnits.{ResolvedUnit, ResolvedBlock, all_symbols, symbol_at}
-use Rattle.pli_resolve.specs.Symbols.{Symbol, SymbolKind, Variable, OpenParameter, Member, Label, Procedure}
-use Rattle.pli_resolve.specs.Symbols.{Entry, BuiltIn}
-use Rattle.pli_resolve.specs.declared.block_numbers.ResolvedBlockKind.{ResolvedBlockKind}
-use Rattle.pli_resolve.specs.declared.block_numbers.ResolvedBlockKind.TheVariants as kinds
-use Rattle.pli_resolve.specs.declared.symbol.NameMeaning.{NameMeaning}
-use Rattle.pli_resolve.specs.declared.symbol.NameMeaning.TheVariants as meanings
-use Rattle.pli_resolve.specs.declared.symbol.StorageClass.{StorageClass}
-use Rattle.pli_resolve.specs.declared.symbol.StorageClass.TheVariants as classes
-use Rattle.pli_resolve.specs.declared.symbol.SymbolKey.{SymbolKey}
+use Rattle.pli_declare.specs.ResolvedUnits.{ResolvedUnit, ResolvedBlock, all_symbols, symbol_at}
+use Rattle.pli_declare.specs.Symbols.{Symbol, SymbolKind, Variable, OpenParameter, Member, Label, Procedure}
+use Rattle.pli_declare.specs.Symbols.{Entry, BuiltIn}
+use Rattle.pli_declare.specs.declared.block_numbers.ResolvedBlockKind.{ResolvedBlockKind}
+use Rattle.pli_declare.specs.declared.block_numbers.ResolvedBlockKind.TheVariants as kinds
+use Rattle.pli_declare.specs.declared.symbol.NameMeaning.{NameMeaning}
+use Rattle.pli_declare.specs.declared.symbol.NameMeaning.TheVariants as meanings
+use Rattle.pli_declare.specs.declared.symbol.StorageClass.{StorageClass}
+use Rattle.pli_declare.specs.declared.symbol.StorageClass.TheVariants as classes
+use Rattle.pli_declare.specs.declared.symbol.SymbolKey.{SymbolKey}
 use Rattle.pli_sort.specs.Sorting.{in_order}
-use Rattle.pli_type.specs.Beginnings.{area_meant}
-use Rattle.pli_type.specs.InitialScalars.{InitialItem, template_of}
-use Rattle.pli_type.specs.Names.{NamedAs, AVariable, AFunction, AProcedure, ALabel, Untyped}
-use Rattle.pli_type.specs.Names.{NamedStorage, Begins, IsBased, LocatorVariable}
-use Rattle.pli_type.specs.References.{part_on, locator_at, reference_to, whole_part}
-use Rattle.pli_type.specs.declared.beginning.Beginning.{Beginning}
+use Rattle.pli_type_rules.specs.Beginnings.{area_meant}
+use Rattle.pli_type_rules.specs.InitialScalars.{InitialItem, template_of}
+use Rattle.pli_type_rules.specs.Names.{NamedAs, AVariable, AFunction, AProcedure, ALabel, Untyped}
+use Rattle.pli_type_rules.specs.Names.{NamedStorage, Begins, IsBased, LocatorVariable}
+use Rattle.pli_type_rules.specs.References.{part_on, locator_at, reference_to, whole_part}
+use Rattle.pli_type_rules.specs.declared.beginning.Beginning.{Beginning}
 use Rattle.pli_type_tree.specs.Templates.{Template}
 use Rattle.pli_type_tree.specs.TypedTree.{Callee, OfBlock, OfEntry, Global, OwnVariable, ExternalVariable}
 use Rattle.pli_type_tree.specs.TypedTree.{EntryPoint, Root, InSlot, OfProgram, NewestOf, TypedReference}

@@ -19,14 +19,16 @@ use Rattle.pli_operation.specs.declared.operation.Operation.TheVariants.{Compare
 use Rattle.pli_operation.specs.declared.operation.Relation.{Relation}
 use Rattle.pli_operation.specs.declared.operation.Relation.TheVariants.{Equal, Unequal, Less, AtMost, Greater}
 use Rattle.pli_operation.specs.declared.operation.Relation.TheVariants.{AtLeast}
-use Rattle.pli_type.specs.ExpressionTypes.{TypedValue, binary_digits, within, precision_of, string_type}
-use Rattle.pli_type.specs.ExpressionTypes.{string_as}
-use Rattle.pli_type.specs.ExpressionTypes.{is_locator, all_operands, with_one, only_bits, string_conversions}
-use Rattle.pli_type.specs.ExpressionTypes.{bit_conversions, form_type, offset_conversion, pointer_conversion}
-use Rattle.pli_type.specs.ExpressionTypes.{type_of, unconverted}
-use Rattle.pli_type.specs.declared.beginning.Beginning.{Beginning}
-use Rattle.pli_type.specs.declared.expression_type.ExpressionType.{ExpressionType}
-use Rattle.pli_type.specs.declared.expression_type.ExpressionType.TheVariants as types
+use Rattle.pli_type_rules.specs.ExpressionTypes.{TypedValue, binary_digits, within, precision_of, string_type}
+use Rattle.pli_type_rules.specs.ExpressionTypes.{string_as}
+use Rattle.pli_type_rules.specs.ExpressionTypes.{is_locator, all_operands, with_one, only_bits}
+use Rattle.pli_type_rules.specs.ExpressionTypes.{string_conversions}
+use Rattle.pli_type_rules.specs.ExpressionTypes.{bit_conversions, form_type, offset_conversion}
+use Rattle.pli_type_rules.specs.ExpressionTypes.{pointer_conversion}
+use Rattle.pli_type_rules.specs.ExpressionTypes.{type_of, unconverted}
+use Rattle.pli_type_rules.specs.declared.beginning.Beginning.{Beginning}
+use Rattle.pli_type_rules.specs.declared.expression_type.ExpressionType.{ExpressionType}
+use Rattle.pli_type_rules.specs.declared.expression_type.ExpressionType.TheVariants as types
 use Rattle.pli_type_tree.specs.Extents.{longest}
 use Rattle.pli_type_tree.specs.TypedTree.{TypedExpression, Literal, Calculated, Operate, AsPointer, AsOffset}
 use Rattle.pli_type_tree.specs.TypedTree.{Conversion, ByOperations, AsPointerIn, AsOffsetIn, ToPlace}

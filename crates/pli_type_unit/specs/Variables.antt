@@ -9,12 +9,13 @@ use Rattle.pli_base.specs.declared.code.Code.TheVariants.{LocatorMissingOrNotAll
 use Rattle.pli_base.specs.declared.token.Fault.{Fault}
 use Rattle.pli_map.specs.Description.{Description}
 use Rattle.pli_map.specs.ParameterTypes.{ParameterType, Stated, stated, is_aggregate_type}
-use Rattle.pli_type.specs.Faults.{or_fault}
-use Rattle.pli_type.specs.Names.{NamedStorage, Begins, IsBased, NamedVariable, LocatorVariable}
-use Rattle.pli_type.specs.References.{Role, wants_scalar, LocatorBefore, NotLocated, LocatedBy}
-use Rattle.pli_type.specs.References.{LocatedWrongly}
-use Rattle.pli_type.specs.References.{Referent, is_passed, open_part, open_reference, part_of, pointer_of}
-use Rattle.pli_type.specs.References.{reference_to, with_subscripts}
+use Rattle.pli_type_rules.specs.Faults.{or_fault}
+use Rattle.pli_type_rules.specs.Names.{NamedStorage, Begins, IsBased, NamedVariable, LocatorVariable}
+use Rattle.pli_type_rules.specs.References.{Role, wants_scalar, LocatorBefore, NotLocated, LocatedBy}
+use Rattle.pli_type_rules.specs.References.{LocatedWrongly}
+use Rattle.pli_type_rules.specs.References.{Referent, is_passed, open_part, open_reference, part_of}
+use Rattle.pli_type_rules.specs.References.{pointer_of}
+use Rattle.pli_type_rules.specs.References.{reference_to, with_subscripts}
 use Rattle.pli_type_tree.specs.TypedTree.{Located, Root, TypedExpression, TypedReference}
 
 -- a part of a variable, as a reference to it from where that begins, and its type

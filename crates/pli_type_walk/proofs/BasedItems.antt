@@ -4,7 +4,7 @@ use Rattle.std.proofs.lemmas.List.{at_drop_all}
 use Rattle.std.specs.Prelude.{if◌then◌else◌}
 use Rattle.pli_base.specs.declared.statement.Allocation.{Allocation}
 use Rattle.pli_base.specs.views.StatementView.{allocation_view}
-use Rattle.pli_type.specs.Temporaries.{based_among}
+use Rattle.pli_type_rules.specs.Temporaries.{based_among}
 use Rattle.pli_type_parts.proofs.SearchLemmas.{front}
 
 module _ (f : ℕ → Bool) (xs : List Allocation) (i : ℕ) (x : Allocation) (is : x ≡ get_or xs i x) (within : i < length xs) (count : ℕ) where

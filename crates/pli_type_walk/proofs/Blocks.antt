@@ -5,10 +5,10 @@ use Rattle.pli_base.specs.Statements as tree
 use Rattle.pli_base.specs.declared.statement.Condition.{Condition}
 use Rattle.pli_base.specs.declared.token.Fault.{Fault}
 use Rattle.pli_map.specs.Description.{Description}
-use Rattle.pli_type.specs.StatementTyping as spec
-use Rattle.pli_type.specs.StatementTyping.{Enclosing, Surroundings, WithProcedures, body_typed, statements_typed, with_labels, in_group, in_begin, in_on_unit, in_procedure, head_of}
-use Rattle.pli_resolve.specs.TreeBlocks.{blocks_among}
-use Rattle.pli_type.specs.Temporaries.{Next, temporaries_among}
+use Rattle.pli_type_rules.specs.StatementTyping as spec
+use Rattle.pli_type_rules.specs.StatementTyping.{Enclosing, Surroundings, WithProcedures, body_typed, statements_typed, with_labels, in_group, in_begin, in_on_unit, in_procedure, head_of}
+use Rattle.pli_declare.specs.TreeBlocks.{blocks_among}
+use Rattle.pli_type_rules.specs.Temporaries.{Next, temporaries_among}
 use Rattle.pli_type_names.specs.UnitNaming.{Names, outside, procedure_in}
 use Rattle.pli_type_templates.specs.declared.unit_templates.UnitTemplates.{UnitTemplates}
 use Rattle.pli_type_templates.specs.views.UnitView.{automatic_at, based_at, row_view}

@@ -12,9 +12,9 @@ use Rattle.pli_base.specs.laws.StatementLaws.{unit_statements}
 use Rattle.pli_base.specs.views.StatementView as source
 use Rattle.pli_declare_outline.specs.Outlines.{Mark, PlacedMark, allocation_marks, alternative_marks, both_marks, body_marks, control_marks, expression_marks, label_marks, optional_marks, outline_of, placed, regions_among, regions_else, regions_in, regions_of, statement_marks, statements_marks, statements_regions}
 use Rattle.pli_resolve.proofs.RegionWalks.{list_regions_counted}
-use Rattle.pli_resolve.specs.TreeBlocks.{blocks_in, blocks_of, blocks_among, blocks_in_else}
-use Rattle.pli_type.specs.StatementTyping.{only}
-use Rattle.pli_type.specs.Temporaries.{Next, based_among, next_after, kept_by, temporaries_among, temporaries_in_else, temporaries_in, temporaries_of}
+use Rattle.pli_declare.specs.TreeBlocks.{blocks_in, blocks_of, blocks_among, blocks_in_else}
+use Rattle.pli_type_rules.specs.StatementTyping.{only}
+use Rattle.pli_type_rules.specs.Temporaries.{Next, based_among, next_after, kept_by, temporaries_among, temporaries_in_else, temporaries_in, temporaries_of}
 use Rattle.pli_type_templates.specs.ItemNames.{HasFewMarks, HasFewRegions}
 use Rattle.pli_type_walk.specs.NumbersTaken.{taken_among, taken_else, taken_in, taken_of}
 use Rattle.pli_type_walk.specs.Walking.{HasRoom}

@@ -7,11 +7,11 @@ use Rattle.pli_base.specs.Statements as tree
 use Rattle.pli_base.specs.declared.statement.ProcedureOption.{ProcedureOption}
 use Rattle.pli_base.specs.laws.StatementLaws.{unit_out, unit_statements}
 use Rattle.pli_base.specs.views.StatementView.{option_view, statements_view, unit_view}
-use Rattle.pli_resolve.specs.ResolvedUnits.{resolved_unit_of}
-use Rattle.pli_type.specs.Checked.{checked, in_unit, first_inside, is_main, is_main_option, outer_signature, typed_as, unit_of}
-use Rattle.pli_type.specs.NamedUnits.{checked_unit}
-use Rattle.pli_type.specs.StatementTyping.{WithProcedures, statements_typed}
-use Rattle.pli_type.specs.Temporaries.{temporaries_among}
+use Rattle.pli_declare.specs.ResolvedUnits.{resolved_unit_of}
+use Rattle.pli_type_rules.specs.Checked.{checked, in_unit, first_inside, is_main, is_main_option, outer_signature, typed_as, unit_of}
+use Rattle.pli_type_rules.specs.NamedUnits.{checked_unit}
+use Rattle.pli_type_rules.specs.StatementTyping.{WithProcedures, statements_typed}
+use Rattle.pli_type_rules.specs.Temporaries.{temporaries_among}
 use Rattle.pli_type_names.specs.UnitNaming.{Names, procedure_in}
 use Rattle.pli_type_tree.specs.Templates.{Template}
 use Rattle.pli_type_tree.specs.TypedTree.{Signature, Global, TypedProcedure, TypedStatements}

@@ -7,10 +7,10 @@ use Rattle.pli_base.specs.Statements as tree
 use Rattle.pli_base.specs.laws.StatementLaws.{unit_out}
 use Rattle.pli_base.specs.views.StatementView.{statements_view, unit_view}
 use Rattle.pli_map.specs.Description.{Description}
-use Rattle.pli_resolve.specs.ResolvedUnits.{resolved_unit_of}
-use Rattle.pli_type.specs.Checked.{first_inside, in_unit}
-use Rattle.pli_type.specs.NamedUnits.{block_symbols, is_based, named_unit, templates_of}
-use Rattle.pli_type.specs.StatementTyping.{Enclosing, labels_of, statements_typed}
+use Rattle.pli_declare.specs.ResolvedUnits.{resolved_unit_of}
+use Rattle.pli_type_rules.specs.Checked.{first_inside, in_unit}
+use Rattle.pli_type_rules.specs.NamedUnits.{block_symbols, is_based, named_unit, templates_of}
+use Rattle.pli_type_rules.specs.StatementTyping.{Enclosing, labels_of, statements_typed}
 use Rattle.pli_type_names.specs.UnitNaming.{Names, inside}
 use Rattle.pli_type_templates.specs.declared.unit_templates.UnitTemplates.{UnitTemplates}
 use Rattle.pli_type_templates.specs.views.UnitView.{automatic_at, based_at}

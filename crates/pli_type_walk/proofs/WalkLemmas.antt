@@ -1,13 +1,13 @@
 -- What the walk does at parts of statements, put together.
 use Rattle.std.proofs.Common.{◌≡◌, ◌++◌, ℕ, List, [], Option, Some, None, option_map, Result, Ok, Err, IfOk, OnOk, refl, ap, sym, ◌∙◌, subst, append-nil, append_assoc}
 use Rattle.pli_base.specs.declared.token.Fault.{Fault}
-use Rattle.pli_type.specs.Names.{Naming, NamedUnit}
-use Rattle.pli_type.specs.NamedUnits.{named_unit}
+use Rattle.pli_type_rules.specs.Names.{Naming, NamedUnit}
+use Rattle.pli_type_rules.specs.NamedUnits.{named_unit}
 use Rattle.pli_base.specs.views.StatementView.{unit_view}
-use Rattle.pli_resolve.specs.ResolvedUnits.{resolved_unit_of}
-use Rattle.pli_type.specs.StatementTyping.{Surroundings, WithProcedures, alone, of_own, together, made, naming_at}
-use Rattle.pli_type.specs.Temporaries.{Next}
-use Rattle.pli_type.specs.TypingSteps.{if_form}
+use Rattle.pli_declare.specs.ResolvedUnits.{resolved_unit_of}
+use Rattle.pli_type_rules.specs.StatementTyping.{Surroundings, WithProcedures, alone, of_own, together, made, naming_at}
+use Rattle.pli_type_rules.specs.Temporaries.{Next}
+use Rattle.pli_type_rules.specs.TypingSteps.{if_form}
 use Rattle.pli_base.specs.answers.FailureAnswers.{Gives}
 use Rattle.pli_base.specs.declared.failure.Failure.{Failure}
 use Rattle.pli_base.specs.declared.failure.Failure.TheVariants as errors

@@ -4,12 +4,12 @@ use Rattle.std.specs.Prelude.{List, [], ◌∷◌, ◌++◌, length, map, take}
 use Rattle.pli_base.specs.Statements.{Body, ExternalProcedure, Statements}
 use Rattle.pli_base.specs.declared.token.Fault.{Fault}
 use Rattle.pli_map.specs.Description.{Description}
-use Rattle.pli_type.specs.Checked.{may_begin}
-use Rattle.pli_type.specs.Names.{NamedUnit}
-use Rattle.pli_type.specs.StatementTyping as spec
-use Rattle.pli_type.specs.StatementTyping.{Enclosing, Surroundings, WithProcedures, head_of}
-use Rattle.pli_resolve.specs.TreeBlocks.{blocks_among}
-use Rattle.pli_type.specs.Temporaries.{Next}
+use Rattle.pli_type_rules.specs.Checked.{may_begin}
+use Rattle.pli_type_rules.specs.Names.{NamedUnit}
+use Rattle.pli_type_rules.specs.StatementTyping as spec
+use Rattle.pli_type_rules.specs.StatementTyping.{Enclosing, Surroundings, WithProcedures, head_of}
+use Rattle.pli_declare.specs.TreeBlocks.{blocks_among}
+use Rattle.pli_type_rules.specs.Temporaries.{Next}
 use Rattle.pli_type_names.specs.UnitNaming.{inside, outside}
 use Rattle.pli_type_templates.specs.views.UnitView.{automatic_at, based_at}
 use Rattle.pli_type_tree.specs.Templates.{Template}

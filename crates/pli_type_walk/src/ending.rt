@@ -1,7 +1,7 @@
 //! Procedures and ON-units that have ended.
 ghost use Rattle.std.specs.Prelude.{◌≡◌, None, false, option_map, IfOk};
 ghost use Rattle.pli_map.specs.views.DescriptionView.{description_view};
-ghost use Rattle.pli_type.specs.StatementTyping as spec;
+ghost use Rattle.pli_type_rules.specs.StatementTyping as spec;
 ghost use Rattle.pli_type_walk.specs.Walking.{Finishes, ended_as, on_unit_ended};
 ghost use Rattle.pli_type_tree.specs.TypedTree as plain;
 ghost use Rattle.pli_type_tree.specs.views.TypedView.{form_view, statements_view};

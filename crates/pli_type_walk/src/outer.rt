@@ -4,7 +4,7 @@ ghost use Rattle.std.specs.List.{list_any};
 ghost use Rattle.pli_base.specs.views.StatementView.{option_view, unit_view};
 ghost use Rattle.pli_map.specs.views.DescriptionView.{description_view};
 ghost use Rattle.pli_map.specs.views.ParameterView.{type_seen, type_view};
-ghost use Rattle.pli_type.specs.Checked as spec;
+ghost use Rattle.pli_type_rules.specs.Checked as spec;
 ghost use Rattle.pli_type_parts.specs.Parts.{unit_named};
 ghost use Rattle.pli_type_tree.specs.views.GlobalView.{signature_view};
 

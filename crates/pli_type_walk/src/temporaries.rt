@@ -1,7 +1,7 @@
 //! How many temporaries statements have.
 ghost use Rattle.std.specs.Prelude.{◌≡◌, false, map};
 ghost use Rattle.pli_base.specs.views.StatementView.{allocation_view, body_view};
-ghost use Rattle.pli_type.specs.Temporaries.{based_among, temporaries_of};
+ghost use Rattle.pli_type_rules.specs.Temporaries.{based_among, temporaries_of};
 ghost use Rattle.pli_type_names.specs.UnitNaming.{based_in};
 ghost use Rattle.pli_type_walk.specs.Compound.{is_compound};
 

@@ -3,7 +3,7 @@ ghost use Rattle.std.specs.Prelude.{◌≡◌, option_map, IfOk};
 ghost use Rattle.pli_base.specs.views.StatementView as source;
 ghost use Rattle.pli_base.specs.views.StatementView.{unit_view};
 ghost use Rattle.pli_map.specs.views.DescriptionView.{description_view};
-ghost use Rattle.pli_type.specs.StatementTyping.{function_end, labels_of};
+ghost use Rattle.pli_type_rules.specs.StatementTyping.{function_end, labels_of};
 ghost use Rattle.pli_type_parts.specs.Around.{outermost};
 ghost use Rattle.pli_type_walk.specs.Walking.{external_with, finished, unit_with};
 ghost use Rattle.pli_type_parts.specs.views.AroundView.{around_view};

@@ -2,7 +2,7 @@
 ghost use Rattle.std.specs.Prelude.{◌≡◌, ◌<◌, option_map, IfOk};
 ghost use Rattle.pli_base.specs.views.StatementView as source;
 ghost use Rattle.pli_map.specs.views.DescriptionView.{description_view};
-ghost use Rattle.pli_type.specs.StatementTyping.{labels_of};
+ghost use Rattle.pli_type_rules.specs.StatementTyping.{labels_of};
 ghost use Rattle.pli_type_walk.specs.Walking.{Enters, Leaves};
 
 use pli_base::Fault;

@@ -1,4 +1,5 @@
 //! Modules that are written as text, two digits for each byte.
+
 use std::alloc::Global;
 use std::process::Abort;
 

@@ -2,7 +2,7 @@
 use Rattle.std.specs.Prelude.{◌≡◌}
 use Rattle.pli_base.specs.Statements.{ExternalProcedure}
 use Rattle.pli_declare.specs.Resolution as found
-use Rattle.pli_resolve.specs.ResolvedUnits as found_units
+use Rattle.pli_declare.specs.ResolvedUnits as found_units
 use Rattle.pli_declarations.specs.Units.{resolution_faults, resolved_unit_of}
 
 -- the faults of the declarations of a unit are those that are found

@@ -8,13 +8,13 @@ use Rattle.pli_base.specs.declared.declaration.WrittenLength.TheVariants as exte
 use Rattle.pli_base.specs.declared.syntax.Identifier.{Identifier}
 use Rattle.pli_map.specs.Description as described
 use Rattle.pli_map.specs.Description.{Description, Members, NoMembers, MemberThen}
-use Rattle.pli_declare_attributes.specs.Completed.{OfVariable}
-use Rattle.pli_declare_attributes.specs.declared.completed.DeclaredStorage.TheVariants.{Automatic}
-use Rattle.pli_declare_attributes.specs.declared.completed.ScopeAttribute.TheVariants.{Internal}
-use Rattle.pli_declare_attributes.specs.declared.completed.DeclaredStorage.{DeclaredStorage}
+use Rattle.pli_declare.specs.Completed.{OfVariable}
+use Rattle.pli_declare.specs.declared.completed.DeclaredStorage.TheVariants.{Automatic}
+use Rattle.pli_declare.specs.declared.completed.ScopeAttribute.TheVariants.{Internal}
+use Rattle.pli_declare.specs.declared.completed.DeclaredStorage.{DeclaredStorage}
 use Rattle.pli_declare_outline.specs.Outlines.{Declared, Labelled, Entered, Used, Jumped, Outline}
 use Rattle.pli_declare_outline.specs.declared.region.RegionKind.TheVariants as kinds
-use Rattle.pli_declare_variables.specs.Declarations.{DeclaredKind, OfItem, OfLabel, OfProcedure, Declaration}
+use Rattle.pli_declare.specs.Declarations.{DeclaredKind, OfItem, OfLabel, OfProcedure, Declaration}
 use Rattle.pli_declare.specs.examples.ResolutionExamples.{at, heading, item, plain, bit, binary, region}
 use Rattle.pli_declare.specs.examples.ResolutionExamples.{in_region, unit, Answers}
 use Rattle.pli_declare.specs.Resolution.{resolution_faults}

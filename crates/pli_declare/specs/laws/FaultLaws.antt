@@ -7,7 +7,7 @@ use Rattle.pli_base.specs.Statements.{ExternalProcedure}
 use Rattle.pli_declare_outline.specs.Outlines.{Mark, Declared, Labelled, Entered, Used, Jumped, PlacedMark}
 use Rattle.pli_declare_outline.specs.Outlines.{Outline, outline_of}
 use Rattle.pli_declare_scopes.specs.Scopes.{meant}
-use Rattle.pli_declare_tables.specs.Tables.{no_entry, entries_in, inner_marks, scope_of}
+use Rattle.pli_declare.specs.Tables.{no_entry, entries_in, inner_marks, scope_of}
 use Rattle.pli_declare.specs.Resolution.{names_of, reference_code, jump_code, returned_are, names_nothing}
 use Rattle.pli_declare.specs.Resolution.{heading_code, item_code, parameter_code, resolution_faults}
 

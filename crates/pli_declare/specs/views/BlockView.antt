@@ -5,8 +5,8 @@ use Rattle.indexmap.specs.IndexMap.{IndexMap, get}
 use Rattle.pli_base.specs.Statements.{ExternalProcedure}
 use Rattle.pli_declare_outline.specs.views.OutlineView.{regions_view}
 use Rattle.pli_declare_outline.specs.declared.region.Region.{Region}
-use Rattle.pli_declare_variables.specs.declared.declaration.Declaration.{Declaration}
-use Rattle.pli_declare_variables.specs.views.DeclarationView.{declaration_view}
+use Rattle.pli_declare.specs.declared.declaration.Declaration.{Declaration}
+use Rattle.pli_declare.specs.views.DeclarationView.{declaration_view}
 use Rattle.pli_declare.specs.Resolved as plain
 use Rattle.pli_declare.specs.Resolved.{resolved_of, meaning_at}
 use Rattle.pli_declare.specs.declared.block.BlockDeclarations.{BlockDeclarations}

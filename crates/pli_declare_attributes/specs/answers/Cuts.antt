@@ -1,6 +1,6 @@
 -- Counts of elements as the program has them: up to a limit that no list of values exceeds.
 use Rattle.std.specs.Prelude.{ℕ, ◌^◌, min, Option, option_map}
-use Rattle.pli_declare_attributes.specs.declared.place.ItemPlace.{ItemPlace}
+use Rattle.pli_declare.specs.declared.place.ItemPlace.{ItemPlace}
 
 -- 2 ^ 128 - 1: the values of one INITIAL are for no more elements
 abbrev pub most_elements : ℕ

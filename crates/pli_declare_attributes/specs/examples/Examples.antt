@@ -17,14 +17,14 @@ use Rattle.pli_map.specs.Description as type
 use Rattle.pli_map.specs.declared.description.Bounds.{Bounds}
 use Rattle.pli_map.specs.ParameterTypes.{ParameterType, Stated, AnyString, AnyArray, ArrayOf}
 use Rattle.pli_map.specs.declared.parameter.StringForm.TheVariants as forms
-use Rattle.pli_declare_attributes.specs.Completed.{Completed, OfVariable, OfEntry, OfBuiltIn, completed_of}
-use Rattle.pli_declare_attributes.specs.Faults.{item_fault, result_fault}
-use Rattle.pli_declare_attributes.specs.declared.place.ItemPlace.{ItemPlace}
-use Rattle.pli_declare_attributes.specs.declared.place.Position.TheVariants as position
-use Rattle.pli_declare_attributes.specs.declared.completed.DeclaredStorage.{DeclaredStorage}
-use Rattle.pli_declare_attributes.specs.declared.completed.ScopeAttribute.{ScopeAttribute}
-use Rattle.pli_declare_attributes.specs.declared.completed.DeclaredStorage.TheVariants as storage
-use Rattle.pli_declare_attributes.specs.declared.completed.ScopeAttribute.TheVariants as scope
+use Rattle.pli_declare.specs.Completed.{Completed, OfVariable, OfEntry, OfBuiltIn, completed_of}
+use Rattle.pli_declare.specs.Faults.{item_fault, result_fault}
+use Rattle.pli_declare.specs.declared.place.ItemPlace.{ItemPlace}
+use Rattle.pli_declare.specs.declared.place.Position.TheVariants as position
+use Rattle.pli_declare.specs.declared.completed.DeclaredStorage.{DeclaredStorage}
+use Rattle.pli_declare.specs.declared.completed.ScopeAttribute.{ScopeAttribute}
+use Rattle.pli_declare.specs.declared.completed.DeclaredStorage.TheVariants as storage
+use Rattle.pli_declare.specs.declared.completed.ScopeAttribute.TheVariants as scope
 
 -- at level 1, without members
 abbrev pub alone : ItemPlace

@@ -4,10 +4,10 @@ use Rattle.std.specs.List.{list_any}
 use Rattle.pli_base.specs.Declarations as tree
 use Rattle.pli_map.specs.Description.{Description, FixedBinary, Character, Varying, Bit, Pointer, Offset}
 use Rattle.pli_map.specs.Description.{Area, Array, Structure}
-use Rattle.pli_declare_attributes.specs.Sets.{has, kind_of, set_of}
-use Rattle.pli_declare_attributes.specs.Faults.{item_fault, result_fault, parameter_fault, described_scalar}
-use Rattle.pli_declare_attributes.specs.Completed.{Variable, OfVariable, completed_of}
-use Rattle.pli_declare_attributes.specs.declared.place.ItemPlace.{ItemPlace}
+use Rattle.pli_declare.specs.Sets.{has, kind_of, set_of}
+use Rattle.pli_declare.specs.Faults.{item_fault, result_fault, parameter_fault, described_scalar}
+use Rattle.pli_declare.specs.Completed.{Variable, OfVariable, completed_of}
+use Rattle.pli_declare.specs.declared.place.ItemPlace.{ItemPlace}
 
 -- an attribute is in the set exactly where it stands
 abbrev pub SetsAreOfWhatStands : Type 0

@@ -8,8 +8,8 @@ use Rattle.pli_declare_scopes.specs.Scopes.{meant}
 use Rattle.pli_declare_scopes.specs.declared.found.ReferenceMeaning.TheVariants.{Item as Means}
 use Rattle.pli_declare_scopes.specs.declared.found.ReferenceMeaning.TheVariants.{Ambiguous as Several}
 use Rattle.pli_declare_scopes.specs.declared.found.ReferenceMeaning.TheVariants.{NotDeclared as Nothing}
-use Rattle.pli_declare_tables.specs.Tables.{Entry, entries_in, unit_entries, scope_of, tables_of}
-use Rattle.pli_declare_tables.specs.Tables.{numbers_from, inner_marks}
+use Rattle.pli_declare.specs.Tables.{Entry, entries_in, unit_entries, scope_of, tables_of}
+use Rattle.pli_declare.specs.Tables.{numbers_from, inner_marks}
 use Rattle.pli_declare_variables.specs.Judging.{all_judged}
 use Rattle.pli_declare_variables.specs.declared.judged.Judged.{Judged}
 use Rattle.pli_declare.specs.Resolution.{parameters_of}

@@ -4,7 +4,7 @@ use Rattle.std.specs.Prelude.{◌≡◌, ℕ, Bool, true, ◌&&◌, Option, Some
 use Rattle.pli_base.specs.Name.{Name}
 use Rattle.pli_base.specs.Declarations.{SimpleAttribute}
 use Rattle.pli_declare_outline.specs.Outlines.{Outline}
-use Rattle.pli_declare_variables.specs.AttributeNames.{area_in, locator_in}
+use Rattle.pli_declare.specs.AttributeNames.{area_in, locator_in}
 use Rattle.pli_declare.specs.declared.block.Target.{Target}
 use Rattle.pli_declare.specs.declared.block.Target.TheVariants.{Name as AName}
 use Rattle.pli_declare_faults.specs.answers.Answers.{IsLookedUp}

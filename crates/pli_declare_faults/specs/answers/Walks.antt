@@ -8,10 +8,10 @@ use Rattle.pli_base.specs.declared.code.Code.TheVariants.{DeclaredTwice, Attribu
 use Rattle.pli_base.specs.declared.syntax.Identifier.{Identifier}
 use Rattle.pli_base.specs.declared.token.Fault.{Fault}
 use Rattle.pli_declare_outline.specs.Outlines.{Mark, Declared, Labelled, Entered, Used, Jumped, Outline}
-use Rattle.pli_declare_attributes.specs.Faults.{first_of}
+use Rattle.pli_declare.specs.Faults.{first_of}
 use Rattle.pli_base.specs.Declarations as tree
-use Rattle.pli_declare_tables.specs.Tables.{Entity, AsItem, AsLabel, AsProcedure, entries_in}
-use Rattle.pli_declare_tables.specs.Tables.{numbers_from, inner_marks}
+use Rattle.pli_declare.specs.Tables.{Entity, AsItem, AsLabel, AsProcedure, entries_in}
+use Rattle.pli_declare.specs.Tables.{numbers_from, inner_marks}
 use Rattle.pli_declare.specs.Resolution.{parameters_of, item_code, at_token, faults_after}
 use Rattle.pli_declare.specs.Resolution.{attribute_is_good, described_is_good, returned_are}
 

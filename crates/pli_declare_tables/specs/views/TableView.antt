@@ -5,7 +5,7 @@ use Rattle.pli_base.specs.declared.syntax.Identifier.{Identifier}
 use Rattle.pli_base.specs.Declarations as tree
 use Rattle.pli_base.specs.views.DeclarationView.{item_view}
 use Rattle.pli_base.specs.views.StatementView.{unit_view}
-use Rattle.pli_declare_tables.specs.Tables as plain
+use Rattle.pli_declare.specs.Tables as plain
 use Rattle.pli_declare_tables.specs.declared.entry.Entity.{Entity}
 use Rattle.pli_declare_tables.specs.declared.entry.Entity.TheVariants as entities
 use Rattle.pli_declare_tables.specs.declared.entry.Entry.{Entry}

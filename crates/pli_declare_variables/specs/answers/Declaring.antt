@@ -2,15 +2,15 @@
 use Rattle.std.specs.Prelude.{◌≡◌, ℕ, false, ◌&&◌, Option, None, is_none, List, get_or, if◌then◌else◌}
 use Rattle.pli_base.specs.declared.code.Code.{Code}
 use Rattle.pli_map.specs.Description.{Description}
-use Rattle.pli_declare_attributes.specs.Completed.{completed_of}
-use Rattle.pli_declare_attributes.specs.Faults.{item_fault}
+use Rattle.pli_declare.specs.Completed.{completed_of}
+use Rattle.pli_declare.specs.Faults.{item_fault}
 use Rattle.pli_declare_attributes.specs.answers.Cuts.{cut_place}
-use Rattle.pli_declare_attributes.specs.declared.place.ItemPlace.{ItemPlace}
-use Rattle.pli_declare_tables.specs.Tables.{Entity, AsItem, AsLabel, AsProcedure, Entry, no_entry}
-use Rattle.pli_declare_variables.specs.Places.{is_variable}
-use Rattle.pli_declare_variables.specs.Descriptions.{described}
-use Rattle.pli_declare_variables.specs.Declarations.{DeclaredKind, OfItem, OfLabel, OfProcedure, returned_by}
-use Rattle.pli_declare_variables.specs.Declarations.{described_result, AreSound}
+use Rattle.pli_declare.specs.declared.place.ItemPlace.{ItemPlace}
+use Rattle.pli_declare.specs.Tables.{Entity, AsItem, AsLabel, AsProcedure, Entry, no_entry}
+use Rattle.pli_declare.specs.Places.{is_variable}
+use Rattle.pli_declare.specs.Descriptions.{described}
+use Rattle.pli_declare.specs.Declarations.{DeclaredKind, OfItem, OfLabel, OfProcedure, returned_by}
+use Rattle.pli_declare.specs.Declarations.{described_result, AreSound}
 
 -- at a place, with a description
 abbrev pub kind_with : ItemPlace → Option Description → Entity → DeclaredKind

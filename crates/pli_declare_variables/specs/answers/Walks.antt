@@ -4,16 +4,16 @@ use Rattle.std.specs.Prelude.{length, get_or}
 use Rattle.std.specs.List.{list_any, list_all}
 use Rattle.pli_base.specs.Name.{Name}
 use Rattle.pli_base.specs.Words.{same_name}
-use Rattle.pli_declare_attributes.specs.Extents.{is_array}
-use Rattle.pli_declare_attributes.specs.Initials.{elements_inside}
+use Rattle.pli_declare.specs.Extents.{is_array}
+use Rattle.pli_declare.specs.Initials.{elements_inside}
 use Rattle.pli_declare_attributes.specs.answers.Cuts.{cut, cut_place}
-use Rattle.pli_declare_attributes.specs.Sets.{none_of, based, set_of, outermost}
-use Rattle.pli_declare_attributes.specs.declared.place.ItemPlace.{ItemPlace}
+use Rattle.pli_declare.specs.Sets.{none_of, based, set_of, outermost}
+use Rattle.pli_declare.specs.declared.place.ItemPlace.{ItemPlace}
 use Rattle.pli_base.specs.Declarations.{Item}
-use Rattle.pli_declare_tables.specs.Tables.{Entry}
-use Rattle.pli_declare_variables.specs.Places.{owners_of, members_of, item_of, is_bad_level, stands_alone}
-use Rattle.pli_declare_variables.specs.Places.{position_of, elements_through, is_built_in, set_in, is_locator}
-use Rattle.pli_declare_variables.specs.Places.{is_area, place_in}
+use Rattle.pli_declare.specs.Tables.{Entry}
+use Rattle.pli_declare.specs.Places.{owners_of, members_of, item_of, is_bad_level, stands_alone}
+use Rattle.pli_declare.specs.Places.{position_of, elements_through, is_built_in, set_in, is_locator}
+use Rattle.pli_declare.specs.Places.{is_area, place_in}
 use Rattle.pli_declare_variables.specs.declared.places.LevelsAbove.{LevelsAbove}
 use Rattle.pli_declare_variables.specs.declared.locators.Chain.{Chain}
 use Rattle.pli_declare_variables.specs.declared.locators.Nameable.{Nameable}

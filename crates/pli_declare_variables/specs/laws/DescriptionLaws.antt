@@ -2,12 +2,12 @@
 use Rattle.std.specs.Prelude.{◌≡◌, ℕ, ◌<◌, true, false, List, length, get_or, None, option_map}
 use Rattle.pli_base.specs.Name.{Name}
 use Rattle.pli_declare_outline.specs.Outlines.{Outline}
-use Rattle.pli_declare_attributes.specs.Extents.{all_bounds}
-use Rattle.pli_declare_attributes.specs.Faults.{with_bounds}
-use Rattle.pli_declare_tables.specs.Tables.{entries_in}
-use Rattle.pli_declare_variables.specs.Descriptions.{is_of_shape, scalar_at, inside, own_codes}
-use Rattle.pli_declare_variables.specs.Descriptions.{description_of}
-use Rattle.pli_declare_variables.specs.Places.{item_of, members_of}
+use Rattle.pli_declare.specs.Extents.{all_bounds}
+use Rattle.pli_declare.specs.Faults.{with_bounds}
+use Rattle.pli_declare.specs.Tables.{entries_in}
+use Rattle.pli_declare.specs.Descriptions.{is_of_shape, scalar_at, inside, own_codes}
+use Rattle.pli_declare.specs.Descriptions.{description_of}
+use Rattle.pli_declare.specs.Places.{item_of, members_of}
 
 -- the description of an item that has none of A3 to A7 is that of its members, or of its own type where it
 -- has none, with its bounds

@@ -1,8 +1,8 @@
 -- The blocks of a resolved unit are those of its tree.
 use Rattle.std.specs.Prelude.{◌≡◌, map, length}
 use Rattle.pli_base.specs.Statements.{ExternalProcedure}
-use Rattle.pli_resolve.specs.ResolvedUnits.{ResolvedBlock, resolved_unit_of}
-use Rattle.pli_resolve.specs.TreeBlocks.{TreeBlock, unit_blocks}
+use Rattle.pli_declare.specs.ResolvedUnits.{ResolvedBlock, resolved_unit_of}
+use Rattle.pli_declare.specs.TreeBlocks.{TreeBlock, unit_blocks}
 
 -- a block, as a walk over the tree sees it
 abbrev pub in_tree : ResolvedBlock → TreeBlock

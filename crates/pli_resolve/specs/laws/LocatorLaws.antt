@@ -7,21 +7,21 @@ use Rattle.pli_base.specs.Statements.{ExternalProcedure}
 use Rattle.pli_base.specs.declared.declaration.InitialValue.{InitialValue}
 use Rattle.pli_map.specs.Description.{Description, Pointer, Offset, Area, Structure}
 use Rattle.pli_declare.specs.Resolution.{resolution_faults}
-use Rattle.pli_declare_variables.specs.AttributeNames.{plain_of, simple_of, area_in, locator_in}
-use Rattle.pli_declare_attributes.specs.declared.completed.ScopeAttribute.{ScopeAttribute}
+use Rattle.pli_declare.specs.AttributeNames.{plain_of, simple_of, area_in, locator_in}
+use Rattle.pli_declare.specs.declared.completed.ScopeAttribute.{ScopeAttribute}
 use Rattle.pli_declare_outline.specs.Outlines.{Outline, outline_of}
-use Rattle.pli_declare_tables.specs.Tables.{Entity, AsItem, AsLabel, AsProcedure, Entry, no_entry}
-use Rattle.pli_declare_tables.specs.Tables.{entries_in, unit_entries}
-use Rattle.pli_declare_variables.specs.Declarations.{returned_by}
-use Rattle.pli_resolve.specs.ResolvedUnits.{ResolvedUnit, resolved_unit_of, symbol_at, block_regions_of}
-use Rattle.pli_resolve.specs.Symbols.{Symbol, SymbolKind, Variable, OpenParameter, Member, Label, Procedure}
-use Rattle.pli_resolve.specs.Symbols.{BuiltIn}
-use Rattle.pli_resolve.specs.Symbols as symbols
+use Rattle.pli_declare.specs.Tables.{Entity, AsItem, AsLabel, AsProcedure, Entry, no_entry}
+use Rattle.pli_declare.specs.Tables.{entries_in, unit_entries}
+use Rattle.pli_declare.specs.Declarations.{returned_by}
+use Rattle.pli_declare.specs.ResolvedUnits.{ResolvedUnit, resolved_unit_of, symbol_at, block_regions_of}
+use Rattle.pli_declare.specs.Symbols.{Symbol, SymbolKind, Variable, OpenParameter, Member, Label, Procedure}
+use Rattle.pli_declare.specs.Symbols.{BuiltIn}
+use Rattle.pli_declare.specs.Symbols as symbols
 use Rattle.pli_resolve.specs.laws.MemberLaws.{member_at}
-use Rattle.pli_resolve.specs.declared.block_numbers.BlockRegion.{BlockRegion}
-use Rattle.pli_resolve.specs.declared.symbol.StorageClass.{StorageClass}
-use Rattle.pli_resolve.specs.declared.symbol.StorageClass.TheVariants as classes
-use Rattle.pli_resolve.specs.declared.symbol.SymbolKey.{SymbolKey}
+use Rattle.pli_declare.specs.declared.block_numbers.BlockRegion.{BlockRegion}
+use Rattle.pli_declare.specs.declared.symbol.StorageClass.{StorageClass}
+use Rattle.pli_declare.specs.declared.symbol.StorageClass.TheVariants as classes
+use Rattle.pli_declare.specs.declared.symbol.SymbolKey.{SymbolKey}
 
 -- the member of this number of a structure: an array has none without subscripts
 abbrev pub plain_member : Description → (number : ℕ) → Option Description

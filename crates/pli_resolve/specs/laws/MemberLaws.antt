@@ -5,15 +5,15 @@ use Rattle.pli_base.specs.Statements.{ExternalProcedure}
 use Rattle.pli_base.specs.declared.declaration.InitialValue.{InitialValue}
 use Rattle.pli_map.specs.Description.{Description, Array, Structure, Members, NoMembers, MemberThen}
 use Rattle.pli_declare.specs.Resolution.{parameters_of, resolution_faults}
-use Rattle.pli_declare_attributes.specs.declared.completed.ScopeAttribute.{ScopeAttribute}
+use Rattle.pli_declare.specs.declared.completed.ScopeAttribute.{ScopeAttribute}
 use Rattle.pli_declare_outline.specs.Outlines.{outline_of}
-use Rattle.pli_declare_tables.specs.Tables.{no_entry, entries_in}
-use Rattle.pli_declare_variables.specs.Descriptions.{description_of}
-use Rattle.pli_resolve.specs.ResolvedUnits.{resolved_unit_of, symbol_at, block_regions_of}
-use Rattle.pli_resolve.specs.Symbols.{Symbol, Variable, Member}
-use Rattle.pli_resolve.specs.declared.block_numbers.BlockRegion.{BlockRegion}
-use Rattle.pli_resolve.specs.declared.symbol.StorageClass.{StorageClass}
-use Rattle.pli_resolve.specs.declared.symbol.SymbolKey.{SymbolKey}
+use Rattle.pli_declare.specs.Tables.{no_entry, entries_in}
+use Rattle.pli_declare.specs.Descriptions.{description_of}
+use Rattle.pli_declare.specs.ResolvedUnits.{resolved_unit_of, symbol_at, block_regions_of}
+use Rattle.pli_declare.specs.Symbols.{Symbol, Variable, Member}
+use Rattle.pli_declare.specs.declared.block_numbers.BlockRegion.{BlockRegion}
+use Rattle.pli_declare.specs.declared.symbol.StorageClass.{StorageClass}
+use Rattle.pli_declare.specs.declared.symbol.SymbolKey.{SymbolKey}
 
 -- the member of this number among the members of a structure
 abbrev pub member_at : Members → (number : ℕ) → Option Description

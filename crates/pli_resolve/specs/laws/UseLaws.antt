@@ -5,14 +5,14 @@ use Rattle.pli_base.specs.declared.syntax.Identifier.{Identifier}
 use Rattle.pli_declare.specs.Resolution.{resolution_faults}
 use Rattle.pli_declare_outline.specs.Outlines.{Mark, Used, Jumped, PlacedMark, outline_of}
 use Rattle.pli_declare_constructs.specs.Reach.{reaches}
-use Rattle.pli_declare_tables.specs.Tables.{inner_marks}
-use Rattle.pli_resolve.specs.ResolvedUnits.{ResolvedUnit, resolved_unit_of, meaning_at, symbol_at}
-use Rattle.pli_resolve.specs.StatementPlaces.{unit_places}
-use Rattle.pli_resolve.specs.Symbols.{Symbol, Label}
-use Rattle.pli_resolve.specs.declared.statement_places.StatementPlace.{StatementPlace}
-use Rattle.pli_resolve.specs.declared.symbol.NameMeaning.{NameMeaning}
-use Rattle.pli_resolve.specs.declared.symbol.NameMeaning.TheVariants as meanings
-use Rattle.pli_resolve.specs.declared.symbol.SymbolKey.{SymbolKey}
+use Rattle.pli_declare.specs.Tables.{inner_marks}
+use Rattle.pli_declare.specs.ResolvedUnits.{ResolvedUnit, resolved_unit_of, meaning_at, symbol_at}
+use Rattle.pli_declare.specs.StatementPlaces.{unit_places}
+use Rattle.pli_declare.specs.Symbols.{Symbol, Label}
+use Rattle.pli_declare.specs.declared.statement_places.StatementPlace.{StatementPlace}
+use Rattle.pli_declare.specs.declared.symbol.NameMeaning.{NameMeaning}
+use Rattle.pli_declare.specs.declared.symbol.NameMeaning.TheVariants as meanings
+use Rattle.pli_declare.specs.declared.symbol.SymbolKey.{SymbolKey}
 
 -- what is meant is there: a built-in function, or a name that a block of the unit declares
 abbrev pub IsThere : ResolvedUnit → NameMeaning → Type 0

@@ -1,8 +1,8 @@
 -- What is found once for each block, apart from where it lies in memory.
 use Rattle.std.specs.Prelude.{ℕ, Option, Some, None, List, [], map}
 use Rattle.pli_declare.specs.Resolved as declare
-use Rattle.pli_resolve.specs.Symbols as plain
-use Rattle.pli_resolve.specs.Symbols.{ways_of, number_declared}
+use Rattle.pli_declare.specs.Symbols as plain
+use Rattle.pli_declare.specs.Symbols.{ways_of, number_declared}
 use Rattle.pli_resolve.specs.declared.tables.BlockTable.{BlockTable}
 use Rattle.pli_resolve.specs.declared.ways.Way.{Way}
 

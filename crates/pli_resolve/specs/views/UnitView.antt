@@ -9,16 +9,16 @@ use Rattle.pli_map.specs.Description as described
 use Rattle.pli_map.specs.declared.description.Description.{Description}
 use Rattle.pli_map.specs.views.DescriptionView.{description_view}
 use Rattle.pli_declare_outline.specs.Outlines.{outline_of}
-use Rattle.pli_declare_tables.specs.Tables.{inner_marks}
+use Rattle.pli_declare.specs.Tables.{inner_marks}
 use Rattle.pli_declare.specs.Resolved.{resolved_of}
 use Rattle.pli_base.specs.declared.failure.Failure.{Failure}
 use Rattle.pli_base.specs.declared.token.Fault.{Fault}
 use Rattle.pli_declare.specs.views.ResolvedView.{IsResolved}
-use Rattle.pli_resolve.specs.StatementPlaces.{unit_starts, unit_places}
-use Rattle.pli_resolve.specs.Symbols.{found_in, ways_of}
-use Rattle.pli_resolve.specs.ResolvedUnits as plain
-use Rattle.pli_resolve.specs.ResolvedUnits.{numbers_of, block_regions_of, functions_in, label_statement}
-use Rattle.pli_resolve.specs.ResolvedUnits.{procedures_in}
+use Rattle.pli_declare.specs.StatementPlaces.{unit_starts, unit_places}
+use Rattle.pli_declare.specs.Symbols.{found_in, ways_of}
+use Rattle.pli_declare.specs.ResolvedUnits as plain
+use Rattle.pli_declare.specs.ResolvedUnits.{numbers_of, block_regions_of, functions_in, label_statement}
+use Rattle.pli_declare.specs.ResolvedUnits.{procedures_in}
 use Rattle.pli_resolve.specs.views.TableView.{way_view, block_table_view, block_table_of}
 use Rattle.pli_resolve.specs.declared.unit.ResolvedBlock.{ResolvedBlock}
 use Rattle.pli_resolve.specs.declared.unit_tables.RegionNumbers.{RegionNumbers}

@@ -3,9 +3,10 @@ ghost use Rattle.std.specs.Prelude.{◌≤◌, length};
 use crate::tests::tokens::tokens_of;
 use pli_base::declaration::Item;
 use pli_base::{Code, TokenText};
+use pli_declare::{Completed, ItemPlace, Position};
 use pli_declare_attributes::{
-    Completed, ItemFacts, ItemPlace, Named, Position, array_layout, completed_item,
-    completed_result, elements_within, has_star, item_fault, lesser, result_fault, scalar_layout,
+    ItemFacts, Named, array_layout, completed_item, completed_result, elements_within, has_star,
+    item_fault, lesser, result_fault, scalar_layout,
 };
 use pli_map::{Description, ParameterType, StringForm};
 use pli_parse_declaration::{declaration_at, returned_at};
@@ -42,7 +43,7 @@ fn is_known(rt: &impl Abort, alloc: Global, item: &Item) -> bool {
 }
 
 /// How many bytes an element of an item takes, as an array without dimensions has it.
-#[tactic(auto, unfolding(pli_declare_attributes::specs::Extents::are_bad_bounds))]
+#[tactic(auto, unfolding(pli_declare::specs::Extents::are_bad_bounds))]
 fn size_of(item: &Item) -> Option<u32> {
     let element = scalar_layout(&item.attributes)?;
     Some(array_layout(element, &[])?.bytes)

@@ -1,5 +1,5 @@
 -- What an expression with its type says, apart from where it lies in memory.
-use Rattle.pli_type.specs.ExpressionTypes as plain
+use Rattle.pli_type_rules.specs.ExpressionTypes as plain
 use Rattle.pli_type.specs.declared.typed_value.TypedValue.{TypedValue}
 use Rattle.pli_type_tree.specs.views.TypedView.{expression_view}
 

@@ -1,8 +1,8 @@
 -- What stands in front of names and between arrows, apart from where it lies in memory.
 use Rattle.std.specs.Prelude.{ℕ, List, map}
-use Rattle.pli_type.specs.Names as names
-use Rattle.pli_type.specs.References as references
-use Rattle.pli_type.specs.Typing as typing
+use Rattle.pli_type_rules.specs.Names as names
+use Rattle.pli_type_rules.specs.References as references
+use Rattle.pli_type_rules.specs.Typing as typing
 use Rattle.pli_type.specs.views.ValueView.{value_view}
 use Rattle.pli_type_tree.specs.TypedTree as tree
 use Rattle.pli_type_tree.specs.views.TypedView.{expression_view, reference_view}

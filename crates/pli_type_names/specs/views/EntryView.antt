@@ -4,7 +4,7 @@ use Rattle.pli_base.specs.declared.statement.Procedure.{Procedure}
 use Rattle.pli_base.specs.views.StatementView.{unit_view}
 use Rattle.pli_map.specs.views.DescriptionView.{description_view}
 use Rattle.pli_map.specs.views.ParameterView.{type_seen}
-use Rattle.pli_resolve.specs.ResolvedUnits.{resolved_unit_of}
+use Rattle.pli_declare.specs.ResolvedUnits.{resolved_unit_of}
 use Rattle.pli_type_names.specs.BlockEntries as plain
 use Rattle.pli_type_names.specs.BlockEntries.{entry_at}
 use Rattle.pli_type_names.specs.declared.entries.BlockEntry.{BlockEntry}

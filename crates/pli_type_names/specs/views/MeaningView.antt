@@ -5,8 +5,8 @@ use Rattle.pli_base.specs.declared.statement.Procedure.{Procedure}
 use Rattle.pli_base.specs.views.StatementView.{unit_view}
 use Rattle.pli_map.specs.views.DescriptionView.{description_view}
 use Rattle.pli_map.specs.views.ParameterView.{type_seen}
-use Rattle.pli_resolve.specs.ResolvedUnits.{resolved_unit_of}
-use Rattle.pli_type.specs.Names as plain
+use Rattle.pli_declare.specs.ResolvedUnits.{resolved_unit_of}
+use Rattle.pli_type_rules.specs.Names as plain
 use Rattle.pli_type_names.specs.BlockFacts.{facts_of}
 use Rattle.pli_type_names.specs.Seen.{Seen, SeenVariable, SeenFunction, SeenProcedure, SeenLabel, SeenUntyped}
 use Rattle.pli_type_names.specs.Seen.{Kept, KeptVariable, KeptProcedure, KeptEntry, KeptLabel, KeptNothing}

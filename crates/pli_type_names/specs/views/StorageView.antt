@@ -1,7 +1,7 @@
 -- What storage of variables says, apart from where it lies in memory.
 use Rattle.std.specs.Prelude.{option_map}
-use Rattle.pli_type.specs.Beginnings.{root_at}
-use Rattle.pli_type.specs.Names as plain
+use Rattle.pli_type_rules.specs.Beginnings.{root_at}
+use Rattle.pli_type_rules.specs.Names as plain
 use Rattle.pli_type_names.specs.LocatorReferences.{described_by, locating, locator_reference}
 use Rattle.pli_type_names.specs.declared.storage.NamedLocator.{NamedLocator}
 use Rattle.pli_type_names.specs.declared.storage.NamedStorage.{NamedStorage}

@@ -1,7 +1,7 @@
 -- What references and expressions with their types say, apart from where they lie in memory.
 use Rattle.pli_map.specs.views.ParameterView.{type_seen}
-use Rattle.pli_type.specs.FunctionCalls as calls
-use Rattle.pli_type.specs.References as references
+use Rattle.pli_type_rules.specs.FunctionCalls as calls
+use Rattle.pli_type_rules.specs.References as references
 use Rattle.pli_type.specs.views.ValueView.{value_view}
 use Rattle.pli_type_tree.specs.views.TypedView.{reference_view}
 use Rattle.pli_type_operands.specs.declared.argument.Argument.{Argument}

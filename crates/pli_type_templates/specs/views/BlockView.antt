@@ -1,7 +1,7 @@
 -- What a block declares, apart from where it lies in memory.
 use Rattle.std.specs.Prelude.{List, map}
-use Rattle.pli_resolve.specs.Symbols.{Symbol}
-use Rattle.pli_resolve.specs.views.SymbolView.{symbol_view}
+use Rattle.pli_declare.specs.Symbols.{Symbol}
+use Rattle.pli_declare.specs.views.SymbolView.{symbol_view}
 use Rattle.pli_type_templates.specs.Groups.{AreMembers}
 use Rattle.pli_type_templates.specs.declared.block_names.BlockNames.{BlockNames}
 use Rattle.pli_type_templates.specs.views.ItemView.{rows_view}

@@ -3,7 +3,7 @@ use Rattle.std.specs.Global.{Global}
 use Rattle.std.specs.Prelude.{List, Vec, map}
 use Rattle.pli_declare_outline.specs.Outlines.{PlacedMark}
 use Rattle.pli_map.specs.views.DescriptionView.{description_view}
-use Rattle.pli_type.specs.InitialScalars.{InitialItem}
+use Rattle.pli_type_rules.specs.InitialScalars.{InitialItem}
 use Rattle.pli_type_templates.specs.Groups as plain
 use Rattle.pli_type_templates.specs.Groups.{HasItem, template_with}
 use Rattle.pli_type_templates.specs.declared.made_variable.MadeVariable.{MadeVariable}

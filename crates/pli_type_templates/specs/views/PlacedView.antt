@@ -3,7 +3,7 @@ use Rattle.std.specs.Prelude.{ℕ, Option, Some, None, List, [], ◌∷◌, map,
 use Rattle.pli_declare_outline.specs.Outlines.{PlacedMark}
 use Rattle.pli_map.specs.views.DescriptionView.{description_view}
 use Rattle.pli_map.specs.views.ParameterView.{type_view}
-use Rattle.pli_type.specs.NamedUnits as units
+use Rattle.pli_type_rules.specs.NamedUnits as units
 use Rattle.pli_type_templates.specs.ItemNames.{HasEntry}
 use Rattle.pli_type_templates.specs.declared.placed_globals.PlacedGlobal.{PlacedGlobal}
 use Rattle.pli_type_templates.specs.declared.placed_globals.UnitGlobal.{UnitGlobal}

@@ -1,9 +1,9 @@
 -- Worked examples: the units M of the examples of the type checker, whose names, variables and globals are what
 -- the type checker finds.
 use Rattle.std.specs.Prelude.{◌≡◌, ℕ, List, [], ◌∷◌, map}
-use Rattle.pli_type.specs.NamedUnits.{named_unit}
-use Rattle.pli_type.specs.examples.NameExamples.{meant_at, resolved, used}
-use Rattle.pli_type.specs.examples.OrderExamples.{nested}
+use Rattle.pli_type_rules.specs.NamedUnits.{named_unit}
+use Rattle.pli_type_laws.specs.examples.NameExamples.{meant_at, resolved, used}
+use Rattle.pli_type_laws.specs.examples.OrderExamples.{nested}
 use Rattle.pli_type_unit.specs.UnitNames.{globals_of, is_automatic, is_based, named_as, templates_in}
 
 -- the tokens at which M uses names

@@ -2,8 +2,8 @@
 use Rattle.std.specs.Prelude.{◌≡◌, []}
 use Rattle.pli_base.specs.Statements.{ExternalProcedure}
 use Rattle.pli_declare.specs.Resolution.{resolution_faults}
-use Rattle.pli_resolve.specs.ResolvedUnits.{resolved_unit_of}
-use Rattle.pli_type.specs.NamedUnits.{checked_unit}
+use Rattle.pli_declare.specs.ResolvedUnits.{resolved_unit_of}
+use Rattle.pli_type_rules.specs.NamedUnits.{checked_unit}
 use Rattle.pli_type_unit.specs.Statements.{typed_unit}
 
 -- where the declarations of a unit have no fault, what it is typed as, or its faults of types, is what the type

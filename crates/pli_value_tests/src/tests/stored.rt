@@ -1,4 +1,5 @@
-use pli_map::{Description, first_values, holds, load_value, store_value};
+use pli_bytes::{first_values, holds, load_value, store_value};
+use pli_map::Description;
 use pli_value::bit::Bits;
 use pli_value::{Locator, Value};
 use std::alloc::Global;

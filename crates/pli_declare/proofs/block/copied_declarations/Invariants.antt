@@ -1,5 +1,5 @@
 use Rattle.std.proofs.Common.{◌≡◌, take, map}
-use Rattle.pli_declare_variables.specs.views.DeclarationView.{declaration_view}
+use Rattle.pli_declare.specs.views.DeclarationView.{declaration_view}
 use Rattle.pli_declare.proofs.block.copied_declarations.Given as goal
 
 abbrev pub invariant-loop-declaration : goal.invariant-loop-declaration

@@ -1,10 +1,10 @@
 use Rattle.std.proofs.Common.{refl}
-use Rattle.pli_declare_attributes.specs.Agreement.{set_agrees, is_missing}
-use Rattle.pli_declare_attributes.specs.Types.{is_bad_precision, is_bad_length, scalar_of}
-use Rattle.pli_declare_attributes.specs.Extents.{are_bad_bounds}
-use Rattle.pli_declare_variables.specs.Places.{is_built_in}
-use Rattle.pli_declare_attributes.specs.Initials.{is_bad_initial}
-use Rattle.pli_declare_attributes.specs.Faults.{is_bad_area, shape_fault, description_fault, own_fault, parameter_of, attributes_fault, item_fault}
+use Rattle.pli_declare.specs.Agreement.{set_agrees, is_missing}
+use Rattle.pli_declare.specs.Types.{is_bad_precision, is_bad_length, scalar_of}
+use Rattle.pli_declare.specs.Extents.{are_bad_bounds}
+use Rattle.pli_declare.specs.Places.{is_built_in}
+use Rattle.pli_declare.specs.Initials.{is_bad_initial}
+use Rattle.pli_declare.specs.Faults.{is_bad_area, shape_fault, description_fault, own_fault, parameter_of, attributes_fault, item_fault}
 use Rattle.pli_declare.proofs.laws.worked_examples.Goals as goal
 
 -- each by computing it

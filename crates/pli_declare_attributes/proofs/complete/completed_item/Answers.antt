@@ -1,9 +1,9 @@
 use Rattle.std.proofs.Common.{◌∙◌, ap, sym, map, option_map}
 use Rattle.pli_base.specs.views.DeclarationView.{attribute_view, item_view}
 use Rattle.pli_map.specs.views.DescriptionView.{description_view}
-use Rattle.pli_declare_attributes.specs.Completed.{OfEntry, OfVariable}
-use Rattle.pli_declare_attributes.specs.Faults.{parameters_in, returned_in, returned_fault, parameters_fault, parameter_of, described_scalar}
-use Rattle.pli_declare_attributes.proofs.ShapeLemmas.{attributes_none, parts_none, is_entry, is_built_in, is_variable}
+use Rattle.pli_declare.specs.Completed.{OfEntry, OfVariable}
+use Rattle.pli_declare.specs.Faults.{parameters_in, returned_in, returned_fault, parameters_fault, parameter_of, described_scalar}
+use Rattle.pli_declare.proofs.ShapeLemmas.{attributes_none, parts_none, is_entry, is_built_in, is_variable}
 use Rattle.pli_declare_attributes.proofs.complete.completed_item.Goals as goal
 
 pub parameters-requires : goal.parameters-requires

@@ -1,10 +1,10 @@
 use Rattle.std.proofs.Common.{◌≡◌, ◌∙◌, ap, map}
 use Rattle.std.proofs.lemmas.Result.{IfOk-weaker}
 use Rattle.pli_base.specs.views.DeclarationView.{described_view, parameter_view}
-use Rattle.pli_declare_attributes.specs.Types.{number_of, has_star}
-use Rattle.pli_declare_attributes.specs.Sets.{set_of}
-use Rattle.pli_declare_attributes.specs.Faults.{parameter_place, parameter_of, type_taken}
-use Rattle.pli_declare_attributes.proofs.ShapeLemmas.{description_sound, sound_alike}
+use Rattle.pli_declare.specs.Types.{number_of, has_star}
+use Rattle.pli_declare.specs.Sets.{set_of}
+use Rattle.pli_declare.specs.Faults.{parameter_place, parameter_of, type_taken}
+use Rattle.pli_declare.proofs.ShapeLemmas.{description_sound, sound_alike}
 use Rattle.pli_declare_attributes.proofs.complete.parameter.Goals as goal
 
 pub type_taken-requires : goal.type_taken-requires

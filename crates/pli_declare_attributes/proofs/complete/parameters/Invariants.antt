@@ -1,7 +1,7 @@
 use Rattle.std.proofs.Common.{◌≡◌, None, map, take, drop}
 use Rattle.pli_base.specs.views.DeclarationView.{parameter_view}
 use Rattle.pli_map.specs.views.ParameterView.{type_view}
-use Rattle.pli_declare_attributes.specs.Faults.{parameter_of, parameters_fault}
+use Rattle.pli_declare.specs.Faults.{parameter_of, parameters_fault}
 use Rattle.pli_declare_attributes.proofs.complete.parameters.Given as goal
 
 abbrev pub invariant-loop-description : goal.invariant-loop-description

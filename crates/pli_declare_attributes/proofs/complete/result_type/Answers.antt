@@ -1,7 +1,7 @@
 use Rattle.std.proofs.Common.{[], map}
 use Rattle.pli_base.specs.views.DeclarationView.{described_view}
-use Rattle.pli_declare_attributes.specs.Faults.{result_place}
-use Rattle.pli_declare_attributes.proofs.ShapeLemmas.{description_sound, sound_alike}
+use Rattle.pli_declare.specs.Faults.{result_place}
+use Rattle.pli_declare.proofs.ShapeLemmas.{description_sound, sound_alike}
 use Rattle.pli_declare_attributes.proofs.complete.result_type.Goals as goal
 
 pub scalar-requires : goal.scalar-requires

@@ -1,5 +1,5 @@
 use Rattle.pli_base.specs.views.DeclarationView.{item_view}
-use Rattle.pli_declare_attributes.proofs.ShapeLemmas.{own_sound, bounds_good, sound_alike}
+use Rattle.pli_declare.proofs.ShapeLemmas.{own_sound, bounds_good, sound_alike}
 use Rattle.pli_declare_attributes.proofs.complete.variable.Goals as goal
 
 pub all_described-requires : goal.all_described-requires

@@ -1,6 +1,6 @@
 use Rattle.std.proofs.Common.{◌≡◌, true, take, drop}
 use Rattle.std.specs.List.{list_all}
-use Rattle.pli_declare_attributes.specs.Extents.{are_good, all_bounds}
+use Rattle.pli_declare.specs.Extents.{are_good, all_bounds}
 use Rattle.pli_declare_attributes.proofs.extents.all_described.Given as goal
 
 abbrev pub invariant-loop-bounds : goal.invariant-loop-bounds

@@ -1,6 +1,6 @@
 use Rattle.std.proofs.Common.{◌≡◌, drop}
 use Rattle.std.specs.List.{list_all}
-use Rattle.pli_declare_attributes.specs.Extents.{are_good}
+use Rattle.pli_declare.specs.Extents.{are_good}
 use Rattle.pli_declare_attributes.proofs.extents.all_good.Given as goal
 
 abbrev pub invariant-loop-bounds : goal.invariant-loop-bounds

@@ -2,7 +2,7 @@ use Rattle.std.proofs.Common.{FitsSigned, w16, subst, sym}
 use Rattle.std.specs.Int.{w128}
 use Rattle.std.proofs.lemmas.Int.{to_z-of_z}
 use Rattle.std.proofs.Math.Facts.{sfits_widen}
-use Rattle.pli_declare_attributes.specs.Extents.{low_of}
+use Rattle.pli_declare.specs.Extents.{low_of}
 use Rattle.pli_declare_attributes.proofs.BoundsFit.{bounds_fit}
 use Rattle.pli_declare_attributes.proofs.extents.described_range.Goals as goal
 

@@ -1,9 +1,9 @@
 use Rattle.std.proofs.Common.{◌≤◌, sym, ap, subst, ◌∙◌}
 use Rattle.pli_base.specs.views.DeclarationView.{item_view}
-use Rattle.pli_declare_attributes.specs.Faults.{item_fault}
+use Rattle.pli_declare.specs.Faults.{item_fault}
 use Rattle.pli_declare_attributes.specs.answers.Cuts.{most_elements}
 use Rattle.pli_declare_attributes.proofs.CutLemmas.{cut_fault}
-use Rattle.pli_declare_attributes.proofs.ShapeLemmas.{attributes_first, sizes_left}
+use Rattle.pli_declare.proofs.ShapeLemmas.{attributes_first, sizes_left}
 use Rattle.pli_declare_attributes.proofs.faults.item_fault.Goals as goal
 
 pub returns-in-Some-clause-here : goal.returns-in-Some-clause-here

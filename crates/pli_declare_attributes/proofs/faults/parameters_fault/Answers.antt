@@ -1,8 +1,8 @@
 use Rattle.std.proofs.Common.{◌+◌, ◌∙◌, drop, map, sym, ap}
 use Rattle.std.proofs.lemmas.List.{at_drop_more}
 use Rattle.pli_base.specs.views.DeclarationView.{parameter_view}
-use Rattle.pli_declare_attributes.specs.Faults.{lesser, parameter_fault, parameters_fault}
-use Rattle.pli_declare_attributes.proofs.LeastFaults.{lesser_grouped}
+use Rattle.pli_declare.specs.Faults.{lesser, parameter_fault, parameters_fault}
+use Rattle.pli_declare.proofs.LeastFaults.{lesser_grouped}
 use Rattle.pli_declare_attributes.proofs.faults.parameters_fault.Goals as goal
 
 pub loop-description-preserved : goal.loop-description-preserved

@@ -1,6 +1,6 @@
 use Rattle.std.proofs.Common.{◌≡◌, drop, map}
 use Rattle.pli_base.specs.views.DeclarationView.{parameter_view}
-use Rattle.pli_declare_attributes.specs.Faults.{lesser, parameters_fault}
+use Rattle.pli_declare.specs.Faults.{lesser, parameters_fault}
 use Rattle.pli_declare_attributes.proofs.faults.parameters_fault.Given as goal
 
 -- the least so far and that of what is left

@@ -4,7 +4,7 @@ use Rattle.std.specs.List.{list_all}
 use Rattle.pli_base.specs.declared.declaration.WrittenBounds.{WrittenBounds}
 use Rattle.pli_base.specs.declared.declaration.WrittenBounds.TheVariants as limits
 use Rattle.pli_map.specs.Sizes.{count_of, extent_of}
-use Rattle.pli_declare_attributes.specs.Extents.{all_bounds, are_good}
+use Rattle.pli_declare.specs.Extents.{all_bounds, are_good}
 use Rattle.pli_declare_attributes.proofs.CountLemmas.{count_left}
 use Rattle.pli_declare_attributes.proofs.initials.elements.Goals as goal
 

@@ -1,7 +1,7 @@
 use Rattle.std.proofs.Common.{◌≡◌, ◌≤◌, ◌*◌, true, min, drop}
 use Rattle.std.specs.List.{list_all}
 use Rattle.pli_map.specs.Sizes.{count_of}
-use Rattle.pli_declare_attributes.specs.Extents.{are_good, all_bounds}
+use Rattle.pli_declare.specs.Extents.{are_good, all_bounds}
 use Rattle.pli_declare_attributes.proofs.initials.elements.Given as goal
 
 -- the count so far times that of what is left is that of all, up to the limit

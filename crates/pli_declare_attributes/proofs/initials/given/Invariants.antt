@@ -1,5 +1,5 @@
 use Rattle.std.proofs.Common.{◌≡◌, ◌<◌, ◌≤◌, ◌+◌, ◌*◌, ◌^◌, drop, length}
-use Rattle.pli_declare_attributes.specs.Initials.{all_given}
+use Rattle.pli_declare.specs.Initials.{all_given}
 use Rattle.pli_declare_attributes.proofs.initials.given.Given as goal
 
 -- the elements so far and those that are left; each value gives fewer than 2 ^ 64

@@ -1,4 +1,4 @@
-use Rattle.pli_declare_attributes.proofs.BitLemmas.{has_all}
+use Rattle.pli_declare.proofs.BitLemmas.{has_all}
 use Rattle.pli_declare_attributes.proofs.laws.sets_are_of_what_stands.Goals as goal
 
 pub returns : goal.returns

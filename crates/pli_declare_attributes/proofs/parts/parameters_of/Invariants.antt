@@ -1,6 +1,6 @@
 use Rattle.std.proofs.Common.{◌≡◌, drop, map}
 use Rattle.pli_base.specs.views.DeclarationView.{attribute_view}
-use Rattle.pli_declare_attributes.specs.Faults.{parameters_in}
+use Rattle.pli_declare.specs.Faults.{parameters_in}
 use Rattle.pli_declare_attributes.proofs.parts.parameters_of.Given as goal
 
 abbrev pub invariant-loop-attribute : goal.invariant-loop-attribute

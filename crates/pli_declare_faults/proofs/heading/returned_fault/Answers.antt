@@ -3,13 +3,13 @@ use Rattle.std.proofs.lemmas.List.{at_drop_more}
 use Rattle.pli_base.specs.views.DeclarationView.{described_view}
 use Rattle.pli_base.specs.declared.declaration.DescribedAttribute.{DescribedAttribute}
 use Rattle.pli_base.specs.declared.code.Code.{Code}
-use Rattle.pli_declare_attributes.specs.Faults.{lesser, result_fault}
-use Rattle.pli_declare_attributes.proofs.LeastFaults.{lesser_grouped}
+use Rattle.pli_declare.specs.Faults.{lesser, result_fault}
+use Rattle.pli_declare.proofs.LeastFaults.{lesser_grouped}
 use Rattle.pli_base.specs.views.StatementView.{option_view}
 use Rattle.pli_base.specs.declared.statement.ProcedureOption.{ProcedureOption}
 use Rattle.pli_base.specs.declared.statement.ProcedureOption.TheVariants.{Main, Returns, Recursive}
 use Rattle.pli_declare.specs.Resolution.{least}
-use Rattle.pli_declare_variables.specs.Declarations.{returned_by}
+use Rattle.pli_declare.specs.Declarations.{returned_by}
 use Rattle.pli_declare_faults.proofs.heading.returned_fault.Goals as goal
 use Rattle.pli_declare_faults.proofs.heading.returned_fault.Goals.{in-Returns, in_default}
 

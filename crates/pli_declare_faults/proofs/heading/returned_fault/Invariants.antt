@@ -1,8 +1,8 @@
 use Rattle.std.proofs.Common.{◌≡◌, drop, map}
-use Rattle.pli_declare_attributes.specs.Faults.{lesser, result_fault}
+use Rattle.pli_declare.specs.Faults.{lesser, result_fault}
 use Rattle.pli_base.specs.views.StatementView.{option_view}
 use Rattle.pli_declare.specs.Resolution.{least}
-use Rattle.pli_declare_variables.specs.Declarations.{returned_by}
+use Rattle.pli_declare.specs.Declarations.{returned_by}
 use Rattle.pli_declare_faults.proofs.heading.returned_fault.Given as goal
 
 -- the least so far and that of what is left

@@ -1,7 +1,7 @@
 use Rattle.std.proofs.Common.{◌+◌, ◌∙◌, None, drop, sym, ap}
 use Rattle.std.proofs.lemmas.List.{at_drop_more}
-use Rattle.pli_declare_attributes.specs.Faults.{lesser}
-use Rattle.pli_declare_attributes.proofs.LeastFaults.{lesser_grouped}
+use Rattle.pli_declare.specs.Faults.{lesser}
+use Rattle.pli_declare.proofs.LeastFaults.{lesser_grouped}
 use Rattle.pli_declare.specs.Resolution.{least}
 use Rattle.pli_declare_faults.proofs.least.least.Goals as goal
 

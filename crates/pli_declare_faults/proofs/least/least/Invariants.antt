@@ -1,5 +1,5 @@
 use Rattle.std.proofs.Common.{◌≡◌, drop}
-use Rattle.pli_declare_attributes.specs.Faults.{lesser}
+use Rattle.pli_declare.specs.Faults.{lesser}
 use Rattle.pli_declare.specs.Resolution.{least}
 use Rattle.pli_declare_faults.proofs.least.least.Given as goal
 

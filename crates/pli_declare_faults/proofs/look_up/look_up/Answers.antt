@@ -1,6 +1,6 @@
 use Rattle.std.proofs.Common.{true, false, refl, subst, sym, ap, arith}
 use Rattle.pli_declare_outline.specs.views.OutlineView.{outline_view}
-use Rattle.pli_declare_tables.specs.Tables.{block_in, unit_block}
+use Rattle.pli_declare.specs.Tables.{block_in, unit_block}
 use Rattle.pli_declare_faults.specs.answers.Answers.{IsLookedUp}
 use Rattle.pli_declare_faults.proofs.BlocksOutwards.{IsLeft, begun, found_here, found_further, found_last, asked, some_asked, none_asked, table_read, tables_length}
 use Rattle.pli_declare_faults.proofs.look_up.look_up.Goals as goal

@@ -5,7 +5,7 @@ use Rattle.pli_declare_constructs.specs.Regions.{block_of}
 use Rattle.pli_declare_outline.specs.Outlines.{PlacedMark, Outline}
 use Rattle.pli_declare_outline.specs.declared.region.PlacedMark as written
 use Rattle.pli_declare_outline.specs.views.OutlineView.{outline_view, mark_view, marks_view, placed_view}
-use Rattle.pli_declare_tables.specs.Tables.{entries_in, inner_marks}
+use Rattle.pli_declare.specs.Tables.{entries_in, inner_marks}
 use Rattle.pli_declare.specs.Resolution.{item_code, declared_by, faults_after}
 use Rattle.pli_declare.specs.DeclaredNames.{declared_names}
 use Rattle.pli_declare_faults.specs.answers.Walks.{of_blocks, block_codes, name_faults}

@@ -4,7 +4,7 @@ use Rattle.std.specs.Result.{IfOk}
 use Rattle.pli_base.specs.Words.{same_name}
 use Rattle.pli_base.specs.Name.{Name}
 use Rattle.pli_declare_outline.specs.views.OutlineView.{outline_view}
-use Rattle.pli_declare_tables.specs.Tables.{Entry, entries_in}
+use Rattle.pli_declare.specs.Tables.{Entry, entries_in}
 use Rattle.pli_declare_tables.specs.views.TableView.{entries_view}
 use Rattle.pli_declare.specs.Resolution.{is_item_named}
 use Rattle.pli_declare_faults.proofs.TablesOfBlocks.{table_at, none_declared}

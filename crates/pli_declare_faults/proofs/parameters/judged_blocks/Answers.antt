@@ -1,9 +1,9 @@
 use Rattle.std.proofs.Common.{◌≡◌, ◌+◌, ◌<◌, [], ◌∷◌, map, length, get_or, sym, ap, ◌∙◌, subst, zero-add, arith}
 use Rattle.std.proofs.lemmas.List.{get_or-map, length-map, map-append}
 use Rattle.pli_declare_outline.specs.views.OutlineView.{outline_view}
-use Rattle.pli_declare_tables.specs.Tables.{entries_in, numbers_from}
+use Rattle.pli_declare.specs.Tables.{entries_in, numbers_from}
 use Rattle.pli_declare_tables.specs.views.TableView.{entries_view}
-use Rattle.pli_declare_tables.specs.answers.Answers.{AreAfterOwners}
+use Rattle.pli_declare.specs.answers.Owners.{AreAfterOwners}
 use Rattle.pli_declare_variables.specs.Judging.{all_judged}
 use Rattle.pli_declare.specs.Resolution.{parameters_of}
 use Rattle.pli_declare_faults.proofs.NumberLists.{number_at, length_of_numbers, one_more}

@@ -1,6 +1,6 @@
 use Rattle.std.proofs.Common.{◌≡◌, map}
 use Rattle.pli_declare_outline.specs.views.OutlineView.{outline_view}
-use Rattle.pli_declare_tables.specs.Tables.{entries_in, numbers_from}
+use Rattle.pli_declare.specs.Tables.{entries_in, numbers_from}
 use Rattle.pli_declare_variables.specs.Judging.{all_judged}
 use Rattle.pli_declare.specs.Resolution.{parameters_of}
 use Rattle.pli_declare_faults.proofs.parameters.judged_blocks.Given as goal

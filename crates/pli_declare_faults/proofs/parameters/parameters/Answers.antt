@@ -7,7 +7,7 @@ use Rattle.pli_declare_outline.specs.views.OutlineView.{regions_view, region_vie
 use Rattle.pli_declare_outline.specs.declared.region.Mark as written
 use Rattle.pli_declare_outline.specs.declared.region.Mark.TheVariants as marks
 use Rattle.pli_declare.specs.Resolution.{headed}
-use Rattle.pli_declare_tables.specs.Tables.{numbers_from}
+use Rattle.pli_declare.specs.Tables.{numbers_from}
 use Rattle.pli_declare_faults.proofs.NumberLists.{replicate_numbers}
 use Rattle.pli_declare.proofs.ParametersOfBlocks.{gathered}
 use Rattle.pli_declare_faults.proofs.ParametersGathered.{marks_reached, none_gathered, entered_gathered}

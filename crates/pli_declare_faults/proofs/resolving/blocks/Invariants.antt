@@ -1,6 +1,6 @@
 use Rattle.std.proofs.Common.{◌≡◌, map}
 use Rattle.pli_declare_outline.specs.views.OutlineView.{outline_view}
-use Rattle.pli_declare_tables.specs.Tables.{numbers_from}
+use Rattle.pli_declare.specs.Tables.{numbers_from}
 use Rattle.pli_declare.specs.Resolved.{block_at}
 use Rattle.pli_declare.specs.views.BlockView.{block_view}
 use Rattle.pli_declare_faults.proofs.resolving.blocks.Given as goal

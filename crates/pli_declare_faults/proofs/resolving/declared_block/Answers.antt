@@ -1,11 +1,11 @@
 use Rattle.std.proofs.Common.{◌≡◌, ◌<◌, map, length, sym, ap, ◌∙◌, subst, rules, arith}
 use Rattle.std.proofs.lemmas.List.{length-map}
 use Rattle.pli_declare_outline.specs.views.OutlineView.{outline_view, region_view}
-use Rattle.pli_declare_tables.specs.Tables.{entries_in}
+use Rattle.pli_declare.specs.Tables.{entries_in}
 use Rattle.pli_declare_tables.specs.views.TableView.{entries_view}
-use Rattle.pli_declare_tables.specs.answers.Answers.{AreAfterOwners}
-use Rattle.pli_declare_variables.specs.Declarations.{AreGood, declared_in}
-use Rattle.pli_declare_variables.specs.views.DeclarationView.{declaration_view}
+use Rattle.pli_declare.specs.answers.Owners.{AreAfterOwners}
+use Rattle.pli_declare.specs.Declarations.{AreGood, declared_in}
+use Rattle.pli_declare.specs.views.DeclarationView.{declaration_view}
 use Rattle.pli_declare.specs.Resolution.{parameters_of}
 use Rattle.pli_declare_faults.proofs.RegionDeclarations.{tables_reach, entries_are, parameters_reach, parameters_are}
 use Rattle.pli_declare.proofs.Faultless.{block_good}

@@ -1,8 +1,8 @@
 use Rattle.std.proofs.Common.{◌≡◌, [], sym, ap, ◌∙◌, subst}
 use Rattle.pli_declare_outline.specs.views.OutlineView.{outline_view}
 use Rattle.pli_declare_tables.specs.views.TableView.{entries_view}
-use Rattle.pli_declare_variables.specs.Declarations.{AreGood}
-use Rattle.pli_declare_tables.specs.Tables.{unit_entries}
+use Rattle.pli_declare.specs.Declarations.{AreGood}
+use Rattle.pli_declare.specs.Tables.{unit_entries}
 use Rattle.pli_declare.proofs.Faultless.{unit_good}
 use Rattle.pli_declare_faults.proofs.resolving.outermost.Goals as goal
 

@@ -2,9 +2,9 @@ use Rattle.std.proofs.Common.{◌≡◌, ◌++◌, ◌⊎◌, inl, inr, [], appe
 use Rattle.std.proofs.lemmas.List.{nil_from_length}
 use Rattle.std.specs.Iterator.Adapters.{zip_first, zip_second}
 use Rattle.std.specs.Slice.Iter.{iter_rest}
-use Rattle.pli_declare_tables.specs.Tables.{item_entries}
+use Rattle.pli_declare.specs.Tables.{item_entries}
 use Rattle.pli_declare_tables.specs.views.TableView.{named_view, entries_view}
-use Rattle.pli_declare_tables.proofs.ItemsStandAfter.{StandFrom, stand_from, none_left}
+use Rattle.pli_declare.proofs.ItemsStandAfter.{StandFrom, stand_from, none_left}
 use Rattle.pli_declare_tables.proofs.entries.add_items.Goals as goal
 
 pub loop-named-init : goal.loop-named-init

@@ -1,9 +1,9 @@
 use Rattle.std.proofs.Common.{◌≡◌, ◌+◌, ◌++◌, map, length}
 use Rattle.std.specs.Iterator.Adapters.{zip_first, zip_second}
 use Rattle.std.specs.Slice.Iter.{iter_rest}
-use Rattle.pli_declare_tables.specs.Tables.{item_entries}
+use Rattle.pli_declare.specs.Tables.{item_entries}
 use Rattle.pli_declare_tables.specs.views.TableView.{named_view, entries_view}
-use Rattle.pli_declare_tables.proofs.ItemsStandAfter.{StandFrom}
+use Rattle.pli_declare.proofs.ItemsStandAfter.{StandFrom}
 use Rattle.pli_declare_tables.proofs.entries.add_items.Given as goal
 
 -- the entries so far, and those of the names that are left

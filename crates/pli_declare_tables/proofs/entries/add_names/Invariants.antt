@@ -1,6 +1,6 @@
 use Rattle.std.proofs.Common.{◌≡◌, ◌++◌, map, drop}
 use Rattle.pli_base.specs.views.DeclarationView.{item_view}
-use Rattle.pli_declare_tables.specs.Tables.{named}
+use Rattle.pli_declare.specs.Tables.{named}
 use Rattle.pli_declare_tables.specs.views.TableView.{named_view}
 use Rattle.pli_declare_tables.proofs.entries.add_names.Given as goal
 

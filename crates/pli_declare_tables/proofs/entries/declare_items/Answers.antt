@@ -1,7 +1,7 @@
 use Rattle.std.proofs.Common.{List, sym, ◌∙◌, subst}
 use Rattle.pli_declare_scopes.specs.declared.level.ItemStanding.{ItemStanding}
-use Rattle.pli_declare_tables.specs.answers.Answers.{StandAfterOwners}
-use Rattle.pli_declare_tables.proofs.ItemsStandAfter.{stand_after_owners}
+use Rattle.pli_declare.specs.answers.Owners.{StandAfterOwners}
+use Rattle.pli_declare.proofs.ItemsStandAfter.{stand_after_owners}
 use Rattle.pli_declare_tables.proofs.entries.declare_items.Goals as goal
 
 pub add_items-requires : goal.add_items-requires

@@ -1,7 +1,7 @@
 use Rattle.std.proofs.Common.{◌≡◌, ◌++◌, map, drop}
 use Rattle.std.specs.List.{flat_map}
 use Rattle.pli_base.specs.views.DeclarationView.{item_view}
-use Rattle.pli_declare_tables.specs.Tables.{named}
+use Rattle.pli_declare.specs.Tables.{named}
 use Rattle.pli_declare_tables.specs.views.TableView.{named_view}
 use Rattle.pli_declare_tables.proofs.entries.names_of.Given as goal
 

@@ -2,7 +2,7 @@ use Rattle.std.proofs.Common.{◌≡◌, ◌∷◌, ◌+◌, ◌<◌, [], length
 use Rattle.std.proofs.lemmas.List.{drop_more, length-map}
 use Rattle.pli_declare_outline.specs.views.OutlineView.{placed_view, marks_view}
 use Rattle.pli_declare_constructs.specs.Regions.{block_of, first_or_unit}
-use Rattle.pli_declare_tables.specs.Tables.{entries_after}
+use Rattle.pli_declare.specs.Tables.{entries_after}
 use Rattle.pli_declare_tables.specs.views.TableView.{blocks_view}
 use Rattle.pli_declare_tables.proofs.BlocksByMarks.{block_is, block_within, mark_more}
 use Rattle.pli_declare_tables.proofs.table.declare_all.Goals as goal

@@ -1,6 +1,6 @@
 use Rattle.std.proofs.Common.{◌≡◌, ℕ, ◌<◌, [], length, get_or, drop}
 use Rattle.pli_declare_outline.specs.views.OutlineView.{marks_view}
-use Rattle.pli_declare_tables.specs.Tables.{entries_after}
+use Rattle.pli_declare.specs.Tables.{entries_after}
 use Rattle.pli_declare_tables.specs.views.TableView.{blocks_view}
 use Rattle.pli_declare_tables.proofs.table.declare_all.Given as goal
 

@@ -1,6 +1,6 @@
 use Rattle.std.proofs.lemmas.Result.{on_ok_weaker}
 use Rattle.pli_declare_outline.specs.views.OutlineView.{mark_view}
-use Rattle.pli_declare_tables.specs.Tables.{entries_of}
+use Rattle.pli_declare.specs.Tables.{entries_of}
 use Rattle.pli_declare_tables.proofs.BlocksByMarks.{put_back}
 use Rattle.pli_declare_tables.proofs.table.declare_in.Goals as goal
 

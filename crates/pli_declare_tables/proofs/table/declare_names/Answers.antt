@@ -8,10 +8,10 @@ use Rattle.pli_declare_scopes.specs.Scopes.{BlockItems}
 use Rattle.pli_declare_scopes.specs.declared.block.Declared.{Declared}
 use Rattle.pli_declare_scopes.specs.declared.repeat.Verdict.{Verdict}
 use Rattle.pli_declare_scopes.specs.contracts.repeat.Verdict.{the_type}
-use Rattle.pli_declare_tables.specs.Tables.{with_verdicts}
+use Rattle.pli_declare.specs.Tables.{with_verdicts}
 use Rattle.pli_declare_tables.specs.views.TableView.{entries_view}
 use Rattle.pli_declare_tables.specs.declared.entry.Entry.{Entry}
-use Rattle.pli_declare_tables.proofs.MembersStandAfter.{After, owners_after}
+use Rattle.pli_declare.proofs.MembersStandAfter.{After, owners_after}
 use Rattle.pli_declare_tables.proofs.BlocksByMarks.{none_left}
 use Rattle.pli_declare_tables.proofs.table.declare_names.Goals as goal
 

@@ -1,9 +1,9 @@
 use Rattle.std.proofs.Common.{◌≡◌, ◌++◌, length}
 use Rattle.std.specs.Iterator.Adapters.{zip_first, zip_second}
 use Rattle.std.specs.Slice.Iter.{iter_rest}
-use Rattle.pli_declare_tables.specs.Tables.{with_verdicts}
+use Rattle.pli_declare.specs.Tables.{with_verdicts}
 use Rattle.pli_declare_tables.specs.views.TableView.{entries_view}
-use Rattle.pli_declare_tables.proofs.MembersStandAfter.{After}
+use Rattle.pli_declare.proofs.MembersStandAfter.{After}
 use Rattle.pli_declare_tables.proofs.table.declare_names.Given as goal
 
 -- the block so far, and what is left of its names

@@ -1,7 +1,7 @@
 use Rattle.std.proofs.Common.{◌≡◌, ℕ, ◌<◌, ◌+◌, ◌∷◌, List, [], length, get_or, sym, ap, ◌∙◌, arith}
 use Rattle.std.proofs.lemmas.List.{nil_from_length, length-map, length-replicate, get_or-replicate}
 use Rattle.pli_declare_outline.specs.views.OutlineView.{outline_view, region_view, marks_view}
-use Rattle.pli_declare_tables.specs.Tables.{Entry, inner_marks, entries_after, entries_in}
+use Rattle.pli_declare.specs.Tables.{Entry, inner_marks, entries_after, entries_in}
 use Rattle.pli_declare_tables.specs.views.TableView.{blocks_view}
 use Rattle.pli_declare_tables.proofs.BlocksByMarks.{all_blocks}
 use Rattle.pli_declare_tables.proofs.table.declared_blocks.Goals.{in-Some+in_ok-declare_all, in_default}

@@ -1,7 +1,7 @@
 use Rattle.std.proofs.Common.{◌++◌, ◌∷◌, [], List, Vec, map, replicate, ap, ◌∙◌}
 use Rattle.std.specs.Global.{Global}
 use Rattle.std.proofs.lemmas.List.{map_push, replicate_more}
-use Rattle.pli_declare_tables.specs.Tables.{Entry}
+use Rattle.pli_declare.specs.Tables.{Entry}
 use Rattle.pli_declare_tables.specs.declared.entry.Entry as declared
 use Rattle.pli_declare_tables.specs.views.TableView.{entries_view}
 use Rattle.pli_declare_tables.proofs.table.empty_blocks.Goals as goal

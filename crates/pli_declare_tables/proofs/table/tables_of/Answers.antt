@@ -1,8 +1,8 @@
 use Rattle.std.proofs.Common.{◌≡◌, suc, ◌++◌, ◌∷◌, List, [], map, Vec, Global, append-nil, append_assoc, sym, ap, ◌∙◌, subst, arith}
 use Rattle.std.proofs.lemmas.List.{nil_from_length, map_push}
-use Rattle.pli_declare_tables.specs.Tables.{table_with}
+use Rattle.pli_declare.specs.Tables.{table_with}
 use Rattle.pli_declare_tables.specs.views.TableView.{table_view, blocks_view}
-use Rattle.pli_declare_tables.specs.answers.Answers.{AllAfterOwners}
+use Rattle.pli_declare.specs.answers.Owners.{AllAfterOwners}
 use Rattle.pli_declare_tables.specs.declared.entry.Entry.{Entry}
 use Rattle.pli_declare_tables.specs.declared.table.Table.{Table}
 use Rattle.pli_declare_tables.proofs.table.tables_of.Goals as goal

@@ -1,7 +1,7 @@
 use Rattle.std.proofs.Common.{◌≡◌, ◌++◌, map}
-use Rattle.pli_declare_tables.specs.Tables.{table_with}
+use Rattle.pli_declare.specs.Tables.{table_with}
 use Rattle.pli_declare_tables.specs.views.TableView.{table_view, blocks_view}
-use Rattle.pli_declare_tables.specs.answers.Answers.{AllAfterOwners}
+use Rattle.pli_declare.specs.answers.Owners.{AllAfterOwners}
 use Rattle.pli_declare_tables.proofs.table.tables_of.Given as goal
 
 -- the tables so far, and those of the blocks that are left

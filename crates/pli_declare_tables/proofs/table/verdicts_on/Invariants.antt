@@ -1,5 +1,5 @@
 use Rattle.std.proofs.Common.{◌≡◌, ◌++◌, map, drop}
-use Rattle.pli_declare_tables.specs.Tables.{written}
+use Rattle.pli_declare.specs.Tables.{written}
 use Rattle.pli_declare_tables.specs.views.TableView.{entries_view}
 use Rattle.pli_declare_tables.proofs.table.verdicts_on.Given as goal
 

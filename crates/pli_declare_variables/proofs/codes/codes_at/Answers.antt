@@ -1,12 +1,12 @@
 use Rattle.std.proofs.Common.{◌≡◌, true, false, None, List, get_or, length, sym, ap, subst, ◌∙◌, arith}
 use Rattle.std.proofs.lemmas.List.{length-map}
-use Rattle.pli_declare_attributes.specs.Faults.{item_fault}
-use Rattle.pli_declare_attributes.specs.declared.place.ItemPlace.{ItemPlace}
-use Rattle.pli_declare_attributes.specs.declared.place.Position.TheVariants.{AtLevelOne}
-use Rattle.pli_declare_tables.specs.Tables as plain
+use Rattle.pli_declare.specs.Faults.{item_fault}
+use Rattle.pli_declare.specs.declared.place.ItemPlace.{ItemPlace}
+use Rattle.pli_declare.specs.declared.place.Position.TheVariants.{AtLevelOne}
+use Rattle.pli_declare.specs.Tables as plain
 use Rattle.pli_declare_tables.specs.views.TableView.{entry_view, entries_view}
-use Rattle.pli_declare_variables.specs.Declarations.{IsGood}
-use Rattle.pli_declare_variables.specs.Places.{item_in, place_in, own_code}
+use Rattle.pli_declare.specs.Declarations.{IsGood}
+use Rattle.pli_declare.specs.Places.{item_in, place_in, own_code}
 use Rattle.pli_declare_variables.specs.answers.Walks.{cut_place_in}
 use Rattle.pli_declare_variables.proofs.Faultless.{without}
 use Rattle.pli_declare_variables.proofs.LevelLemmas.{view_at}

@@ -1,9 +1,9 @@
 use Rattle.std.proofs.Common.{◌≡◌, true, List, length, map}
 use Rattle.pli_base.specs.Name.{Name}
-use Rattle.pli_declare_tables.specs.Tables.{numbers_from}
+use Rattle.pli_declare.specs.Tables.{numbers_from}
 use Rattle.pli_declare_tables.specs.views.TableView.{entries_view}
-use Rattle.pli_declare_variables.specs.Declarations.{AreGood}
-use Rattle.pli_declare_variables.specs.Places.{own_code}
+use Rattle.pli_declare.specs.Declarations.{AreGood}
+use Rattle.pli_declare.specs.Places.{own_code}
 use Rattle.pli_declare_variables.specs.answers.Walks.{cut_place_in}
 use Rattle.pli_declare_variables.proofs.codes.codes_at.Given as goal
 

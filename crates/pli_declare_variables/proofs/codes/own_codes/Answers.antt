@@ -1,6 +1,6 @@
 use Rattle.std.proofs.Common.{List, length, ap, ◌∙◌}
 use Rattle.std.proofs.lemmas.Result.{IfOk-weaker}
-use Rattle.pli_declare_attributes.specs.declared.place.ItemPlace.{ItemPlace}
+use Rattle.pli_declare.specs.declared.place.ItemPlace.{ItemPlace}
 use Rattle.pli_declare_tables.specs.views.TableView.{entries_view}
 use Rattle.pli_declare_variables.specs.answers.Walks.{cut_place_in}
 use Rattle.pli_declare_variables.proofs.NumberLemmas.{mapped_length}

@@ -1,14 +1,14 @@
 use Rattle.std.proofs.Common.{◌≡◌, List, length, map, option_map, sym, ap, subst, ◌∙◌, arith}
 use Rattle.std.proofs.lemmas.List.{length-map, map_push}
 use Rattle.pli_map.specs.views.DescriptionView.{description_view}
-use Rattle.pli_declare_attributes.specs.declared.place.ItemPlace.{ItemPlace}
-use Rattle.pli_declare_tables.specs.Tables as plain
+use Rattle.pli_declare.specs.declared.place.ItemPlace.{ItemPlace}
+use Rattle.pli_declare.specs.Tables as plain
 use Rattle.pli_declare_tables.specs.views.TableView.{entry_view, entries_view}
 use Rattle.pli_declare_variables.specs.answers.Walks.{cut_place_in}
-use Rattle.pli_declare_variables.specs.Descriptions.{own_codes, ShapesAreSound}
-use Rattle.pli_declare_variables.specs.Declarations.{declaration_at}
-use Rattle.pli_declare_variables.specs.views.DeclarationView.{kind_view, declaration_view}
-use Rattle.pli_declare_variables.specs.declared.declaration.Declaration.{Declaration}
+use Rattle.pli_declare.specs.Descriptions.{own_codes, ShapesAreSound}
+use Rattle.pli_declare.specs.Declarations.{declaration_at}
+use Rattle.pli_declare.specs.views.DeclarationView.{kind_view, declaration_view}
+use Rattle.pli_declare.specs.declared.declaration.Declaration.{Declaration}
 use Rattle.pli_declare_variables.proofs.Faultless.{all_codes, faultless, whole, kind_at}
 use Rattle.pli_declare_variables.proofs.LevelLemmas.{view_at}
 use Rattle.pli_declare_variables.proofs.NumberLemmas.{mapped_more, mapped_length}

@@ -1,8 +1,8 @@
 use Rattle.std.proofs.Common.{◌≡◌, map}
-use Rattle.pli_declare_tables.specs.Tables.{numbers_from}
+use Rattle.pli_declare.specs.Tables.{numbers_from}
 use Rattle.pli_declare_tables.specs.views.TableView.{entries_view}
-use Rattle.pli_declare_variables.specs.Declarations.{declaration_at}
-use Rattle.pli_declare_variables.specs.views.DeclarationView.{declaration_view}
+use Rattle.pli_declare.specs.Declarations.{declaration_at}
+use Rattle.pli_declare.specs.views.DeclarationView.{declaration_view}
 use Rattle.pli_declare_variables.proofs.declared.declare.Given as goal
 
 abbrev pub invariant-loop-number : goal.invariant-loop-number

@@ -1,10 +1,10 @@
 use Rattle.std.proofs.Common.{◌≤◌, ℕ, ap, subst, ◌∙◌}
 use Rattle.pli_base.specs.views.DeclarationView.{item_view}
-use Rattle.pli_declare_attributes.specs.Faults.{item_fault}
+use Rattle.pli_declare.specs.Faults.{item_fault}
 use Rattle.pli_declare_attributes.specs.answers.Cuts.{most_elements}
-use Rattle.pli_declare_attributes.specs.declared.place.ItemPlace.{ItemPlace}
+use Rattle.pli_declare.specs.declared.place.ItemPlace.{ItemPlace}
 use Rattle.pli_declare_attributes.proofs.CutLemmas.{cut_fault}
-use Rattle.pli_declare_tables.specs.Tables.{Entity}
+use Rattle.pli_declare.specs.Tables.{Entity}
 use Rattle.pli_declare_tables.specs.views.TableView.{entity_view}
 use Rattle.pli_declare_variables.specs.answers.Declaring.{IsFaultlessCut}
 use Rattle.pli_declare_variables.proofs.declared.kind.Goals as goal

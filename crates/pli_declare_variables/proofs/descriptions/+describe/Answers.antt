@@ -3,15 +3,16 @@ use Rattle.std.specs.Global.{Global}
 use Rattle.std.proofs.lemmas.List.{length-map, map_push}
 use Rattle.pli_map.specs.Description as tree
 use Rattle.pli_map.specs.views.DescriptionView.{description_view, members_view}
-use Rattle.pli_declare_attributes.specs.Extents.{all_bounds}
-use Rattle.pli_declare_attributes.specs.Faults.{with_bounds, described_scalar}
-use Rattle.pli_declare_attributes.specs.Sets.{outermost}
-use Rattle.pli_declare_tables.specs.Tables as tables
+use Rattle.pli_declare.specs.Extents.{all_bounds}
+use Rattle.pli_declare.specs.Faults.{with_bounds, described_scalar}
+use Rattle.pli_declare.specs.Sets.{outermost}
+use Rattle.pli_declare.specs.Tables as tables
 use Rattle.pli_declare_tables.specs.views.TableView.{entry_view, entries_view}
-use Rattle.pli_declare_variables.specs.Places.{members_of, item_in, item_of}
-use Rattle.pli_declare_variables.specs.Descriptions.{described, members_made, inside, scalar_at}
+use Rattle.pli_declare.specs.Places.{members_of, item_in, item_of}
+use Rattle.pli_declare.specs.Descriptions.{described, members_made, inside, scalar_at}
 use Rattle.pli_declare_variables.proofs.SizeLemmas.{inside_some}
-use Rattle.pli_declare_variables.proofs.MembersFound.{members_stand, viewed}
+use Rattle.pli_declare.proofs.MembersFound.{members_stand}
+use Rattle.pli_declare_variables.proofs.MembersFound.{viewed}
 use Rattle.pli_declare_variables.proofs.DescriptionLemmas.{rows, row, in_front, one_known, one_unknown, all_known, of_parts, structure_made, no_members, some_members}
 use Rattle.pli_declare_variables.proofs.descriptions.+describe.Goals.{describe-then-is_empty, describe-else-is_empty+in_ok-inside+in-Some}
 use Rattle.pli_declare_variables.proofs.descriptions.+describe.Goals as goal

@@ -1,7 +1,7 @@
 use Rattle.std.proofs.Common.{◌≡◌, ◌+◌, ◌-◌, ◌*◌, map, drop, length}
 use Rattle.pli_map.specs.views.DescriptionView.{description_view}
 use Rattle.pli_declare_tables.specs.views.TableView.{entries_view}
-use Rattle.pli_declare_variables.specs.Descriptions.{described, members_made}
+use Rattle.pli_declare.specs.Descriptions.{described, members_made}
 use Rattle.pli_declare_variables.proofs.DescriptionLemmas.{in_front}
 use Rattle.pli_declare_variables.proofs.descriptions.+describe.Given as goal
 

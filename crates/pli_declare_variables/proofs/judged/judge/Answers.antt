@@ -1,10 +1,10 @@
 use Rattle.std.proofs.Common.{◌≡◌, ℕ, Bool, Option, List, length, map, sym, ap, subst, ◌∙◌, arith}
 use Rattle.std.proofs.lemmas.List.{length-map}
 use Rattle.pli_base.specs.declared.code.Code.{Code}
-use Rattle.pli_declare_tables.specs.Tables.{numbers_from}
+use Rattle.pli_declare.specs.Tables.{numbers_from}
 use Rattle.pli_declare_tables.specs.views.TableView.{entry_view, entries_view}
-use Rattle.pli_declare_variables.specs.Places.{own_code}
-use Rattle.pli_declare_variables.specs.Descriptions.{own_codes, is_large_at, ShapesAreSound}
+use Rattle.pli_declare.specs.Places.{own_code}
+use Rattle.pli_declare.specs.Descriptions.{own_codes, is_large_at, ShapesAreSound}
 use Rattle.pli_declare_variables.specs.answers.Walks.{nameable_at}
 use Rattle.pli_declare_variables.specs.Judging.{judged_at}
 use Rattle.pli_declare_variables.specs.declared.judged.Judged.{Judged}

@@ -1,11 +1,11 @@
 use Rattle.std.proofs.Common.{◌≡◌, ℕ, zero, suc, true, List, length, get_or, Option, None, option_map, if◌then◌else◌, refl, sym, ap}
 use Rattle.pli_base.specs.declared.code.Code.{Code}
-use Rattle.pli_declare_attributes.specs.Extents.{all_bounds}
-use Rattle.pli_declare_attributes.specs.Faults.{with_bounds}
-use Rattle.pli_declare_tables.specs.Tables.{Entry, entries_in}
-use Rattle.pli_declare_tables.proofs.MembersStandAfter.{owners_stand_before}
-use Rattle.pli_declare_variables.specs.Descriptions.{is_of_shape, scalar_at, inside, own_codes, described}
-use Rattle.pli_declare_variables.specs.Places.{item_of, members_of}
+use Rattle.pli_declare.specs.Extents.{all_bounds}
+use Rattle.pli_declare.specs.Faults.{with_bounds}
+use Rattle.pli_declare.specs.Tables.{Entry, entries_in}
+use Rattle.pli_declare.proofs.MembersStandAfter.{owners_stand_before}
+use Rattle.pli_declare.specs.Descriptions.{is_of_shape, scalar_at, inside, own_codes, described}
+use Rattle.pli_declare.specs.Places.{item_of, members_of}
 use Rattle.pli_declare_variables.proofs.DescriptionLemmas.{of_parts}
 use Rattle.pli_declare_variables.proofs.laws.descriptions_are_of_members.Goals as goal
 

@@ -1,12 +1,12 @@
 use Rattle.std.proofs.Common.{List, length, ap, ◌∙◌, arith}
 use Rattle.pli_declare_tables.specs.views.TableView.{entry_view, entries_view}
-use Rattle.pli_declare_variables.specs.Places.{item_in}
+use Rattle.pli_declare.specs.Places.{item_in}
 use Rattle.pli_declare_variables.specs.answers.Walks.{chain_at, chain_with, nameable_at}
 use Rattle.pli_declare_variables.specs.declared.locators.Chain.{Chain}
 use Rattle.pli_declare_variables.proofs.LevelLemmas.{owner_before}
 use Rattle.pli_declare_variables.proofs.ItemPathLemmas.{chain_more, nameable_more}
 use Rattle.pli_declare_variables.proofs.NumberLemmas.{mapped_more, mapped_length}
-use Rattle.pli_declare_variables.proofs.OwnerLemmas.{weaker}
+use Rattle.pli_declare.proofs.OwnerLemmas.{weaker}
 use Rattle.pli_declare_variables.proofs.locators.nameables.Goals as goal
 
 pub chain_above-requires : goal.chain_above-requires

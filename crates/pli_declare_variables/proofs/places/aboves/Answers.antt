@@ -2,7 +2,7 @@ use Rattle.std.proofs.Common.{length, ap, ◌∙◌, arith}
 use Rattle.pli_declare_tables.specs.views.TableView.{entries_view}
 use Rattle.pli_declare_variables.specs.answers.Walks.{above_at}
 use Rattle.pli_declare_variables.proofs.NumberLemmas.{mapped_more, mapped_length}
-use Rattle.pli_declare_variables.proofs.OwnerLemmas.{weaker}
+use Rattle.pli_declare.proofs.OwnerLemmas.{weaker}
 use Rattle.pli_declare_variables.proofs.LevelLemmas.{owner_before, above_more}
 use Rattle.pli_declare_variables.proofs.places.aboves.Goals as goal
 

@@ -2,10 +2,10 @@ use Rattle.std.proofs.Common.{◌≡◌, ◌<◌, ℕ, false, true, List, Bool, 
 use Rattle.std.specs.List.{list_any}
 use Rattle.std.specs.Global.{Global}
 use Rattle.std.proofs.lemmas.List.{ext_get_or, length-map, length-set, take_all}
-use Rattle.pli_declare_tables.specs.Tables as plain
-use Rattle.pli_declare_tables.specs.Tables.{numbers_from}
+use Rattle.pli_declare.specs.Tables as plain
+use Rattle.pli_declare.specs.Tables.{numbers_from}
 use Rattle.pli_declare_tables.specs.views.TableView.{entry_view, entries_view}
-use Rattle.pli_declare_variables.specs.Places.{owner_is}
+use Rattle.pli_declare.specs.Places.{owner_is}
 use Rattle.pli_declare_variables.specs.answers.Walks.{has_members_at}
 use Rattle.pli_declare_variables.proofs.NumberLemmas.{mapped_at, mapped_length}
 use Rattle.pli_declare_variables.proofs.LevelLemmas.{owner_before, view_at}

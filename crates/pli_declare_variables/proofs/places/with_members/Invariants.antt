@@ -1,7 +1,7 @@
 use Rattle.std.proofs.Common.{◌≡◌, ◌<◌, ℕ, false, length, get_or, take}
 use Rattle.std.specs.List.{list_any}
 use Rattle.pli_declare_tables.specs.views.TableView.{entries_view}
-use Rattle.pli_declare_variables.specs.Places.{owner_is}
+use Rattle.pli_declare.specs.Places.{owner_is}
 use Rattle.pli_declare_variables.proofs.places.with_members.Given as goal
 
 -- the marks that the entries so far have set

@@ -1,6 +1,6 @@
 use Rattle.std.proofs.Common.{◌≡◌, drop, map}
 use Rattle.pli_base.specs.views.StatementView.{option_view}
-use Rattle.pli_declare_variables.specs.Declarations.{returned_by}
+use Rattle.pli_declare.specs.Declarations.{returned_by}
 use Rattle.pli_declare_variables.proofs.returned.first_returned.Given as goal
 
 abbrev pub invariant-loop-option : goal.invariant-loop-option

@@ -3,13 +3,13 @@ use Rattle.std.proofs.lemmas.List.{nil_from_length}
 use Rattle.std.proofs.lemmas.Bool.{eqb-true, eq-eqb}
 use Rattle.pli_map.specs.Layouts.{IsLayout}
 use Rattle.pli_map.specs.Sizes.{size_of, alignment_of}
-use Rattle.pli_declare_attributes.specs.Extents.{all_bounds}
-use Rattle.pli_declare_attributes.specs.Faults.{with_bounds, described_scalar}
-use Rattle.pli_declare_attributes.specs.Sets.{outermost}
+use Rattle.pli_declare.specs.Extents.{all_bounds}
+use Rattle.pli_declare.specs.Faults.{with_bounds, described_scalar}
+use Rattle.pli_declare.specs.Sets.{outermost}
 use Rattle.pli_declare_tables.specs.views.TableView.{entry_view}
 use Rattle.std.specs.Prelude.{option_map}
-use Rattle.pli_declare_variables.specs.Places.{item_in}
-use Rattle.pli_declare_variables.specs.Descriptions.{inside}
+use Rattle.pli_declare.specs.Places.{item_in}
+use Rattle.pli_declare.specs.Descriptions.{inside}
 use Rattle.pli_declare_variables.specs.answers.Measures.{of_layout, IsMeasured}
 use Rattle.pli_declare_variables.proofs.SizeLemmas.{of_scalar, inside_some}
 use Rattle.pli_declare_variables.proofs.sizes.measure.Goals.{then-is_empty, else-is_empty}

@@ -1,13 +1,13 @@
 use Rattle.std.proofs.Common.{ℕ, ◌-◌, ◌<◌, List, map, get_or, length, Option, option_map, sym, ◌∙◌, subst, arith}
 use Rattle.std.proofs.lemmas.List.{length-map, length-set}
 use Rattle.pli_map.specs.Description.{Description}
-use Rattle.pli_declare_attributes.specs.Extents.{all_bounds}
-use Rattle.pli_declare_attributes.specs.Faults.{with_bounds, described_scalar}
-use Rattle.pli_declare_attributes.specs.Sets.{outermost}
-use Rattle.pli_declare_tables.specs.Tables as tables
+use Rattle.pli_declare.specs.Extents.{all_bounds}
+use Rattle.pli_declare.specs.Faults.{with_bounds, described_scalar}
+use Rattle.pli_declare.specs.Sets.{outermost}
+use Rattle.pli_declare.specs.Tables as tables
 use Rattle.pli_declare_tables.specs.views.TableView.{entry_view, entries_view}
-use Rattle.pli_declare_variables.specs.Places.{item_in}
-use Rattle.pli_declare_variables.specs.Descriptions.{described, inside}
+use Rattle.pli_declare.specs.Places.{item_in}
+use Rattle.pli_declare.specs.Descriptions.{described, inside}
 use Rattle.pli_declare_variables.specs.answers.Measures.{IsMeasured, AreMeasured}
 use Rattle.pli_declare_variables.specs.declared.sizes.Measured.{Measured}
 use Rattle.pli_declare_variables.specs.declared.sizes.Measured.TheVariants.{Unknown}

@@ -1,6 +1,6 @@
 use Rattle.std.proofs.Common.{◌≡◌, ℕ, ◌<◌, ◌≤◌, ◌+◌, length, get_or}
 use Rattle.pli_declare_tables.specs.views.TableView.{entries_view}
-use Rattle.pli_declare_variables.specs.Descriptions.{described}
+use Rattle.pli_declare.specs.Descriptions.{described}
 use Rattle.pli_declare_variables.specs.answers.Measures.{IsMeasured}
 use Rattle.pli_declare_variables.specs.declared.sizes.Measured.TheVariants.{Unknown}
 use Rattle.pli_declare_variables.proofs.sizes.measure_all.Given as goal

@@ -2,10 +2,11 @@ use Rattle.std.proofs.Common.{◌≡◌, ℕ, ◌+◌, ◌<◌, ◌++◌, ◌∷
 use Rattle.std.proofs.Common.{Vec}
 use Rattle.std.specs.Global.{Global}
 use Rattle.std.proofs.lemmas.List.{map_push, length-map}
-use Rattle.pli_declare_tables.specs.Tables.{no_entry, numbers_from}
+use Rattle.pli_declare.specs.Tables.{no_entry, numbers_from}
 use Rattle.pli_declare_tables.specs.views.TableView.{entry_view, entries_view}
-use Rattle.pli_declare_variables.proofs.NumberListLemmas.{map_next}
-use Rattle.pli_declare_variables.proofs.MembersFound.{first_members, before, viewed, nothing_else, added, passed, rows_length}
+use Rattle.pli_declare.proofs.NumberListLemmas.{map_next}
+use Rattle.pli_declare_variables.proofs.MembersFound.{first_members, viewed, nothing_else, added, passed, rows_length}
+use Rattle.pli_declare.proofs.MembersFound.{before}
 use Rattle.pli_declare_variables.proofs.sizes.members_by_owner.Goals.{in-Some+in_ok-add, in_default}
 use Rattle.pli_declare_variables.proofs.sizes.members_by_owner.Goals as goal
 

@@ -1,5 +1,5 @@
 use Rattle.std.proofs.Common.{◌≡◌, map, length}
-use Rattle.pli_declare_tables.specs.Tables.{numbers_from}
+use Rattle.pli_declare.specs.Tables.{numbers_from}
 use Rattle.pli_declare_tables.specs.views.TableView.{entries_view}
 use Rattle.pli_declare_variables.proofs.MembersFound.{first_members}
 use Rattle.pli_declare_variables.proofs.sizes.members_by_owner.Given as goal

@@ -1,4 +1,4 @@
-use Rattle.pli_declare_variables.specs.Descriptions.{members_made}
+use Rattle.pli_declare.specs.Descriptions.{members_made}
 use Rattle.pli_declare_variables.proofs.SizeLemmas.{begins}
 use Rattle.pli_declare_variables.proofs.sizes.structure.Goals as goal
 

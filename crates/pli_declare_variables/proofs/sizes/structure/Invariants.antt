@@ -1,6 +1,6 @@
 use Rattle.std.proofs.Common.{ℕ, Option, drop}
 use Rattle.pli_map.specs.Description.{Description}
-use Rattle.pli_declare_variables.specs.Descriptions.{members_made}
+use Rattle.pli_declare.specs.Descriptions.{members_made}
 use Rattle.pli_declare_variables.specs.answers.Measures.{AreMeasured, IsFront}
 use Rattle.pli_declare_variables.proofs.sizes.structure.Given as goal
 

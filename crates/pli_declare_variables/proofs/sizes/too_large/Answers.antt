@@ -2,14 +2,14 @@ use Rattle.std.proofs.Common.{◌≡◌, ℕ, ◌&&◌, Bool, not, Option, List,
 use Rattle.std.specs.Option.{is_none}
 use Rattle.std.proofs.lemmas.List.{length-map}
 use Rattle.pli_base.specs.declared.code.Code.{Code}
-use Rattle.pli_declare_tables.specs.Tables as tables
+use Rattle.pli_declare.specs.Tables as tables
 use Rattle.pli_declare_tables.specs.views.TableView.{entry_view, entries_view}
-use Rattle.pli_declare_variables.specs.Places.{is_variable, item_in}
-use Rattle.pli_declare_variables.specs.Descriptions.{described, is_large, is_starred, is_large_at}
+use Rattle.pli_declare.specs.Places.{is_variable, item_in}
+use Rattle.pli_declare.specs.Descriptions.{described, is_large, is_starred, is_large_at}
 use Rattle.pli_declare_variables.specs.answers.Measures.{IsMeasured}
 use Rattle.pli_declare_variables.specs.declared.sizes.Measured.{Measured}
 use Rattle.pli_declare_variables.specs.declared.sizes.Measured.TheVariants.{Unknown}
-use Rattle.pli_declare_variables.proofs.NumberListLemmas.{map_next}
+use Rattle.pli_declare.proofs.NumberListLemmas.{map_next}
 use Rattle.pli_declare_variables.proofs.MembersFound.{viewed}
 use Rattle.pli_declare_variables.proofs.sizes.too_large.Goals as goal
 

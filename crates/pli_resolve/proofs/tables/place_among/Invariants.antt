@@ -1,5 +1,5 @@
 use Rattle.std.proofs.Common.{◌≡◌, ◌+◌, drop}
-use Rattle.pli_resolve.specs.Symbols as spec
+use Rattle.pli_declare.specs.Symbols as spec
 use Rattle.pli_resolve.proofs.tables.place_among.Given as goal
 
 -- the names so far are others

@@ -1,6 +1,6 @@
 use Rattle.std.proofs.Common.{◌≡◌, ◌≤◌, drop}
 use Rattle.pli_declare_outline.specs.views.OutlineView.{regions_view}
-use Rattle.pli_resolve.specs.BlockNumbers.{numbers_after, block_numbers}
+use Rattle.pli_declare.specs.BlockNumbers.{numbers_after, block_numbers}
 use Rattle.pli_resolve_unit.proofs.block_numbers.block_numbers.Given as goal
 
 -- the numbers so far, with those of the regions that are left

@@ -1,6 +1,6 @@
 use Rattle.std.proofs.Common.{◌≡◌, drop}
 use Rattle.pli_declare_outline.specs.views.OutlineView.{regions_view}
-use Rattle.pli_resolve.specs.BlockNumbers as spec
+use Rattle.pli_declare.specs.BlockNumbers as spec
 use Rattle.pli_resolve_unit.proofs.block_numbers.block_regions.Given as goal
 
 -- the blocks so far, with those among the regions that are left

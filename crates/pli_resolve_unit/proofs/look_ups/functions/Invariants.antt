@@ -1,8 +1,8 @@
 use Rattle.std.proofs.Common.{◌≡◌, ℕ, nat_eq, drop}
 use Rattle.indexmap.specs.IndexMap.{get}
 use Rattle.pli_declare_outline.specs.views.OutlineView.{marks_view}
-use Rattle.pli_resolve.specs.Symbols.{found_after, found_in}
-use Rattle.pli_resolve.specs.ResolvedUnits as spec
+use Rattle.pli_declare.specs.Symbols.{found_after, found_in}
+use Rattle.pli_declare.specs.ResolvedUnits as spec
 use Rattle.pli_resolve_unit.proofs.look_ups.functions.Given as goal
 
 -- what was found so far, with the marks that are left, is what all of them give

@@ -1,8 +1,8 @@
 use Rattle.std.proofs.Common.{◌≡◌, ℕ, nat_eq, drop}
 use Rattle.std.specs.List.{flat_map}
 use Rattle.indexmap.specs.IndexMap.{get}
-use Rattle.pli_resolve.specs.Symbols.{found_after, found_in}
-use Rattle.pli_resolve.specs.ResolvedUnits as spec
+use Rattle.pli_declare.specs.Symbols.{found_after, found_in}
+use Rattle.pli_declare.specs.ResolvedUnits as spec
 use Rattle.pli_resolve_unit.proofs.look_ups.labels.Given as goal
 
 -- what was found so far, with the statements that are left, is what all of them give

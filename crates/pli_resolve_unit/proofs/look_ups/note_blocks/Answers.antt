@@ -1,8 +1,8 @@
 use Rattle.std.proofs.Common.{◌≡◌, ◌∷◌, nat_eq, map, drop, ◌+◌, sym, ap, ◌∙◌, arith}
 use Rattle.indexmap.specs.IndexMap.{get}
 use Rattle.pli_declare.specs.views.BlockView.{block_view}
-use Rattle.pli_resolve.specs.Symbols.{found_after}
-use Rattle.pli_resolve.specs.ResolvedUnits as spec
+use Rattle.pli_declare.specs.Symbols.{found_after}
+use Rattle.pli_declare.specs.ResolvedUnits as spec
 use Rattle.pli_resolve.proofs.LookUps.{found_then}
 use Rattle.pli_resolve_unit.proofs.BlockPassed.{drop_next}
 use Rattle.pli_resolve_unit.proofs.look_ups.note_blocks.Goals as goal

@@ -1,8 +1,8 @@
 use Rattle.std.proofs.Common.{◌≡◌, ℕ, nat_eq, drop, map}
 use Rattle.indexmap.specs.IndexMap.{get}
-use Rattle.pli_declare_variables.specs.views.DeclarationView.{declaration_view}
-use Rattle.pli_resolve.specs.Symbols.{found_after}
-use Rattle.pli_resolve.specs.ResolvedUnits as spec
+use Rattle.pli_declare.specs.views.DeclarationView.{declaration_view}
+use Rattle.pli_declare.specs.Symbols.{found_after}
+use Rattle.pli_declare.specs.ResolvedUnits as spec
 use Rattle.pli_resolve_unit.proofs.look_ups.note_procedures.Given as goal
 
 -- what was found so far, with the names that are left, is what all of them give

@@ -1,6 +1,6 @@
 use Rattle.std.proofs.Common.{◌≡◌, ℕ, nat_eq, drop, map}
 use Rattle.indexmap.specs.IndexMap.{get}
-use Rattle.pli_resolve.specs.Symbols.{found_after, found_in}
+use Rattle.pli_declare.specs.Symbols.{found_after, found_in}
 use Rattle.pli_resolve_unit.proofs.look_ups.statement_regions.Given as goal
 
 -- what was found so far, with the statements that are left, is what all of them give

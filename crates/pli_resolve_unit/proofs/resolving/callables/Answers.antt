@@ -1,6 +1,6 @@
 use Rattle.std.proofs.Common.{ap, ◌∙◌}
-use Rattle.pli_resolve.specs.Symbols.{found_in}
-use Rattle.pli_resolve.specs.ResolvedUnits.{functions_in}
+use Rattle.pli_declare.specs.Symbols.{found_in}
+use Rattle.pli_declare.specs.ResolvedUnits.{functions_in}
 use Rattle.pli_resolve_unit.proofs.resolving.callables.Goals as goal
 
 pub returns : goal.returns

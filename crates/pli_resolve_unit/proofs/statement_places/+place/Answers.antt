@@ -7,7 +7,7 @@ use Rattle.pli_base.specs.views.StatementView.{body_view, control_view, statemen
 use Rattle.pli_base.specs.laws.StatementLaws.{begin_made, do_made, if_made, on_made, boxed_view, unit_statements, procedure_body}
 use Rattle.pli_base.specs.declared.statement.Procedure.{out-Procedure}
 use Rattle.pli_declare_outline.specs.Outlines.{regions_among, regions_in}
-use Rattle.pli_resolve.specs.StatementPlaces.{statement_places, statements_places, end_place}
+use Rattle.pli_declare.specs.StatementPlaces.{statement_places, statements_places, end_place}
 use Rattle.pli_resolve_unit.proofs.UnitParts.{end_out}
 use Rattle.pli_resolve_unit.proofs.PlacesPut.{procedure, block, group, region_put, nothing_put, none_put, place_then, start_then, then_place, statements_then, if_put, unit_put}
 use Rattle.pli_resolve_unit.proofs.statement_places.+place.Goals as goal

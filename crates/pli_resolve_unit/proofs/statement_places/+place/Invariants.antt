@@ -1,5 +1,5 @@
 use Rattle.std.proofs.Common.{ℕ, List, drop}
-use Rattle.pli_resolve.specs.declared.statement_places.StatementPlace.{StatementPlace}
+use Rattle.pli_declare.specs.declared.statement_places.StatementPlace.{StatementPlace}
 use Rattle.pli_resolve_unit.proofs.PlacesPut.{AllPut}
 use Rattle.pli_resolve_unit.proofs.statement_places.+place.Given as goal
 

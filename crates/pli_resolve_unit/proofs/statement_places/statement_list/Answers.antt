@@ -2,7 +2,7 @@ use Rattle.std.proofs.Common.{◌≡◌, ◌++◌, ◌+◌, ◌∷◌, [], None,
 use Rattle.pli_base.specs.views.StatementView.{statements_view, unit_view}
 use Rattle.pli_base.specs.laws.StatementLaws.{unit_statements}
 use Rattle.pli_base.specs.declared.statement.Procedure.{out-Procedure}
-use Rattle.pli_resolve.specs.StatementPlaces.{statements_starts, statements_places, end_place, unit_starts, unit_places}
+use Rattle.pli_declare.specs.StatementPlaces.{statements_starts, statements_places, end_place, unit_starts, unit_places}
 use Rattle.pli_resolve_unit.proofs.UnitParts.{number_out, end_out}
 use Rattle.pli_resolve_unit.proofs.statement_places.statement_list.Goals as goal
 

@@ -1,6 +1,6 @@
 use Rattle.std.proofs.Common.{◌≡◌, ◌+◌, drop, map}
-use Rattle.pli_declare_variables.specs.views.DeclarationView.{declaration_view}
-use Rattle.pli_resolve.specs.Symbols as spec
+use Rattle.pli_declare.specs.views.DeclarationView.{declaration_view}
+use Rattle.pli_declare.specs.Symbols as spec
 use Rattle.pli_resolve_unit.proofs.tables.number_declared.Given as goal
 
 -- the names so far are others

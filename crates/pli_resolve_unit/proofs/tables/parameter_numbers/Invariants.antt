@@ -1,6 +1,6 @@
 use Rattle.std.proofs.Common.{◌≡◌, take, map}
-use Rattle.pli_declare_variables.specs.views.DeclarationView.{declaration_view}
-use Rattle.pli_resolve.specs.Symbols as spec
+use Rattle.pli_declare.specs.views.DeclarationView.{declaration_view}
+use Rattle.pli_declare.specs.Symbols as spec
 use Rattle.pli_resolve_unit.proofs.tables.parameter_numbers.Given as goal
 
 abbrev pub invariant-loop-parameter : goal.invariant-loop-parameter

@@ -1,7 +1,7 @@
 use Rattle.std.proofs.Common.{◌+◌, ◌∷◌, drop, map, ap, ◌∙◌, sym}
 use Rattle.std.proofs.lemmas.List.{drop_more, map_push}
-use Rattle.pli_declare_variables.specs.views.DeclarationView.{declaration_view}
-use Rattle.pli_resolve.specs.Symbols.{way_with}
+use Rattle.pli_declare.specs.views.DeclarationView.{declaration_view}
+use Rattle.pli_declare.specs.Symbols.{way_with}
 use Rattle.pli_resolve.specs.views.TableView.{way_view}
 use Rattle.pli_resolve_unit.proofs.WaysMade.{one_more, few_more}
 use Rattle.pli_resolve_unit.proofs.ways.ways.Goals as goal

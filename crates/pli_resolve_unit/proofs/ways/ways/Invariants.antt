@@ -1,6 +1,6 @@
 use Rattle.std.proofs.Common.{◌≡◌, ◌≤◌, ℕ, drop, map, length, get_or}
-use Rattle.pli_declare_variables.specs.views.DeclarationView.{declaration_view}
-use Rattle.pli_resolve.specs.Symbols as spec
+use Rattle.pli_declare.specs.views.DeclarationView.{declaration_view}
+use Rattle.pli_declare.specs.Symbols as spec
 use Rattle.pli_resolve.specs.views.TableView.{way_view}
 use Rattle.pli_resolve_unit.proofs.ways.ways.Given as goal
 

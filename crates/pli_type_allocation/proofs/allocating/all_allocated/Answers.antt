@@ -1,7 +1,7 @@
 use Rattle.std.proofs.Common.{◌<◌, ◌+◌, length, map, ap, ◌∙◌, arith}
 use Rattle.std.proofs.lemmas.List.{length-map, map_push}
 use Rattle.pli_base.specs.views.StatementView.{allocation_view}
-use Rattle.pli_type.specs.AllocationTyping.{all_allocated}
+use Rattle.pli_type_rules.specs.AllocationTyping.{all_allocated}
 use Rattle.pli_type_expression.proofs.BindLemmas.{exits}
 use Rattle.pli_type_names.specs.UnitNaming.{naming_in}
 use Rattle.pli_type_tree.specs.views.TypedView.{allocated_view}

@@ -1,6 +1,6 @@
 use Rattle.std.proofs.Common.{◌≡◌, ◌≤◌, ◌+◌, map}
 use Rattle.pli_base.specs.views.StatementView.{allocation_view}
-use Rattle.pli_type.specs.AllocationTyping.{all_allocated}
+use Rattle.pli_type_rules.specs.AllocationTyping.{all_allocated}
 use Rattle.pli_type_names.specs.UnitNaming.{naming_in}
 use Rattle.pli_type_tree.specs.views.TypedView.{allocated_view}
 use Rattle.pli_type_allocation.proofs.AllocatedInTurn.{left}

@@ -1,8 +1,8 @@
 use Rattle.std.proofs.Common.{◌≡◌, ℕ, false, List, [], ◌∷◌, option_map, refl, ap, sym, ◌∙◌}
 use Rattle.std.proofs.lemmas.Bool.{false≢true}
-use Rattle.pli_type.specs.AllocationTyping as spec
-use Rattle.pli_type.specs.Beginnings.{root_at}
-use Rattle.pli_type.specs.Names.{Begins}
+use Rattle.pli_type_rules.specs.AllocationTyping as spec
+use Rattle.pli_type_rules.specs.Beginnings.{root_at}
+use Rattle.pli_type_rules.specs.Names.{Begins}
 use Rattle.pli_type_operands.specs.views.TypingView.{referent_view}
 use Rattle.pli_type_names.specs.SymbolMeaning.{is_way}
 use Rattle.pli_type_names.specs.UnitNaming.{naming_in}

@@ -1,7 +1,7 @@
 use Rattle.std.proofs.Common.{◌<◌, length, map, ap, ◌∙◌, arith}
 use Rattle.std.proofs.lemmas.List.{map_push}
 use Rattle.pli_base.specs.views.SyntaxView.{reference_view}
-use Rattle.pli_type.specs.AllocationTyping.{freed, in_turn}
+use Rattle.pli_type_rules.specs.AllocationTyping.{freed, in_turn}
 use Rattle.pli_type_expression.proofs.BindLemmas.{exits}
 use Rattle.pli_type_names.specs.UnitNaming.{naming_in}
 use Rattle.pli_type_tree.specs.views.TypedView.{freed_view}

@@ -1,6 +1,6 @@
 use Rattle.std.proofs.Common.{◌≡◌, map, drop}
 use Rattle.pli_base.specs.views.SyntaxView.{reference_view}
-use Rattle.pli_type.specs.AllocationTyping.{freed, in_turn}
+use Rattle.pli_type_rules.specs.AllocationTyping.{freed, in_turn}
 use Rattle.pli_type_names.specs.UnitNaming.{naming_in}
 use Rattle.pli_type_tree.specs.views.TypedView.{freed_view}
 use Rattle.pli_type_allocation.proofs.InTurn.{after}

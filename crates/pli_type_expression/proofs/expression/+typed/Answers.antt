@@ -4,12 +4,12 @@ use Rattle.pli_base.specs.Syntax.{Given}
 use Rattle.pli_base.specs.laws.SyntaxLaws.{reference_out}
 use Rattle.pli_base.specs.declared.code.Code.TheVariants.{WrongOperandType}
 use Rattle.pli_base.specs.declared.syntax.Expression.{Expression}
-use Rattle.pli_type.specs.ExpressionTypes as types
-use Rattle.pli_type.specs.FunctionCalls as calls
-use Rattle.pli_type.specs.References.{AsLocator, AsValue, NotLocated}
+use Rattle.pli_type_rules.specs.ExpressionTypes as types
+use Rattle.pli_type_rules.specs.FunctionCalls as calls
+use Rattle.pli_type_rules.specs.References.{AsLocator, AsValue, NotLocated}
 use Rattle.pli_type.specs.views.ValueView.{value_view}
-use Rattle.pli_type.specs.Typing as typing
-use Rattle.pli_type.specs.TypingSteps as steps
+use Rattle.pli_type_rules.specs.Typing as typing
+use Rattle.pli_type_rules.specs.TypingSteps as steps
 use Rattle.pli_type_names.specs.UnitNaming.{naming_in}
 use Rattle.pli_type_tree.specs.views.TypedView.{expression_view}
 use Rattle.pli_type_operands.specs.views.TypingView.{argument_view, denoted_view, role_view}

@@ -1,6 +1,6 @@
 use Rattle.std.proofs.Common.{◌≡◌, ◌+◌, drop, map}
 use Rattle.pli_base.specs.views.SyntaxView.{expression_view, expressions_view, joined_view, reference_view, arguments_view}
-use Rattle.pli_type.specs.Typing.{all_subscripts, all_arguments}
+use Rattle.pli_type_rules.specs.Typing.{all_subscripts, all_arguments}
 use Rattle.pli_type_names.specs.UnitNaming.{naming_in}
 use Rattle.pli_type_tree.specs.views.TypedView as typed
 use Rattle.pli_type_expression.specs.Segments.{last_segment}

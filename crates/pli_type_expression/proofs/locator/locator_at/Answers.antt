@@ -1,7 +1,7 @@
 use Rattle.std.proofs.Common.{◌≡◌, option_map, sym, ap, ◌∙◌}
 use Rattle.pli_map.specs.views.DescriptionView.{description_view}
 use Rattle.pli_map.specs.views.ParameterView.{type_seen}
-use Rattle.pli_type.specs.References.{locator_at}
+use Rattle.pli_type_rules.specs.References.{locator_at}
 use Rattle.pli_type_tree.specs.views.TypedView.{reference_view}
 use Rattle.pli_type_expression.proofs.OpenLemmas.{open_no_locator, stated_so}
 use Rattle.pli_type_expression.proofs.locator.locator_at.Goals as goal

@@ -1,7 +1,7 @@
 use Rattle.std.proofs.Common.{rules, ◌≡◌, ◌⊎◌, ◌<◌, inl, inr, [], true, length, map, ap, ◌∙◌, sym, arith}
 use Rattle.std.proofs.lemmas.List.{length-map}
 use Rattle.pli_map.specs.views.DescriptionView.{description_view}
-use Rattle.pli_type.specs.References.{subscripts_at}
+use Rattle.pli_type_rules.specs.References.{subscripts_at}
 use Rattle.pli_type_names.proofs.TreeLemmas.{some_items}
 use Rattle.pli_type_names.specs.SymbolMeaning.{is_way}
 use Rattle.pli_type_names.specs.views.NameView.{part_view}

@@ -2,7 +2,7 @@ use Rattle.std.proofs.Common.{◌≡◌, map}
 use Rattle.std.specs.Iterator.Adapters.{zip_first, zip_second}
 use Rattle.std.specs.Slice.Iter.{iter_rest}
 use Rattle.std.specs.Vec.Iter.{into_iter_items}
-use Rattle.pli_type.specs.References.{subscripts_at}
+use Rattle.pli_type_rules.specs.References.{subscripts_at}
 use Rattle.pli_type_tree.specs.views.TypedView.{expression_view, stride_view}
 use Rattle.pli_type_expression.proofs.ReferenceLemmas.{subscripts_before}
 use Rattle.pli_type_expression.proofs.variable.subscripts_at.Given as goal

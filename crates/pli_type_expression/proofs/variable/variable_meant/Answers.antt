@@ -2,7 +2,7 @@ use Rattle.std.proofs.Common.{◌≡◌, Some, None, map, option_map, sym, ap, �
 use Rattle.pli_base.specs.answers.FailureAnswers.{Gives}
 use Rattle.pli_map.specs.ParameterTypes.{stated}
 use Rattle.pli_map.specs.views.DescriptionView.{description_view}
-use Rattle.pli_type.specs.References.{whole_meant}
+use Rattle.pli_type_rules.specs.References.{whole_meant}
 use Rattle.pli_type_tree.specs.views.TypedView.{expression_view}
 use Rattle.pli_type_expression.specs.views.SegmentView.{locator_view}
 use Rattle.pli_type_operands.specs.views.TypingView.{referent_view, role_view}

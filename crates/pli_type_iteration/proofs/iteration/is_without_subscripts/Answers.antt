@@ -1,5 +1,5 @@
 use Rattle.std.proofs.Common.{ap, sym, ◌∙◌}
-use Rattle.pli_type.specs.StatementTyping.{without_subscripts}
+use Rattle.pli_type_rules.specs.StatementTyping.{without_subscripts}
 use Rattle.pli_type_tree.specs.views.TypedView.{reference_view}
 use Rattle.pli_type_iteration.proofs.IterationLemmas.{bare}
 use Rattle.pli_type_iteration.proofs.iteration.is_without_subscripts.Goals as goal

@@ -2,8 +2,8 @@ use Rattle.std.proofs.Common.{Ok, option_map, ap, sym, ◌∙◌, subst}
 use Rattle.std.proofs.lemmas.Result.{err_from_is_err_and}
 use Rattle.pli_base.specs.views.StatementView.{range_view}
 use Rattle.pli_base.specs.views.SyntaxView as syntax
-use Rattle.pli_type.specs.StatementTyping.{controls, has_locator}
-use Rattle.pli_type.specs.Typing.{own_token}
+use Rattle.pli_type_rules.specs.StatementTyping.{controls, has_locator}
+use Rattle.pli_type_rules.specs.Typing.{own_token}
 use Rattle.pli_type.specs.views.ValueView.{value_view}
 use Rattle.pli_base.specs.answers.FailureAnswers.{Gives}
 use Rattle.pli_type_expression.proofs.BindLemmas.{fails_as}

@@ -1,5 +1,5 @@
 use Rattle.std.proofs.Common.{◌≡◌, drop, reverse}
-use Rattle.pli_type.specs.NamedUnits.{outward_to}
+use Rattle.pli_type_rules.specs.NamedUnits.{outward_to}
 use Rattle.pli_type_names.proofs.OutwardLemmas.{further}
 use Rattle.pli_type_names.proofs.around.outward_to.Given as goal
 

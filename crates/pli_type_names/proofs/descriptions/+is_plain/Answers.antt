@@ -1,6 +1,6 @@
 use Rattle.std.proofs.Common.{ap, sym, ◌∙◌, not}
 use Rattle.pli_map.specs.views.DescriptionView.{members_view}
-use Rattle.pli_type.specs.NamedUnits.{is_plain, all_plain}
+use Rattle.pli_type_rules.specs.NamedUnits.{is_plain, all_plain}
 use Rattle.pli_type_names.proofs.PlainLemmas.{structure_plain, structure_empty}
 use Rattle.pli_type_names.proofs.TreeLemmas.{structure_view, some_items, no_items}
 use Rattle.pli_type_names.proofs.descriptions.+is_plain.Goals as goal

@@ -1,6 +1,6 @@
 use Rattle.std.proofs.Common.{◌≡◌, drop}
 use Rattle.pli_map.specs.views.DescriptionView.{members_view}
-use Rattle.pli_type.specs.NamedUnits.{all_plain}
+use Rattle.pli_type_rules.specs.NamedUnits.{all_plain}
 use Rattle.pli_type_names.proofs.descriptions.+is_plain.Given as goal
 
 -- whether all are is what the members that are left say

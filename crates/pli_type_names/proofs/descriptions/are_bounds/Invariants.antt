@@ -1,5 +1,5 @@
 use Rattle.std.proofs.Common.{◌≡◌, drop}
-use Rattle.pli_type.specs.NamedUnits.{are_bounds}
+use Rattle.pli_type_rules.specs.NamedUnits.{are_bounds}
 use Rattle.pli_type_names.proofs.descriptions.are_bounds.Given as goal
 
 -- whether these are bounds is what the dimensions that are left say

@@ -1,6 +1,6 @@
 use Rattle.std.proofs.Common.{◌≡◌, List, Some, length, map, take, ap, sym, ◌∙◌}
 use Rattle.pli_base.specs.views.StatementView.{unit_view}
-use Rattle.pli_resolve.specs.ResolvedUnits.{resolved_unit_of}
+use Rattle.pli_declare.specs.ResolvedUnits.{resolved_unit_of}
 use Rattle.pli_resolve.specs.views.UnitView.{resolved_block_view}
 use Rattle.pli_type_names.specs.BlockEntries.{entry_at}
 use Rattle.pli_type_names.specs.declared.entries.BlockEntry.{BlockEntry}

@@ -1,6 +1,6 @@
 use Rattle.std.proofs.Common.{◌≡◌, ◌-◌, length, map, take}
 use Rattle.pli_base.specs.views.StatementView.{unit_view}
-use Rattle.pli_resolve.specs.ResolvedUnits.{resolved_unit_of}
+use Rattle.pli_declare.specs.ResolvedUnits.{resolved_unit_of}
 use Rattle.pli_type_names.specs.views.EntryView.{entry_view}
 use Rattle.pli_type_names.proofs.BlockLemmas.{entries_of}
 use Rattle.pli_type_names.proofs.entries.block_entries.Given as goal

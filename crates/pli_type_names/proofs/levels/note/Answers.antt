@@ -2,7 +2,7 @@ use Rattle.std.proofs.Common.{Some, option_map, ap, sym, ◌∙◌}
 use Rattle.std.proofs.lemmas.List.Elements.{All-push, All-same}
 use Rattle.pli_map.specs.Description.{Structure}
 use Rattle.pli_map.specs.views.DescriptionView.{members_view}
-use Rattle.pli_type.specs.References.{element_of}
+use Rattle.pli_type_rules.specs.References.{element_of}
 use Rattle.pli_type_names.specs.OnWays.{IsLevel}
 use Rattle.pli_type_names.specs.views.NameView.{part_view}
 use Rattle.pli_type_names.proofs.TreeLemmas.{structure_view}

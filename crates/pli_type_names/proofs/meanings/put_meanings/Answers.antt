@@ -1,10 +1,10 @@
 use Rattle.std.proofs.Common.{◌≡◌, ◌+◌, ◌++◌, ◌∷◌, [], ℕ, List, length, map, ap, sym, ◌∙◌}
 use Rattle.std.proofs.lemmas.List.{length-map, map-append}
 use Rattle.pli_base.specs.views.StatementView.{unit_view}
-use Rattle.pli_resolve.specs.ResolvedUnits.{resolved_unit_of}
-use Rattle.pli_resolve.specs.Symbols.{Symbol}
-use Rattle.pli_resolve.specs.views.SymbolView.{symbol_view}
-use Rattle.pli_type.specs.NamedUnits.{block_symbols, globals_before, parameter_numbers}
+use Rattle.pli_declare.specs.ResolvedUnits.{resolved_unit_of}
+use Rattle.pli_declare.specs.Symbols.{Symbol}
+use Rattle.pli_declare.specs.views.SymbolView.{symbol_view}
+use Rattle.pli_type_rules.specs.NamedUnits.{block_symbols, globals_before, parameter_numbers}
 use Rattle.pli_type_names.specs.Seen.{Kept, kept_symbols}
 use Rattle.pli_type_names.specs.UnitNaming.{symbols_in}
 use Rattle.pli_type_names.specs.views.MeaningView.{row_view}

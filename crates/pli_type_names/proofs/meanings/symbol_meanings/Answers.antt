@@ -1,8 +1,8 @@
 use Rattle.std.proofs.Common.{◌≡◌, ◌+◌, ◌++◌, ℕ, drop, get_or, length, map, option_map, ap, ◌∙◌, arith, subst}
 use Rattle.std.specs.List.{All}
 use Rattle.std.proofs.lemmas.List.{length-map}
-use Rattle.pli_resolve.specs.Symbols as plain
-use Rattle.pli_resolve.specs.views.SymbolView.{symbol_view, symbol_kind_view}
+use Rattle.pli_declare.specs.Symbols as plain
+use Rattle.pli_declare.specs.views.SymbolView.{symbol_view, symbol_kind_view}
 use Rattle.pli_type_names.specs.BlockFacts.{BlockFacts}
 use Rattle.pli_type_names.specs.Numbered.{each_from}
 use Rattle.pli_type_names.specs.OnWays.{IsLevel}

@@ -1,8 +1,8 @@
 use Rattle.std.proofs.Common.{◌≡◌, ◌+◌, ◌<◌, ◌≤◌, ◌++◌, ◌∷◌, [], ℕ, List, take, length, ap, sym, ◌∙◌, arith}
 use Rattle.pli_base.specs.views.StatementView.{unit_view}
-use Rattle.pli_resolve.specs.ResolvedUnits.{all_symbols, resolved_unit_of}
-use Rattle.pli_type.specs.NamedUnits.{all_tokens, block_symbols, globals_in, parameter_numbers}
-use Rattle.pli_type.specs.TextOrder.{text_places}
+use Rattle.pli_declare.specs.ResolvedUnits.{all_symbols, resolved_unit_of}
+use Rattle.pli_type_rules.specs.NamedUnits.{all_tokens, block_symbols, globals_in, parameter_numbers}
+use Rattle.pli_type_rules.specs.TextOrder.{text_places}
 use Rattle.pli_type_names.specs.BlockFacts.{facts_of}
 use Rattle.pli_type_names.specs.Seen.{Kept, kept_symbols}
 use Rattle.pli_type_names.proofs.BlockLemmas.{rows_of, row_there, symbols_there, all_rows, globals_more, globals_placed}

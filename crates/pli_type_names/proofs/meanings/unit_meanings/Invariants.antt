@@ -1,7 +1,7 @@
 use Rattle.std.proofs.Common.{◌≡◌, map, take}
 use Rattle.pli_base.specs.views.StatementView.{unit_view}
-use Rattle.pli_resolve.specs.ResolvedUnits.{all_symbols, resolved_unit_of}
-use Rattle.pli_type.specs.NamedUnits.{globals_in}
+use Rattle.pli_declare.specs.ResolvedUnits.{all_symbols, resolved_unit_of}
+use Rattle.pli_type_rules.specs.NamedUnits.{globals_in}
 use Rattle.pli_type_names.specs.views.MeaningView.{row_view}
 use Rattle.pli_type_names.proofs.BlockLemmas.{rows_of}
 use Rattle.pli_type_names.proofs.meanings.unit_meanings.Given as goal

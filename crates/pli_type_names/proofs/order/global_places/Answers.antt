@@ -3,10 +3,10 @@ use Rattle.std.specs.Global.{Global}
 use Rattle.std.specs.List.{All}
 use Rattle.std.specs.Prelude.{IfOk}
 use Rattle.pli_base.specs.views.StatementView.{unit_view}
-use Rattle.pli_resolve.specs.ResolvedUnits.{all_symbols, resolved_unit_of}
-use Rattle.pli_type.specs.NamedUnits.{all_tokens}
-use Rattle.pli_type.specs.TextOrder.{numbers_from, place_from, text_order}
-use Rattle.pli_type.proofs.TextNumbers.{order_below, order_counted}
+use Rattle.pli_declare.specs.ResolvedUnits.{all_symbols, resolved_unit_of}
+use Rattle.pli_type_rules.specs.NamedUnits.{all_tokens}
+use Rattle.pli_type_rules.specs.TextOrder.{numbers_from, place_from, text_order}
+use Rattle.pli_type_rules.proofs.TextNumbers.{order_below, order_counted}
 use Rattle.pli_type_names.proofs.order.global_places.Goals as goal
 
 pub places_among-requires : goal.places_among-requires

@@ -1,6 +1,6 @@
 use Rattle.std.proofs.Common.{◌≡◌, ◌+◌, ◌++◌, ◌∷◌, [], suc, ap, ◌∙◌, arith}
-use Rattle.pli_type.specs.TextOrder.{numbers_from}
-use Rattle.pli_type.proofs.TextNumbers.{numbers_more}
+use Rattle.pli_type_rules.specs.TextOrder.{numbers_from}
+use Rattle.pli_type_rules.proofs.TextNumbers.{numbers_more}
 use Rattle.pli_type_names.proofs.order.numbers_below.Goals as goal
 
 pub loop-number-preserved : goal.loop-number-preserved

@@ -1,5 +1,5 @@
 use Rattle.std.proofs.Common.{◌≡◌}
-use Rattle.pli_type.specs.TextOrder.{numbers_from}
+use Rattle.pli_type_rules.specs.TextOrder.{numbers_from}
 use Rattle.pli_type_names.proofs.order.numbers_below.Given as goal
 
 -- those so far

@@ -1,7 +1,7 @@
 use Rattle.std.proofs.Common.{◌≡◌, ℕ, ◌+◌, ◌-◌, ◌<◌, List, drop, get_or, length, map, slice_set, refl, ap, ◌∙◌, arith}
 use Rattle.std.proofs.lemmas.List.{length-map}
-use Rattle.pli_type.specs.TextOrder.{numbers_from, place_from}
-use Rattle.pli_type.proofs.TextNumbers.{numbers_counted}
+use Rattle.pli_type_rules.specs.TextOrder.{numbers_from, place_from}
+use Rattle.pli_type_rules.proofs.TextNumbers.{numbers_counted}
 use Rattle.pli_type_names.proofs.PlacesOrdered.{place_more, places_first}
 use Rattle.pli_type_names.proofs.order.places_among.Goals as goal
 

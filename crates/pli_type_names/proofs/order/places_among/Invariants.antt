@@ -1,5 +1,5 @@
 use Rattle.std.proofs.Common.{◌≡◌, drop, length, map}
-use Rattle.pli_type.specs.TextOrder.{numbers_from, place_from}
+use Rattle.pli_type_rules.specs.TextOrder.{numbers_from, place_from}
 use Rattle.pli_type_names.proofs.order.places_among.Given as goal
 
 -- the places of the numbers from this place on

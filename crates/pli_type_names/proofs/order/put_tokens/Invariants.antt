@@ -1,6 +1,6 @@
 use Rattle.std.proofs.Common.{◌≡◌, ◌++◌, map, drop}
-use Rattle.pli_resolve.specs.views.SymbolView.{symbol_view}
-use Rattle.pli_type.specs.NamedUnits.{global_tokens}
+use Rattle.pli_declare.specs.views.SymbolView.{symbol_view}
+use Rattle.pli_type_rules.specs.NamedUnits.{global_tokens}
 use Rattle.pli_type_names.proofs.order.put_tokens.Given as goal
 
 -- the tokens so far, and those of the symbols that are left, are those of all

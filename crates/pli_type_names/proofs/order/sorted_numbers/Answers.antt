@@ -3,7 +3,7 @@ use Rattle.std.specs.Ordering.{nat_cmp}
 use Rattle.std.proofs.lemmas.Cmp.{nat_cmp_total}
 use Rattle.std.proofs.lemmas.Fn.{always_returns_same}
 use Rattle.pli_sort.proofs.SortedOnce.{in_order_from_sort}
-use Rattle.pli_type.specs.TextOrder.{in_order}
+use Rattle.pli_type_rules.specs.TextOrder.{in_order}
 use Rattle.pli_type_names.proofs.order.sorted_numbers.Goals as goal
 
 pub returns : goal.returns

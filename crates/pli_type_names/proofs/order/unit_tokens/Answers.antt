@@ -1,9 +1,9 @@
 use Rattle.std.proofs.Common.{◌≡◌, ℕ, ◌+◌, ◌<◌, ◌≤◌, ◌++◌, List, length, take, ap, ◌∙◌, arith}
 use Rattle.std.specs.List.{flat_map}
 use Rattle.pli_base.specs.views.StatementView.{unit_view}
-use Rattle.pli_resolve.specs.ResolvedUnits.{all_symbols, resolved_unit_of}
-use Rattle.pli_resolve.specs.Symbols.{Symbol}
-use Rattle.pli_type.specs.NamedUnits.{block_symbols, global_tokens}
+use Rattle.pli_declare.specs.ResolvedUnits.{all_symbols, resolved_unit_of}
+use Rattle.pli_declare.specs.Symbols.{Symbol}
+use Rattle.pli_type_rules.specs.NamedUnits.{block_symbols, global_tokens}
 use Rattle.pli_type_names.proofs.BlockLemmas.{gathered_more, all_gathered}
 use Rattle.pli_type_names.proofs.order.unit_tokens.Goals as goal
 

@@ -1,7 +1,7 @@
 use Rattle.std.proofs.Common.{◌≡◌, ◌+◌, ◌++◌, ℕ, Option, drop, get_or, map, option_map, refl, ap, ◌∙◌, arith}
-use Rattle.pli_resolve.specs.Symbols as plain
-use Rattle.pli_resolve.specs.views.SymbolView.{symbol_view, symbol_kind_view}
-use Rattle.pli_type.specs.NamedUnits.{is_automatic, is_based, one_global, one_such}
+use Rattle.pli_declare.specs.Symbols as plain
+use Rattle.pli_declare.specs.views.SymbolView.{symbol_view, symbol_kind_view}
+use Rattle.pli_type_rules.specs.NamedUnits.{is_automatic, is_based, one_global, one_such}
 use Rattle.pli_type_names.specs.BlockFacts.{BlockFacts}
 use Rattle.pli_type_names.specs.Numbered.{each_from}
 use Rattle.pli_type_names.specs.OwnVariables as spec

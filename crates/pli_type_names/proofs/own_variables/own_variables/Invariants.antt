@@ -1,6 +1,6 @@
 use Rattle.std.proofs.Common.{◌≡◌, ◌+◌, ◌++◌, drop, get_or, length, map, option_map}
-use Rattle.pli_resolve.specs.views.SymbolView.{symbol_view}
-use Rattle.pli_type.specs.NamedUnits.{globals_before, is_automatic, is_based, such_before}
+use Rattle.pli_declare.specs.views.SymbolView.{symbol_view}
+use Rattle.pli_type_rules.specs.NamedUnits.{globals_before, is_automatic, is_based, such_before}
 use Rattle.pli_type_names.specs.Numbered.{each_from}
 use Rattle.pli_type_names.specs.OwnVariables as spec
 use Rattle.pli_type_names.specs.views.VariableView.{own_view}

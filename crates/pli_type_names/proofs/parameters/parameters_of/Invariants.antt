@@ -1,8 +1,8 @@
 use Rattle.std.proofs.Common.{◌≡◌, ◌++◌, drop, map, slice_get}
 use Rattle.pli_base.specs.views.StatementView.{unit_view}
 use Rattle.pli_map.specs.views.ParameterView.{type_seen}
-use Rattle.pli_resolve.specs.ResolvedUnits.{resolved_unit_of}
-use Rattle.pli_type.specs.NamedUnits.{block_symbols, type_in, parameters_of}
+use Rattle.pli_declare.specs.ResolvedUnits.{resolved_unit_of}
+use Rattle.pli_type_rules.specs.NamedUnits.{block_symbols, type_in, parameters_of}
 use Rattle.pli_type_names.proofs.parameters.parameters_of.Given as goal
 
 -- those so far, with those of the numbers that are left

@@ -3,7 +3,7 @@ use Rattle.std.proofs.lemmas.List.{at_drop_more}
 use Rattle.pli_map.specs.Sizes.{count_of, stride_of}
 use Rattle.pli_map.specs.declared.description.Bounds.{Bounds}
 use Rattle.pli_map.specs.views.DescriptionView.{description_view}
-use Rattle.pli_type.specs.References.{strides_of}
+use Rattle.pli_type_rules.specs.References.{strides_of}
 use Rattle.pli_type_tree.specs.TypedTree.{Stride}
 use Rattle.pli_type_tree.specs.views.TypedView.{stride_view}
 use Rattle.pli_type_names.proofs.StrideLemmas.{over_extent, both_positive, one_more}

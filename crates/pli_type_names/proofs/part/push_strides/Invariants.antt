@@ -1,7 +1,7 @@
 use Rattle.std.proofs.Common.{◌≡◌, ◌<◌, ◌*◌, ◌++◌, drop, map}
 use Rattle.pli_map.specs.Sizes.{count_of, stride_of}
 use Rattle.pli_map.specs.views.DescriptionView.{description_view}
-use Rattle.pli_type.specs.References.{strides_of}
+use Rattle.pli_type_rules.specs.References.{strides_of}
 use Rattle.pli_type_tree.specs.views.TypedView.{stride_view}
 use Rattle.pli_type_names.proofs.part.push_strides.Given as goal
 

@@ -1,7 +1,7 @@
 use Rattle.std.proofs.Common.{◌≡◌, ◌++◌, ◌∷◌, [], List, not, true, length, map, take, ap, sym, ◌∙◌}
 use Rattle.std.specs.Prelude.{is_ok, if◌then◌else◌}
-use Rattle.pli_resolve.specs.declared.symbol.Symbol.{Symbol}
-use Rattle.pli_resolve.specs.views.SymbolView.{symbol_view}
+use Rattle.pli_declare.specs.declared.symbol.Symbol.{Symbol}
+use Rattle.pli_declare.specs.views.SymbolView.{symbol_view}
 use Rattle.pli_type_names.specs.UnitNaming.{symbols_in}
 use Rattle.pli_type_names.proofs.ListLemmas.{one_made, take_whole}
 use Rattle.pli_type_names.proofs.unit_symbols.symbols.Goals as goal

@@ -1,5 +1,5 @@
 use Rattle.std.proofs.Common.{◌≡◌, ◌-◌, length, map, take}
-use Rattle.pli_resolve.specs.views.SymbolView.{symbol_view}
+use Rattle.pli_declare.specs.views.SymbolView.{symbol_view}
 use Rattle.pli_type_names.specs.UnitNaming.{symbols_in}
 use Rattle.pli_type_names.proofs.unit_symbols.symbols.Given as goal
 

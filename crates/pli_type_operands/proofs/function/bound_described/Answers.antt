@@ -1,6 +1,6 @@
 use Rattle.std.proofs.Common.{ap, ◌∙◌, sym}
 use Rattle.pli_map.specs.ParameterTypes.{Stated}
-use Rattle.pli_type.specs.FunctionCalls.{bound_among, bound_in}
+use Rattle.pli_type_rules.specs.FunctionCalls.{bound_among, bound_in}
 use Rattle.pli_bytes.proofs.DescriptionTrees.{array_view}
 use Rattle.pli_type_operands.proofs.function.bound_described.Goals as goal
 

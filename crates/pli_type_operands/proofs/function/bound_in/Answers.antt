@@ -1,6 +1,6 @@
 use Rattle.std.proofs.Common.{sym, ap, ◌∙◌}
 use Rattle.pli_map.specs.views.ParameterView.{type_seen}
-use Rattle.pli_type.specs.FunctionCalls.{bound_in}
+use Rattle.pli_type_rules.specs.FunctionCalls.{bound_in}
 use Rattle.pli_type_tree.specs.views.TypedView.{reference_view}
 use Rattle.pli_type_operands.proofs.function.bound_in.Goals as goal
 

@@ -1,5 +1,5 @@
 use Rattle.std.proofs.Common.{sym, ap, ◌∙◌}
-use Rattle.pli_type.specs.FunctionCalls.{bound_in}
+use Rattle.pli_type_rules.specs.FunctionCalls.{bound_in}
 use Rattle.pli_type_tree.specs.views.TypedView.{reference_view}
 use Rattle.pli_type_operands.proofs.TypeViews.{stated_view}
 use Rattle.pli_type_operands.proofs.function.bound_of_type.Goals as goal

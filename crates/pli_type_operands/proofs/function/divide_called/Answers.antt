@@ -1,7 +1,7 @@
 use Rattle.std.proofs.Common.{◌≡◌, Some, map, option_map, take, IfOk, sym, ap, ◌∙◌, subst}
 use Rattle.std.specs.Prelude.{option_and_then}
 use Rattle.std.proofs.lemmas.List.{take-map}
-use Rattle.pli_type.specs.FunctionCalls.{values_in}
+use Rattle.pli_type_rules.specs.FunctionCalls.{values_in}
 use Rattle.pli_type.specs.views.ValueView.{value_view}
 use Rattle.pli_type_operands.specs.Quotients.{precision_written, quotient_of}
 use Rattle.pli_type_operands.specs.views.TypingView.{argument_view}

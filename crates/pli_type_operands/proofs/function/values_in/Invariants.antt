@@ -1,6 +1,6 @@
 use Rattle.std.proofs.Common.{◌≡◌, ◌++◌, map, option_map}
 use Rattle.std.specs.Vec.Iter.{into_iter_items}
-use Rattle.pli_type.specs.FunctionCalls.{values_in}
+use Rattle.pli_type_rules.specs.FunctionCalls.{values_in}
 use Rattle.pli_type.specs.views.ValueView.{value_view}
 use Rattle.pli_type_operands.specs.views.TypingView.{argument_view}
 use Rattle.pli_type_operands.proofs.function.values_in.Given as goal

@@ -4,7 +4,7 @@ use Rattle.std.specs.Iterator.Adapters.{zip_first, zip_second}
 use Rattle.std.specs.Slice.Iter.{iter_rest}
 use Rattle.std.specs.Vec.Iter.{into_iter_items}
 use Rattle.pli_map.specs.views.ParameterView.{type_seen}
-use Rattle.pli_type.specs.ProcedureCalls.{all_passed}
+use Rattle.pli_type_rules.specs.ProcedureCalls.{all_passed}
 use Rattle.pli_type_tree.specs.views.TypedView.{argument_before}
 use Rattle.pli_type_operands.specs.views.TypingView.{argument_view}
 use Rattle.pli_type_operands.proofs.PassingLemmas.{arguments_before, before_none, one_passed}

@@ -1,7 +1,7 @@
 use Rattle.std.proofs.Common.{Ok, option_map, ap, ◌∙◌, sym}
 use Rattle.pli_map.specs.views.DescriptionView.{description_view}
-use Rattle.pli_type.specs.ProcedureCalls as spec
-use Rattle.pli_type.specs.TypingSteps as steps
+use Rattle.pli_type_rules.specs.ProcedureCalls as spec
+use Rattle.pli_type_rules.specs.TypingSteps as steps
 use Rattle.pli_type_tree.specs.laws.TypedTreeLaws.{called_made}
 use Rattle.pli_type_tree.specs.views.TypedView.{arguments_view, callee_view}
 use Rattle.pli_type_operands.proofs.passing.result_of.Goals as goal

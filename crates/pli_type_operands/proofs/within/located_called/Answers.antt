@@ -2,7 +2,7 @@ use Rattle.std.proofs.Common.{◌≡◌, Some, map, option_map, take, sym, ap, �
 use Rattle.std.specs.Prelude.{option_and_then}
 use Rattle.std.proofs.lemmas.List.{take-map}
 use Rattle.std.proofs.lemmas.Result.{IfOk-weaker}
-use Rattle.pli_type.specs.FunctionCalls.{values_in}
+use Rattle.pli_type_rules.specs.FunctionCalls.{values_in}
 use Rattle.pli_type.specs.views.ValueView.{value_view}
 use Rattle.pli_type_operands.specs.Within.{area_given, located_of}
 use Rattle.pli_type_operands.specs.views.TypingView.{argument_view}

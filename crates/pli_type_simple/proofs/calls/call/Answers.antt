@@ -2,7 +2,7 @@ use Rattle.std.proofs.Common.{None, Some, map, option_map, ap, sym, ◌∙◌, s
 use Rattle.std.proofs.lemmas.Result.{err_from_is_err_and}
 use Rattle.pli_base.specs.views.SyntaxView as syntax
 use Rattle.pli_map.specs.views.DescriptionView.{description_view}
-use Rattle.pli_type.specs.StatementTyping as spec
+use Rattle.pli_type_rules.specs.StatementTyping as spec
 use Rattle.pli_base.specs.answers.FailureAnswers.{Fails}
 use Rattle.pli_type_operands.specs.views.TypingView.{argument_view}
 use Rattle.pli_type_names.specs.SymbolMeaning.{IsMeantAs}

@@ -1,7 +1,7 @@
 use Rattle.std.proofs.Common.{◌<◌, length, map, ap, ◌∙◌, arith}
 use Rattle.std.proofs.lemmas.List.{map_push}
 use Rattle.pli_base.specs.views.SyntaxView as syntax
-use Rattle.pli_type.specs.TypingSteps.{items}
+use Rattle.pli_type_rules.specs.TypingSteps.{items}
 use Rattle.pli_type_expression.proofs.BindLemmas.{exits}
 use Rattle.pli_type_names.specs.UnitNaming.{naming_in}
 use Rattle.pli_type_tree.specs.views.TypedView.{expression_view}

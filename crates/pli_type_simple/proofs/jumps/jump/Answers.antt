@@ -1,14 +1,14 @@
 use Rattle.std.proofs.Common.{ap, sym, ◌∙◌, subst}
 use Rattle.pli_base.specs.declared.code.Code.TheVariants.{BadGoto}
-use Rattle.pli_type.specs.StatementTyping as spec
+use Rattle.pli_type_rules.specs.StatementTyping as spec
 use Rattle.pli_base.specs.answers.FailureAnswers.{Fails}
 use Rattle.pli_type_names.specs.SymbolMeaning.{IsMeantAs}
 use Rattle.pli_type_names.specs.UnitNaming.{naming_in}
 use Rattle.pli_type_parts.specs.Around.{blocks_of, surroundings_of}
 use Rattle.pli_type_parts.specs.views.AroundView.{around_view, lists_view}
 use Rattle.pli_type_simple.proofs.CallLemmas.{meant_label, no_jump}
-use Rattle.pli_type.specs.Typing.{or_fault}
-use Rattle.pli_type.specs.TypingSteps as steps
+use Rattle.pli_type_rules.specs.Typing.{or_fault}
+use Rattle.pli_type_rules.specs.TypingSteps as steps
 use Rattle.pli_type_simple.proofs.jumps.jump.Goals as goal
 
 pub returns-in_default : goal.returns-in_default

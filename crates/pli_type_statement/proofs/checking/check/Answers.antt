@@ -1,14 +1,14 @@
 use Rattle.std.proofs.Common.{◌++◌, Vec, Global, Ok, map, option_map, refl, ap, sym, ◌∙◌, subst, arith}
 use Rattle.pli_base.specs.declared.statement.Procedure.{out-Procedure}
 use Rattle.pli_base.specs.views.StatementView.{unit_view}
-use Rattle.pli_type.specs.Temporaries.{Next}
+use Rattle.pli_type_rules.specs.Temporaries.{Next}
 use Rattle.pli_type_names.specs.UnitNaming.{Names}
 use Rattle.pli_type_tree.specs.declared.statement.TypedStatement.{TypedStatement}
 use Rattle.pli_type_tree.specs.declared.unit.GlobalGroup.{GlobalGroup}
 use Rattle.pli_type_tree.specs.views.GlobalView.{globals_view, signature_view}
 use Rattle.pli_type_tree.specs.views.TemplateView.{groups_view}
 use Rattle.pli_type_tree.specs.views.TypedView.{procedure_view, statements_view}
-use Rattle.pli_type.specs.Checked.{outer_signature}
+use Rattle.pli_type_rules.specs.Checked.{outer_signature}
 use Rattle.pli_type_parts.specs.Parts.{told, Adds, unit_named}
 use Rattle.pli_type_walk.specs.Walking.{finished, unit_with}
 use Rattle.pli_type_walk.proofs.WalkEndLemmas.{all_of, first_entered, placed_first}

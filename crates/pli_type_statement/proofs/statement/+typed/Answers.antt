@@ -5,8 +5,8 @@ use Rattle.pli_base.specs.laws.StatementLaws as laws
 use Rattle.pli_base.specs.views.StatementView as source
 use Rattle.pli_base.specs.views.SyntaxView as syntax
 use Rattle.pli_map.specs.views.DescriptionView.{description_view}
-use Rattle.pli_type.specs.StatementTyping as spec
-use Rattle.pli_type.specs.Temporaries.{next_after}
+use Rattle.pli_type_rules.specs.StatementTyping as spec
+use Rattle.pli_type_rules.specs.Temporaries.{next_after}
 use Rattle.pli_type_tree.specs.TypedTree as plain
 use Rattle.pli_type_tree.specs.declared.statement.TypedStatement.{TypedStatement}
 use Rattle.pli_type_tree.specs.views.TypedView.{form_view, statement_view, statements_view}

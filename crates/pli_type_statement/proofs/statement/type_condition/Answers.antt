@@ -1,6 +1,6 @@
 use Rattle.std.proofs.Common.{Box, Global, refl}
 use Rattle.pli_base.specs.views.SyntaxView as syntax
-use Rattle.pli_type.specs.StatementTyping as spec
+use Rattle.pli_type_rules.specs.StatementTyping as spec
 use Rattle.pli_type_tree.specs.declared.expression.TypedExpression.{TypedExpression}
 use Rattle.pli_type_tree.specs.views.TypedView.{expression_view}
 use Rattle.pli_type_walk.proofs.WalkLemmas.{own_walked}

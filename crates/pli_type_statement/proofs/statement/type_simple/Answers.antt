@@ -1,6 +1,6 @@
 use Rattle.std.proofs.Common.{◌≤◌, ◌+◌, refl, ap, ◌∙◌, arith}
 use Rattle.pli_base.specs.views.StatementView as source
-use Rattle.pli_type.specs.Temporaries.{temporaries_of}
+use Rattle.pli_type_rules.specs.Temporaries.{temporaries_of}
 use Rattle.pli_type_names.specs.UnitNaming.{based_in}
 use Rattle.pli_type_tree.specs.views.TypedView.{form_view}
 use Rattle.pli_type_walk.specs.NumbersTaken.{taken_of}

@@ -2,7 +2,7 @@ use Rattle.std.proofs.Common.{◌≡◌, ◌+◌, ◌<◌, ◌≤◌, ◌++◌, 
 use Rattle.std.proofs.lemmas.List.{take_all}
 use Rattle.std.proofs.lemmas.List.Elements.{All-push, All-same}
 use Rattle.pli_base.specs.views.StatementView.{unit_view}
-use Rattle.pli_resolve.specs.ResolvedUnits.{all_symbols, resolved_unit_of}
+use Rattle.pli_declare.specs.ResolvedUnits.{all_symbols, resolved_unit_of}
 use Rattle.pli_type_names.specs.UnitNaming.{symbols_in}
 use Rattle.pli_type_names.proofs.BlockLemmas.{all_counted, symbols_there}
 use Rattle.pli_type_names.proofs.ListLemmas.{made_more}

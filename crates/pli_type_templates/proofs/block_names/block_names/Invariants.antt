@@ -1,7 +1,7 @@
 use Rattle.std.proofs.Common.{◌≡◌, map, take}
 use Rattle.std.specs.List.{All}
 use Rattle.pli_base.specs.views.StatementView.{unit_view}
-use Rattle.pli_resolve.specs.ResolvedUnits.{all_symbols, resolved_unit_of}
+use Rattle.pli_declare.specs.ResolvedUnits.{all_symbols, resolved_unit_of}
 use Rattle.pli_type_templates.specs.views.BlockView.{AreKnown, block_symbols}
 use Rattle.pli_type_templates.proofs.block_names.block_names.Given as goal
 

@@ -1,9 +1,9 @@
 use Rattle.std.proofs.Common.{◌≡◌, ◌+◌, ◌<◌, ◌++◌, ◌∷◌, [], List, Vec, drop, get_or, length, map, ap, sym, subst, ◌∙◌, arith}
 use Rattle.std.specs.Global.{Global}
 use Rattle.std.proofs.lemmas.List.{append_assoc, append-nil, drop_all, drop_more, get_or-map, length-map}
-use Rattle.pli_resolve.specs.views.SymbolView.{symbol_view}
-use Rattle.pli_type.specs.InitialScalars.{InitialItem}
-use Rattle.pli_type.specs.NamedUnits.{member_items, globals_from}
+use Rattle.pli_declare.specs.views.SymbolView.{symbol_view}
+use Rattle.pli_type_rules.specs.InitialScalars.{InitialItem}
+use Rattle.pli_type_rules.specs.NamedUnits.{member_items, globals_from}
 use Rattle.pli_type_templates.specs.ItemNames.{AreOfItems}
 use Rattle.pli_type_templates.specs.declared.items.ValuedItem.{ValuedItem}
 use Rattle.pli_type_templates.specs.views.ItemView.{items_view}

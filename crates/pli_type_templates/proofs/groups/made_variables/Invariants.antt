@@ -1,8 +1,8 @@
 use Rattle.std.proofs.Common.{◌≡◌, ◌++◌, List, drop, map}
 use Rattle.std.specs.List.{All}
 use Rattle.pli_declare_outline.specs.Outlines.{PlacedMark}
-use Rattle.pli_resolve.specs.views.SymbolView.{symbol_view}
-use Rattle.pli_type.specs.NamedUnits.{templates_from, templates_of}
+use Rattle.pli_declare.specs.views.SymbolView.{symbol_view}
+use Rattle.pli_type_rules.specs.NamedUnits.{templates_from, templates_of}
 use Rattle.pli_type_templates.specs.Groups.{is_such}
 use Rattle.pli_type_templates.specs.ItemNames.{AreOfItems}
 use Rattle.pli_type_templates.specs.views.ItemView.{HasMadeItem, made_template}

@@ -1,7 +1,7 @@
 use Rattle.std.proofs.Common.{◌≡◌, ◌∷◌, ◌++◌, [], Some, map, ap, sym, ◌∙◌}
 use Rattle.std.proofs.lemmas.List.{append-nil, map-append}
 use Rattle.std.proofs.lemmas.List.Elements.{All-push, All-same}
-use Rattle.pli_resolve.specs.views.SymbolView.{symbol_view}
+use Rattle.pli_declare.specs.views.SymbolView.{symbol_view}
 use Rattle.pli_type_templates.specs.Groups.{made_in, templates_with}
 use Rattle.pli_type_templates.specs.views.ItemView.{HasMadeItem, items_view, made_template, made_view}
 use Rattle.pli_type_templates.proofs.GroupsMade.{made_has_item}

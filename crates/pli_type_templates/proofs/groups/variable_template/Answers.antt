@@ -3,7 +3,7 @@ use Rattle.std.specs.List.{flat_map}
 use Rattle.std.proofs.lemmas.List.{append-nil, drop_all}
 use Rattle.pli_map.specs.Description.{Description}
 use Rattle.pli_map.specs.views.DescriptionView.{description_view}
-use Rattle.pli_type.specs.InitialScalars.{InitialItem}
+use Rattle.pli_type_rules.specs.InitialScalars.{InitialItem}
 use Rattle.pli_type_tree.specs.Templates.{InitialScalar, Template}
 use Rattle.pli_type_tree.specs.views.TemplateView.{initial_view}
 use Rattle.pli_type_templates.specs.Items.{item_scalars}

@@ -1,7 +1,7 @@
 use Rattle.std.proofs.Common.{◌≡◌, ◌+◌, ◌-◌, ◌++◌, ◌∷◌, min, drop, take, length, map, ap, sym, ◌∙◌, arith}
 use Rattle.std.proofs.lemmas.List.{append_assoc, append-nil, drop_all, drop_more}
 use Rattle.pli_map.specs.views.DescriptionView.{description_view}
-use Rattle.pli_type.specs.InitialScalars.{as_held, each_with, values_written}
+use Rattle.pli_type_rules.specs.InitialScalars.{as_held, each_with, values_written}
 use Rattle.pli_type_tree.specs.views.TemplateView.{initial_view}
 use Rattle.pli_type_templates.specs.Items.{all_with, elements_of, value_of}
 use Rattle.pli_type_templates.specs.Plans.{placed_as}

@@ -1,6 +1,6 @@
 use Rattle.std.proofs.Common.{◌≡◌, ◌≤◌, ◌++◌, drop, length, map}
 use Rattle.pli_map.specs.views.DescriptionView.{description_view}
-use Rattle.pli_type.specs.InitialScalars.{each_with, values_written}
+use Rattle.pli_type_rules.specs.InitialScalars.{each_with, values_written}
 use Rattle.pli_type_templates.specs.Plans.{placed_as}
 use Rattle.pli_type_templates.proofs.items.put_values.Given as goal
 use Rattle.pli_type_tree.specs.views.TemplateView.{initial_view}

@@ -1,7 +1,7 @@
 use Rattle.std.proofs.Common.{◌++◌, ◌∷◌, [], List, Vec, map, set, ap, sym, ◌∙◌}
 use Rattle.std.specs.Global.{Global}
 use Rattle.std.proofs.lemmas.List.{map-set, map_push, get_or-map}
-use Rattle.pli_type.specs.InitialScalars.{InitialItem}
+use Rattle.pli_type_rules.specs.InitialScalars.{InitialItem}
 use Rattle.pli_type_templates.specs.declared.items.ValuedItem.{ValuedItem}
 use Rattle.pli_type_templates.specs.views.ItemView.{item_view, items_view}
 use Rattle.pli_type_templates.proofs.members.add.Goals as goal

@@ -1,8 +1,8 @@
 use Rattle.std.proofs.Common.{◌≡◌, ◌+◌, ◌++◌, ◌∷◌, [], List, Vec, drop, length, map, replicate, subst, ap, sym, ◌∙◌, arith}
 use Rattle.std.specs.Global.{Global}
 use Rattle.std.proofs.lemmas.List.{drop_all, drop_more, length-map, map_push, replicate_more}
-use Rattle.pli_resolve.specs.views.SymbolView.{symbol_view}
-use Rattle.pli_type.specs.InitialScalars.{InitialItem}
+use Rattle.pli_declare.specs.views.SymbolView.{symbol_view}
+use Rattle.pli_type_rules.specs.InitialScalars.{InitialItem}
 use Rattle.pli_type_templates.specs.declared.items.ValuedItem.{ValuedItem}
 use Rattle.pli_type_templates.specs.views.ItemView.{items_view, rows_view}
 use Rattle.pli_type_templates.proofs.MembersFound.{Found, all_found, found_more, none_found}

@@ -1,5 +1,5 @@
 use Rattle.std.proofs.Common.{◌≡◌, [], drop, map, replicate}
-use Rattle.pli_resolve.specs.views.SymbolView.{symbol_view}
+use Rattle.pli_declare.specs.views.SymbolView.{symbol_view}
 use Rattle.pli_type_templates.specs.views.ItemView.{rows_view}
 use Rattle.pli_type_templates.proofs.MembersFound.{Found}
 use Rattle.pli_type_templates.proofs.members.members_by_root.Given as goal

@@ -1,7 +1,7 @@
 use Rattle.std.proofs.Common.{◌+◌, ◌-◌, ◌++◌, take, length, ap, sym, ◌∙◌, arith}
 use Rattle.std.specs.List.{flat_map}
 use Rattle.std.proofs.lemmas.List.{length-take}
-use Rattle.pli_type.specs.InitialScalars.{counted_from}
+use Rattle.pli_type_rules.specs.InitialScalars.{counted_from}
 use Rattle.pli_type_templates.specs.Plans.{spread}
 use Rattle.pli_type_templates.proofs.OffsetsMade.{one_more, step_left, none_left, none_more}
 use Rattle.pli_type_templates.proofs.StoredPlans.{reach_more}

@@ -1,6 +1,6 @@
 use Rattle.std.proofs.Common.{◌≡◌, ◌≤◌, ◌+◌, ◌-◌, ◌*◌, ◌++◌, length, take}
 use Rattle.std.specs.List.{flat_map}
-use Rattle.pli_type.specs.InitialScalars.{counted_from}
+use Rattle.pli_type_rules.specs.InitialScalars.{counted_from}
 use Rattle.pli_type_templates.specs.Plans.{spread}
 use Rattle.pli_type_templates.proofs.offsets.+put_offsets.Given as goal
 

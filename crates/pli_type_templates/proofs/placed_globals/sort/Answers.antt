@@ -4,7 +4,7 @@ use Rattle.std.proofs.lemmas.Cmp.{nat_cmp_total}
 use Rattle.std.proofs.lemmas.List.Sorted.{answers_always}
 use Rattle.pli_sort.proofs.CorrespondLemmas.{mapped_in_order}
 use Rattle.pli_sort.proofs.SortedOnce.{in_order_from_sort}
-use Rattle.pli_type.specs.NamedUnits as units
+use Rattle.pli_type_rules.specs.NamedUnits as units
 use Rattle.pli_type_templates.specs.declared.placed_globals.PlacedGlobal.{PlacedGlobal}
 use Rattle.pli_type_templates.specs.views.PlacedView.{placed_view}
 use Rattle.pli_type_templates.proofs.placed_globals.sort.Goals as goal

@@ -2,7 +2,7 @@ use Rattle.std.proofs.Common.{◌≡◌, ◌≤◌, ◌+◌, ◌-◌, ◌*◌, d
 use Rattle.pli_map.specs.Sizes.{end_after}
 use Rattle.pli_map.specs.views.DescriptionView.{description_view, members_view}
 use Rattle.pli_map.proofs.ScalarPlaces.{nodes, nodes_among}
-use Rattle.pli_type.specs.NamedUnits.{all_plain}
+use Rattle.pli_type_rules.specs.NamedUnits.{all_plain}
 use Rattle.pli_type_templates.specs.Plans.{plans_from}
 use Rattle.pli_type_templates.specs.views.PlanView.{plan_view}
 use Rattle.pli_type_templates.proofs.PlansMade.{before}

@@ -1,7 +1,7 @@
 use Rattle.std.proofs.Common.{List, map, sym, subst}
 use Rattle.std.specs.List.{All}
-use Rattle.pli_resolve.specs.declared.symbol.Symbol.{Symbol}
-use Rattle.pli_resolve.specs.views.SymbolView.{symbol_view}
+use Rattle.pli_declare.specs.declared.symbol.Symbol.{Symbol}
+use Rattle.pli_declare.specs.views.SymbolView.{symbol_view}
 use Rattle.pli_type_templates.specs.ItemNames.{AreOfItems}
 use Rattle.pli_type_templates.specs.views.BlockView.{block_symbols}
 use Rattle.pli_type_templates.specs.views.NumberView.{marks_of}

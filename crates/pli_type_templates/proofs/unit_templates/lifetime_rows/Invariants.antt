@@ -1,5 +1,5 @@
 use Rattle.std.proofs.Common.{◌≡◌, ◌++◌, drop, map}
-use Rattle.pli_type.specs.NamedUnits.{templates_of}
+use Rattle.pli_type_rules.specs.NamedUnits.{templates_of}
 use Rattle.pli_type_templates.specs.Groups.{is_such}
 use Rattle.pli_type_templates.specs.views.BlockView.{block_symbols}
 use Rattle.pli_type_templates.specs.views.UnitView.{row_view}

@@ -2,9 +2,9 @@ use Rattle.std.proofs.Common.{◌≡◌, map, ap, ◌∙◌}
 use Rattle.std.proofs.lemmas.List.Elements.{All-same}
 use Rattle.std.proofs.lemmas.List.Sorted.{All-permutation}
 use Rattle.std.proofs.lemmas.Result.{IfOk-weaker}
-use Rattle.pli_type.specs.NamedUnits as units
-use Rattle.pli_type.specs.NamedUnits.{all_globals}
-use Rattle.pli_type.specs.TextOrder.{in_order}
+use Rattle.pli_type_rules.specs.NamedUnits as units
+use Rattle.pli_type_rules.specs.NamedUnits.{all_globals}
+use Rattle.pli_type_rules.specs.TextOrder.{in_order}
 use Rattle.pli_type_templates.specs.views.BlockView.{block_symbols}
 use Rattle.pli_type_templates.specs.views.NumberView.{marks_of}
 use Rattle.pli_type_templates.specs.views.PlacedView.{HasGlobalItem, global_view}

@@ -4,8 +4,8 @@ use Rattle.std.proofs.lemmas.List.Elements.{All-same}
 use Rattle.pli_base.specs.declared.statement.Procedure.{Procedure}
 use Rattle.pli_base.specs.views.StatementView.{unit_view}
 use Rattle.pli_declare_outline.specs.Outlines.{outline_of}
-use Rattle.pli_resolve.specs.ResolvedUnits.{all_symbols, resolved_unit_of}
-use Rattle.pli_type.specs.NamedUnits.{all_globals, is_automatic, is_based, templates_of}
+use Rattle.pli_declare.specs.ResolvedUnits.{all_symbols, resolved_unit_of}
+use Rattle.pli_type_rules.specs.NamedUnits.{all_globals, is_automatic, is_based, templates_of}
 use Rattle.pli_type_templates.specs.ItemNames.{AreOfItems, HasFewMarks, HasFewRegions}
 use Rattle.pli_type_templates.specs.declared.block_names.BlockNames.{BlockNames}
 use Rattle.pli_type_templates.specs.views.BlockView.{block_symbols}

@@ -1,9 +1,9 @@
 use Rattle.std.proofs.Common.{◌≡◌, ◌+◌, ◌∷◌, ◌++◌, List, drop, map, ap, sym, subst, ◌∙◌}
 use Rattle.std.specs.List.{All}
 use Rattle.std.proofs.lemmas.List.{append_assoc, drop_more}
-use Rattle.pli_resolve.specs.Symbols.{Symbol}
-use Rattle.pli_resolve.specs.views.SymbolView.{symbol_view}
-use Rattle.pli_type.specs.NamedUnits.{block_globals, globals_of}
+use Rattle.pli_declare.specs.Symbols.{Symbol}
+use Rattle.pli_declare.specs.views.SymbolView.{symbol_view}
+use Rattle.pli_type_rules.specs.NamedUnits.{block_globals, globals_of}
 use Rattle.pli_type_templates.specs.ItemNames.{AreOfItems}
 use Rattle.pli_type_templates.specs.views.BlockView.{block_symbols}
 use Rattle.pli_type_templates.specs.views.PlacedView.{placed_view}

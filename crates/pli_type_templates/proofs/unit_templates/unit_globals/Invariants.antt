@@ -1,7 +1,7 @@
 use Rattle.std.proofs.Common.{◌≡◌, ◌++◌, List, drop, map}
 use Rattle.std.specs.List.{All}
 use Rattle.pli_declare_outline.specs.Outlines.{PlacedMark}
-use Rattle.pli_type.specs.NamedUnits.{block_globals}
+use Rattle.pli_type_rules.specs.NamedUnits.{block_globals}
 use Rattle.pli_type_templates.specs.ItemNames.{AreOfItems}
 use Rattle.pli_type_templates.specs.views.BlockView.{block_symbols}
 use Rattle.pli_type_templates.specs.views.PlacedView.{HasGlobalItem, placed_view}

@@ -1,5 +1,5 @@
 use Rattle.std.proofs.Common.{◌≡◌, ◌≤◌, ◌+◌, ◌*◌, drop, length}
-use Rattle.pli_type.specs.InitialScalars.{values_written}
+use Rattle.pli_type_rules.specs.InitialScalars.{values_written}
 use Rattle.pli_type_templates.proofs.values.elements_written.Given as goal
 
 -- those counted so far and those that are left are all

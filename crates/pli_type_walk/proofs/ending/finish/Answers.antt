@@ -1,5 +1,5 @@
 use Rattle.std.proofs.Common.{◌≡◌, ◌++◌, ◌∷◌, [], None, Some, Vec, Global, false, length, map, option_map, refl, ap, sym, ◌∙◌, subst}
-use Rattle.pli_type.specs.StatementTyping as spec
+use Rattle.pli_type_rules.specs.StatementTyping as spec
 use Rattle.pli_type_tree.specs.TypedTree as typed
 use Rattle.pli_type_tree.specs.declared.statement.TypedStatement.{TypedStatement}
 use Rattle.pli_type_tree.specs.views.TypedView.{head_view, procedure_view, statements_view}

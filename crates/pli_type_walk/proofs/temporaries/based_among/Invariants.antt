@@ -1,6 +1,6 @@
 use Rattle.std.proofs.Common.{◌≡◌, ◌≤◌, ◌+◌, drop, map}
 use Rattle.pli_base.specs.views.StatementView.{allocation_view}
-use Rattle.pli_type.specs.Temporaries.{based_among}
+use Rattle.pli_type_rules.specs.Temporaries.{based_among}
 use Rattle.pli_type_names.specs.UnitNaming.{based_in}
 use Rattle.pli_type_walk.proofs.temporaries.based_among.Given as goal
 

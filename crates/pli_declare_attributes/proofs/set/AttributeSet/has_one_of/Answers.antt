@@ -1,6 +1,6 @@
 use Rattle.std.proofs.Common.{◌≡◌, ◌==◌, ℕ, List, [], ◌∷◌, map, refl, ap, ◌∙◌, ◌||◌}
 use Rattle.std.specs.List.{list_any}
-use Rattle.pli_declare_attributes.specs.Sets.{is_one_of}
+use Rattle.pli_declare.specs.Sets.{is_one_of}
 use Rattle.pli_declare_attributes.specs.declared.set.AttributeSet.{AttributeSet}
 use Rattle.pli_declare_attributes.proofs.set.AttributeSet.has_one_of.Goals as goal
 

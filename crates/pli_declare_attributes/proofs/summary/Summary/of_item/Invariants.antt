@@ -1,8 +1,8 @@
 use Rattle.std.proofs.Common.{◌≡◌, ◌&&◌, ◌||◌, map, drop}
 use Rattle.std.specs.Option.{option_or}
 use Rattle.pli_base.specs.views.DeclarationView.{attribute_view}
-use Rattle.pli_declare_attributes.specs.Sets.{set_with, set_of, each_once, outermost}
-use Rattle.pli_declare_attributes.specs.Types.{number_of, has_star}
+use Rattle.pli_declare.specs.Sets.{set_with, set_of, each_once, outermost}
+use Rattle.pli_declare.specs.Types.{number_of, has_star}
 use Rattle.pli_declare_attributes.proofs.summary.Summary.of_item.Given as goal
 
 -- what stands so far, in front of what is left, is what all of it is

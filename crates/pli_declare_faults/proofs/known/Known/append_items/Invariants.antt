@@ -2,7 +2,7 @@ use Rattle.std.proofs.Common.{◌≡◌, ◌++◌, drop, map}
 use Rattle.std.specs.List.{flat_map}
 use Rattle.pli_base.specs.views.DeclarationView.{item_view}
 use Rattle.pli_declare_outline.specs.views.OutlineView.{outline_view}
-use Rattle.pli_declare_variables.specs.AttributeNames.{area_in, locator_in}
+use Rattle.pli_declare.specs.AttributeNames.{area_in, locator_in}
 use Rattle.pli_declare.specs.Resolved.{item_names}
 use Rattle.pli_declare_faults.specs.answers.Walks.{item_goodness}
 use Rattle.pli_declare_faults.proofs.known.Known.append_items.Given as goal

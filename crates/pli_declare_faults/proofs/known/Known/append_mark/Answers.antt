@@ -3,7 +3,7 @@ use Rattle.pli_base.specs.declared.syntax.Identifier.{Identifier}
 use Rattle.pli_base.specs.declared.statement.Procedure.{out-Procedure}
 use Rattle.pli_base.specs.views.StatementView.{unit_view}
 use Rattle.pli_declare_outline.specs.views.OutlineView.{outline_view, mark_view}
-use Rattle.pli_declare_variables.specs.AttributeNames.{area_in}
+use Rattle.pli_declare.specs.AttributeNames.{area_in}
 use Rattle.pli_declare.specs.Resolved.{areas_at, named_at}
 use Rattle.pli_declare_faults.specs.answers.Targets.{target_uses}
 use Rattle.pli_declare_faults.proofs.AttributesMet.{first_area, first_means, heading_simple}

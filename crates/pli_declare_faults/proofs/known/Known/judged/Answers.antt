@@ -1,7 +1,7 @@
 use Rattle.std.proofs.Common.{◌+◌, ◌<◌, length, get_or, ap, sym, ◌∙◌, subst}
 use Rattle.std.proofs.lemmas.List.{length-map}
 use Rattle.pli_declare_outline.specs.views.OutlineView.{outline_view, region_view}
-use Rattle.pli_declare_tables.specs.Tables.{entries_in}
+use Rattle.pli_declare.specs.Tables.{entries_in}
 use Rattle.pli_declare_variables.specs.Judging.{all_judged, judged_at}
 use Rattle.pli_declare.specs.Resolution.{parameters_of}
 use Rattle.pli_declare.proofs.ListsByNumber.{made_length, made_at, seen_length, seen_at}

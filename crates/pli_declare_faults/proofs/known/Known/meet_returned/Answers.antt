@@ -1,7 +1,7 @@
 use Rattle.std.proofs.Common.{◌+◌, ◌∷◌, [], true, drop, refl, sym, ap, subst, ◌∙◌}
 use Rattle.std.specs.List.{flat_map, list_all}
-use Rattle.pli_declare_variables.specs.AttributeNames.{plain_of}
-use Rattle.pli_declare_variables.specs.Declarations.{returned_by}
+use Rattle.pli_declare.specs.AttributeNames.{plain_of}
+use Rattle.pli_declare.specs.Declarations.{returned_by}
 use Rattle.pli_declare.specs.Resolution.{described_is_good}
 use Rattle.pli_declare_outline.specs.views.OutlineView.{outline_view}
 use Rattle.pli_declare_faults.specs.answers.Meeting.{Meets, nothing_met}

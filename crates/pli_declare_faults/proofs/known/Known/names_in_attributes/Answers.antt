@@ -2,7 +2,7 @@ use Rattle.std.proofs.Common.{◌≡◌, ◌++◌, [], ◌+◌, ◌<◌, map, re
 use Rattle.std.proofs.lemmas.List.{length-map}
 use Rattle.pli_declare_outline.specs.views.OutlineView.{outline_view, region_view, marks_view, placed_view}
 use Rattle.pli_declare_constructs.specs.Regions.{blocks_round}
-use Rattle.pli_declare_tables.specs.Tables.{inner_marks}
+use Rattle.pli_declare.specs.Tables.{inner_marks}
 use Rattle.pli_declare.specs.Resolved.{areas_at, locators_at}
 use Rattle.pli_declare_faults.specs.answers.Walks.{of_blocks}
 use Rattle.pli_declare_faults.proofs.NumberLists.{replicate_numbers, length_of_numbers}

@@ -1,7 +1,7 @@
 use Rattle.std.proofs.Common.{◌+◌, ◌<◌, length, ap, sym, ◌∙◌, subst}
 use Rattle.std.proofs.lemmas.List.{length-map}
 use Rattle.pli_declare_outline.specs.views.OutlineView.{outline_view, region_view}
-use Rattle.pli_declare_tables.specs.Tables.{table_in}
+use Rattle.pli_declare.specs.Tables.{table_in}
 use Rattle.pli_declare_tables.specs.views.TableView.{table_view}
 use Rattle.pli_declare.proofs.ListsByNumber.{seen_length, seen_at}
 use Rattle.pli_declare_faults.proofs.known.Known.table.Goals as goal

@@ -1,8 +1,8 @@
 use Rattle.std.proofs.Common.{◌+◌, List, length, map, sym, ap, ◌∙◌, subst}
 use Rattle.pli_declare_outline.specs.views.OutlineView.{outline_view}
 use Rattle.pli_declare_scopes.specs.Repeats.{verdicts_of}
-use Rattle.pli_declare_tables.specs.Tables.{Entry, written, with_verdicts, numbers_from, table_with}
-use Rattle.pli_declare_tables.specs.answers.Answers.{AllAfterOwners}
+use Rattle.pli_declare.specs.Tables.{Entry, written, with_verdicts, numbers_from, table_with}
+use Rattle.pli_declare.specs.answers.Owners.{AllAfterOwners}
 use Rattle.pli_declare_tables.proofs.TablesOfUnits.{all_after, tables_in, unit_is}
 use Rattle.pli_declare_tables.proofs.table.Tables.new.Goals as goal
 

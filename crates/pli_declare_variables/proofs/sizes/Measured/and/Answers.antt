@@ -1,5 +1,5 @@
 use Rattle.std.proofs.Common.{subst, sym}
-use Rattle.pli_declare_variables.specs.Descriptions.{member_then}
+use Rattle.pli_declare.specs.Descriptions.{member_then}
 use Rattle.pli_declare_variables.specs.answers.Measures.{IsMeasured, IsFront}
 use Rattle.pli_declare_variables.proofs.SizeLemmas.{both_known, over_member}
 use Rattle.pli_declare_variables.proofs.sizes.Measured.and.Goals as goal

@@ -1,7 +1,7 @@
 use Rattle.std.proofs.Common.{◌≡◌, [], get_or, map, reverse, ap, ◌∙◌}
 use Rattle.pli_base.specs.views.StatementView.{unit_view}
-use Rattle.pli_resolve.specs.ResolvedUnits.{resolved_unit_of}
-use Rattle.pli_type.specs.NamedUnits.{declared_as}
+use Rattle.pli_declare.specs.ResolvedUnits.{resolved_unit_of}
+use Rattle.pli_type_rules.specs.NamedUnits.{declared_as}
 use Rattle.pli_type_names.specs.Seen.{KeptNothing, kept_seen, seen}
 use Rattle.pli_type_names.specs.views.EntryView.{entry_view}
 use Rattle.pli_type_names.specs.views.MeaningView.{row_view}

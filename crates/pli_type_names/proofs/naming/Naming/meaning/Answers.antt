@@ -1,7 +1,7 @@
 use Rattle.std.proofs.Common.{◌≡◌, Some, ap, ◌∙◌}
 use Rattle.pli_base.specs.views.StatementView.{unit_view}
-use Rattle.pli_resolve.specs.ResolvedUnits.{meaning_at, resolved_unit_of}
-use Rattle.pli_resolve.specs.declared.symbol.NameMeaning.TheVariants as meanings
+use Rattle.pli_declare.specs.ResolvedUnits.{meaning_at, resolved_unit_of}
+use Rattle.pli_declare.specs.declared.symbol.NameMeaning.TheVariants as meanings
 use Rattle.pli_type_names.proofs.AnswersSay.{untyped_meant, function_meant, declared_meant}
 use Rattle.pli_type_names.proofs.naming.Naming.meaning.Goals as goal
 

@@ -1,7 +1,7 @@
 use Rattle.std.proofs.Common.{◌≡◌, map, slice_get, refl, ap, ◌∙◌}
 use Rattle.pli_base.specs.views.StatementView.{unit_view}
-use Rattle.pli_resolve.specs.ResolvedUnits.{resolved_unit_of}
-use Rattle.pli_type.specs.NamedUnits.{parameters_of, returned_of}
+use Rattle.pli_declare.specs.ResolvedUnits.{resolved_unit_of}
+use Rattle.pli_type_rules.specs.NamedUnits.{parameters_of, returned_of}
 use Rattle.pli_type_names.specs.BlockEntries.{parameters_in, returned_in}
 use Rattle.pli_type_names.specs.UnitNaming.{naming_in, procedure_in}
 use Rattle.pli_type_names.specs.views.EntryView.{entry_view}

@@ -1,7 +1,7 @@
 use Rattle.std.proofs.Common.{◌≡◌, map, reverse, slice_get, ap, ◌∙◌}
 use Rattle.pli_base.specs.views.StatementView.{unit_view}
-use Rattle.pli_resolve.specs.ResolvedUnits.{resolved_unit_of}
-use Rattle.pli_type.specs.NamedUnits.{area_named, returned_area_of}
+use Rattle.pli_declare.specs.ResolvedUnits.{resolved_unit_of}
+use Rattle.pli_type_rules.specs.NamedUnits.{area_named, returned_area_of}
 use Rattle.pli_type_names.specs.BlockEntries.{area_of}
 use Rattle.pli_type_names.specs.Seen.{area_under}
 use Rattle.pli_type_names.specs.views.EntryView.{entry_view}

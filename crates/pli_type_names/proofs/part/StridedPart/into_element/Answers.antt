@@ -2,7 +2,7 @@ use Rattle.std.proofs.Common.{◌≡◌, ap, sym, ◌∙◌, arith}
 use Rattle.pli_map.specs.Description as tree
 use Rattle.pli_map.specs.Sizes.{size_of}
 use Rattle.pli_map.specs.views.DescriptionView.{description_view}
-use Rattle.pli_type.specs.NamedUnits.{may_stand}
+use Rattle.pli_type_rules.specs.NamedUnits.{may_stand}
 use Rattle.pli_type_names.proofs.PlainLemmas.{plain_array, plain_stands, element_size}
 use Rattle.pli_type_names.proofs.TreeLemmas.{array_view}
 use Rattle.pli_type_names.proofs.part.StridedPart.into_element.Goals as goal

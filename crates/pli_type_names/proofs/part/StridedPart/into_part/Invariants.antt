@@ -1,5 +1,5 @@
 use Rattle.std.proofs.Common.{◌≡◌, drop}
-use Rattle.pli_type.specs.References.{part_on}
+use Rattle.pli_type_rules.specs.References.{part_on}
 use Rattle.pli_type_names.specs.views.NameView.{part_view}
 use Rattle.pli_type_names.proofs.part.StridedPart.into_part.Given as goal
 

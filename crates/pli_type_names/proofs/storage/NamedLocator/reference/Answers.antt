@@ -1,5 +1,5 @@
 use Rattle.std.proofs.Common.{ap, sym, ◌∙◌}
-use Rattle.pli_type.specs.Beginnings.{root_at}
+use Rattle.pli_type_rules.specs.Beginnings.{root_at}
 use Rattle.pli_type_tree.specs.TypedTree.{Part}
 use Rattle.pli_type_tree.specs.laws.TypedTreeLaws.{part_made}
 use Rattle.pli_type_tree.specs.views.TypedView.{root_view, subscripts_view}

@@ -1,5 +1,0 @@
-use Rattle.pli_type_name_laws.proofs.NameFactsHold as law
-use Rattle.pli_type_name_laws.proofs.laws.names_mean_variables.Goals as goal
-
-pub returns : goal.returns
-returns c = law.facts_hold

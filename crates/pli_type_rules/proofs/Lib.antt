@@ -1,0 +1,2 @@
+pub mod BasedNames
+pub mod TextNumbers

@@ -1,0 +1,17 @@
+pub mod AllocationTyping
+pub mod Beginnings
+pub mod Checked
+pub mod ExpressionTypes
+pub mod Faults
+pub mod FunctionCalls
+pub mod InitialScalars
+pub mod NamedUnits
+pub mod Names
+pub mod ProcedureCalls
+pub mod References
+pub mod StatementTyping
+pub mod Temporaries
+pub mod TextOrder
+pub mod Typing
+pub mod TypingSteps
+pub mod laws
