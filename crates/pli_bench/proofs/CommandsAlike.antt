@@ -1,7 +1,7 @@
 -- The command that a line spells, as it is read.
 use Rattle.std.specs.Prelude.{◌≡◌, ℕ, nat_lt, List, [], codes, length, Option, Some, None, option_map, unwrap_or, if◌then◌else◌, refl}
 use Rattle.std.specs.Option.{option_and_then}
-use Rattle.std.proofs.Common.{ap, ◌∙◌}
+use Rattle.std.proofs.Common.{ap}
 use Rattle.pli_base.specs.Name.{Name, name_of}
 use Rattle.pli_members.specs.declared.kind.MemberKind.{MemberKind}
 use Rattle.pli_bench.specs.Commands as read

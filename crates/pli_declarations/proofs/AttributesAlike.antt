@@ -1,5 +1,5 @@
 -- What attributes say is what the passes find.
-use Rattle.std.specs.Prelude.{◌≡◌, refl, ℕ, ◌+◌, Bool, true, false, not, ◌==◌, ◌&&◌, ◌||◌, nat_le, if◌then◌else◌, cond, bit_and, bit_or, Option, Some, None, is_none, option_map, option_and_then, List, [], ◌∷◌, map, slice_get}
+use Rattle.std.specs.Prelude.{◌≡◌, refl, ℕ, ◌+◌, Bool, true, false, not, ◌==◌, ◌&&◌, ◌||◌, nat_le, if◌then◌else◌, bit_and, bit_or, Option, Some, None, is_none, option_map, option_and_then, List, [], ◌∷◌, slice_get}
 use Rattle.std.specs.List.{list_any, filter_map, cons_option, fold}
 use Rattle.std.specs.Option.{unwrap_or, option_or}
 use Rattle.std.proofs.Common.{sym, ap, ap₂, ◌∙◌}
@@ -15,7 +15,7 @@ use Rattle.pli_declare.specs.declared.place.Position.TheVariants.{AtLevelOne, Me
 use Rattle.pli_declare.specs.Sets as sets
 use Rattle.pli_declare.specs.Agreement as old
 use Rattle.pli_declare.specs.Types as old_types
-use Rattle.pli_declarations.specs.Attributes.{kind_of, set_of, each_once, has, has_none, data_attributes, is_at, excluded_at, may_be_open, is_variable, agree_as_other, agree_as_variable, is_missing}
+use Rattle.pli_declarations.specs.Attributes.{kind_of, set_of, each_once, has, has_none, is_at, excluded_at, may_be_open, agree_as_other, agree_as_variable, is_missing}
 use Rattle.pli_declarations.specs.Types.{extent_of, stated, number_of, has_star, is_up_to, is_bad_length, scalar_of, element_of}
 
 -- one attribute

@@ -2,7 +2,7 @@
 use Rattle.std.specs.Prelude.{◌≡◌, refl, ℕ, ◌+◌, is_some, Option, Some, None, option_map, List, [], ◌∷◌, ◌++◌, get_or, if◌then◌else◌}
 use Rattle.std.specs.List.{filter_map, enumerate_from, cons_option}
 use Rattle.std.specs.Option.{unwrap_or}
-use Rattle.std.proofs.Common.{sym, ap, ap₂, ◌∙◌, arith}
+use Rattle.std.proofs.Common.{sym, ap, ◌∙◌, arith}
 use Rattle.std.proofs.lemmas.List.{append_assoc, append-nil}
 use Rattle.pli_declare_outline.specs.Outlines.{Region}
 use Rattle.pli_declare.specs.BlockNumbers as old

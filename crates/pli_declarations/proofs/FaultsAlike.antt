@@ -1,19 +1,17 @@
 -- The faults of the declarations of an outline are those that the passes find.
 use Rattle.std.specs.Prelude.{◌≡◌, refl, ℕ, ◌+◌, Bool, true, false, not, ◌&&◌, ◌||◌, nat_lt, Option, Some, None, List, [], ◌∷◌, ◌++◌, map, length, get_or, if◌then◌else◌}
 use Rattle.std.specs.List.{flat_map, list_any, list_all, enumerate_from}
-use Rattle.std.specs.Option.{unwrap_or}
 use Rattle.std.specs.Ordering.{nat_cmp}
 use Rattle.std.specs.declared.cmp.Ordering.{Ordering}
 use Rattle.std.specs.declared.cmp.Ordering.TheVariants.{Less, Equal, Greater}
-use Rattle.std.proofs.Common.{sym, ap, ap₂, ◌∙◌, subst}
+use Rattle.std.proofs.Common.{ap, ap₂, ◌∙◌}
 use Rattle.std.proofs.lemmas.List.Folds.{list_all-append}
 use Rattle.pli_base.specs.Name.{Name}
 use Rattle.pli_base.specs.Words.{same_name}
 use Rattle.pli_base.specs.Codes.{code_place}
 use Rattle.pli_base.specs.declared.code.Code.{Code}
-use Rattle.pli_base.specs.declared.code.Code.TheVariants.{NotDeclared, DeclaredTwice, AttributesConflict, AttributesMissing, BadLevel, Ambiguous, BadGoto, BadLocatorOrAreaName, TooManyParameters, GenerationTooLarge}
+use Rattle.pli_base.specs.declared.code.Code.TheVariants.{NotDeclared, DeclaredTwice, AttributesConflict, AttributesMissing, BadLevel, BadGoto, BadLocatorOrAreaName, TooManyParameters, GenerationTooLarge}
 use Rattle.pli_base.specs.declared.syntax.Identifier.{Identifier}
-use Rattle.pli_base.specs.declared.token.Fault.{Fault}
 use Rattle.pli_base.specs.Declarations.{SimpleAttribute, DescribedAttribute, ParameterDescription, Plain, AnyEntry, AnyReturns, Fixed, Binary, Character, Bit, Varying, Pointer, Offset, Area, Based, Controlled, Static, Automatic, External, Internal, Builtin, Initial, Attribute, Simple, Entry, Returns}
 use Rattle.pli_base.specs.Statements.{Heading}
 use Rattle.pli_declare_outline.specs.Outlines.{Mark, Declared, Labelled, Entered, Used, Jumped, PlacedMark, Outline}
@@ -24,7 +22,6 @@ use Rattle.pli_declare_scopes.specs.declared.repeat.Verdict.{Verdict}
 use Rattle.pli_declare_scopes.specs.declared.repeat.Verdict.TheVariants.{Counts, Twice, Beneath}
 use Rattle.pli_declare.specs.Tables as tables
 use Rattle.pli_declare.specs.Tables.{Entity, AsItem, AsLabel, AsProcedure, no_entry}
-use Rattle.pli_declare_constructs.specs.Reach as reach
 use Rattle.pli_declare.specs.AttributeNames.{plain_of}
 use Rattle.pli_declare.specs.Places as places
 use Rattle.pli_declare.specs.Places.{stands_alone}
@@ -32,10 +29,10 @@ use Rattle.pli_declare.specs.Declarations.{returned_by}
 use Rattle.pli_declare.specs.Descriptions as descriptions
 use Rattle.pli_declare.specs.Resolution as old
 use Rattle.pli_declare.specs.Resolution.{at_token, is_main, parameters_of}
-use Rattle.pli_declarations.specs.Items.{first_fault, least, result_fault}
-use Rattle.pli_declarations.specs.Regions.{block_of, reaches}
+use Rattle.pli_declarations.specs.Items.{least}
+use Rattle.pli_declarations.specs.Regions.{reaches}
 use Rattle.pli_declarations.specs.Scopes.{meant}
-use Rattle.pli_declarations.specs.Tables.{entries_in, entries_of, verdicts_in, scope_of, tables_of, entry_at, entries_among}
+use Rattle.pli_declarations.specs.Tables.{scope_of, tables_of, entry_at}
 use Rattle.pli_declarations.specs.Variables.{is_locator, is_area}
 use Rattle.pli_declarations.specs.Faults.{code_if, mean_fitting, is_good, names_no_area, simple_in, twice_code, heading_code, entity_codes, item_code, is_item, parameter_code, parameter_codes, parameter_faults, meaning_code, target_code, is_function, used_faults, mark_faults, faults_after, unit_faults, outline_faults}
 use Rattle.pli_declarations.proofs.ItemsAlike.{first_alike, lesser_alike, result_alike}

@@ -1,18 +1,17 @@
 -- The faults of items and what items are completed to are what the passes find.
-use Rattle.std.specs.Prelude.{◌≡◌, refl, ℕ, ◌+◌, Bool, true, false, not, ◌==◌, ◌&&◌, ◌||◌, ◌<◌, nat_lt, nat_eq, cond, if◌then◌else◌, Option, Some, None, option_map, option_and_then, List, [], ◌∷◌, ◌++◌, length, map}
+use Rattle.std.specs.Prelude.{◌≡◌, refl, ℕ, ◌+◌, Bool, true, false, not, ◌&&◌, ◌||◌, nat_lt, cond, if◌then◌else◌, Option, Some, None, option_map, option_and_then, List, [], ◌∷◌, ◌++◌, length, map}
 use Rattle.std.specs.Option.{unwrap_or, option_or}
-use Rattle.std.specs.List.{list_any, list_all, find, fold, sum_by}
+use Rattle.std.specs.List.{list_any, list_all, find, fold}
 use Rattle.std.specs.Ordering.{nat_cmp}
-use Rattle.std.proofs.Common.{sym, ap, ap₂, ◌∙◌, arith, inl, inr, eq-eqb, ne_eqb}
+use Rattle.std.proofs.Common.{ap, ap₂, ◌∙◌, arith, inl, inr, eq-eqb, ne_eqb}
 use Rattle.std.proofs.lemmas.Bool.{cases_lt, lt-ltb, le-ltb}
 use Rattle.pli_base.specs.Codes.{code_place}
 use Rattle.pli_base.specs.declared.code.Code.{Code}
 use Rattle.pli_base.specs.declared.code.Code.TheVariants.{AttributesConflict, AttributesMissing, BadPrecision, BadLength, BadBounds, BadInitial, AreaNotAllowedHere, TooManyParameters, GenerationTooLarge}
-use Rattle.pli_base.specs.Declarations.{Item, DescribedAttribute, ParameterDescription, Plain, AnyEntry, Fixed, Area, Initial, Static, Builtin}
+use Rattle.pli_base.specs.Declarations.{Item, DescribedAttribute, ParameterDescription}
 use Rattle.pli_base.specs.declared.declaration.WrittenBounds.{WrittenBounds}
 use Rattle.pli_base.specs.declared.declaration.InitialValue.{InitialValue}
 use Rattle.pli_base.specs.declared.declaration.InitialValue.TheVariants as initial
-use Rattle.pli_map.specs.ParameterTypes.{ParameterType}
 use Rattle.pli_declare.specs.Sets as sets
 use Rattle.pli_declare.specs.Sets.{outermost}
 use Rattle.pli_declare.specs.Agreement as agreement
@@ -24,17 +23,15 @@ use Rattle.pli_declare.specs.Initials.{values_in, fits, elements_of}
 use Rattle.pli_declare.specs.Faults as old
 use Rattle.pli_declare.specs.Faults.{parameters_in, returned_in, with_dimensions, is_too_large_type}
 use Rattle.pli_declare.specs.Completed as completed
-use Rattle.pli_declare.specs.Completed.{Variable, Completed, OfVariable, OfEntry, OfBuiltIn}
+use Rattle.pli_declare.specs.Completed.{OfVariable, OfEntry, OfBuiltIn}
 use Rattle.pli_declare.specs.declared.place.ItemPlace.{ItemPlace}
 use Rattle.pli_declare.specs.declared.place.Position.{Position}
 use Rattle.pli_declare.specs.declared.place.Position.TheVariants.{AtLevelOne, Member, Parameter, Result}
-use Rattle.pli_declare.specs.declared.completed.DeclaredStorage.{DeclaredStorage}
 use Rattle.pli_declare.specs.declared.completed.DeclaredStorage.TheVariants as storage
 use Rattle.pli_declare.specs.declared.completed.ScopeAttribute.TheVariants as scopes
-use Rattle.pli_declarations.specs.Attributes.{is_at, may_be_open}
-use Rattle.pli_declarations.specs.Types.{scalar_of, has_star}
+use Rattle.pli_declarations.specs.Attributes.{is_at}
 use Rattle.pli_declarations.specs.Items.{first_fault, lesser, least, shape_faults, area_fault, elements_given, is_bad_initial, own_fault, description_fault, result_fault, type_taken, parameter_of, item_fault, storage_of, variable_of, completed_of}
-use Rattle.pli_declarations.proofs.AttributesAlike.{set_alike, once_alike, number_alike, star_alike, level_alike, member_alike, open_alike, agree_alike, missing_alike, precision_alike, length_alike, scalar_alike, element_alike}
+use Rattle.pli_declarations.proofs.AttributesAlike.{set_alike, once_alike, star_alike, member_alike, open_alike, agree_alike, missing_alike, precision_alike, length_alike, scalar_alike, element_alike}
 
 -- ---- codes
 

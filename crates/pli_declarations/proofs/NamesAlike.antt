@@ -17,13 +17,12 @@ use Rattle.pli_declare.specs.Tables as tables
 use Rattle.pli_declare.specs.Resolution as resolution
 use Rattle.pli_declare.specs.Resolution.{parameters_of}
 use Rattle.pli_declare.specs.Resolved as old
-use Rattle.pli_declare.specs.Resolved.{BlockDeclarations}
 use Rattle.pli_declare.specs.declared.block.Use.{Use}
 use Rattle.pli_declare.specs.declared.block.Target.{Target}
-use Rattle.pli_declare.specs.declared.block.Target.TheVariants.{Name as AName, Function as AFunction}
+use Rattle.pli_declare.specs.declared.block.Target.TheVariants.{Function as AFunction}
 use Rattle.pli_declarations.specs.Faults.{is_function}
 use Rattle.pli_declarations.specs.Names.{block_at, blocks_of, outermost_of, target_of, use_of, use_at, item_uses, areas_at, locators_at, all_uses}
-use Rattle.pli_declarations.specs.Tables.{entries_in, scope_of}
+use Rattle.pli_declarations.specs.Tables.{scope_of}
 use Rattle.pli_declarations.specs.Scopes.{meant}
 use Rattle.pli_declarations.proofs.FaultsAlike.{function_alike}
 use Rattle.pli_declarations.proofs.ScopesAlike.{meant_alike}

@@ -8,7 +8,7 @@ use Rattle.pli_declare_outline.specs.declared.region.RegionKind.TheVariants as k
 use Rattle.pli_declare_constructs.specs.Regions as old
 use Rattle.pli_declare_constructs.specs.Regions.{kind_at, round_of, blocks_round}
 use Rattle.pli_declare_constructs.specs.Reach as reach
-use Rattle.pli_declarations.specs.Regions.{block_of, is_group, is_on_unit, is_on_unit_of, reaches}
+use Rattle.pli_declarations.specs.Regions.{block_of, is_group, is_on_unit, reaches}
 
 first_alike : (ns : List ℕ) → get_or ns 0 0 ≡ old.first_or_unit (old.first_of ns)
 first_alike [] = refl

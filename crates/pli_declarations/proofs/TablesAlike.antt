@@ -1,17 +1,15 @@
 -- What blocks declare is what the passes find.
-use Rattle.std.specs.Prelude.{◌≡◌, refl, ℕ, ◌+◌, Bool, true, false, ◌&&◌, ◌||◌, ◌==◌, nat_eq, nat_lt, Option, None, Some, is_none, option_map, List, [], ◌∷◌, ◌++◌, map, length, get_or, if◌then◌else◌}
+use Rattle.std.specs.Prelude.{◌≡◌, refl, ℕ, ◌+◌, Bool, true, false, ◌==◌, nat_lt, Option, None, Some, option_map, List, [], ◌∷◌, ◌++◌, map, length, get_or, if◌then◌else◌}
 use Rattle.std.specs.List.{flat_map, list_any, fold, zip, enumerate_from}
 use Rattle.std.specs.Option.{unwrap_or}
-use Rattle.std.proofs.Common.{sym, ap, ap₂, ◌∙◌, arith, length-append}
+use Rattle.std.proofs.Common.{sym, ap, ◌∙◌, arith, length-append}
 use Rattle.std.proofs.lemmas.List.{map-append}
-use Rattle.pli_base.specs.Words.{same_name}
 use Rattle.pli_base.specs.declared.syntax.Identifier.{Identifier}
 use Rattle.pli_base.specs.Declarations.{Item}
 use Rattle.pli_declare_outline.specs.Outlines.{Region, Mark, Declared, Labelled, Entered, Used, Jumped, PlacedMark, Outline}
 use Rattle.pli_declare_scopes.specs.Levels as levels
 use Rattle.pli_declare_scopes.specs.Repeats as twice
 use Rattle.pli_declare_scopes.specs.Repeats.{is_counting}
-use Rattle.pli_declare_scopes.specs.Scopes.{BlockItems, Scope}
 use Rattle.pli_declare_scopes.specs.declared.level.ItemStanding.{ItemStanding}
 use Rattle.pli_declare_scopes.specs.declared.level.Numbered.{Numbered}
 use Rattle.pli_declare_scopes.specs.declared.repeat.Verdict.{Verdict}
@@ -20,7 +18,7 @@ use Rattle.pli_declare_constructs.specs.Regions.{blocks_round}
 use Rattle.pli_declare.specs.Tables as old
 use Rattle.pli_declare.specs.Tables.{Entry, no_entry, item_entry, inner_marks, unit_entries, unit_block}
 use Rattle.pli_declarations.specs.Regions.{block_of}
-use Rattle.pli_declarations.specs.Tables.{last_where, standing, standings_after, declared_entries, entries_of, entries_among, entries_in, repeats, verdicts_after, verdicts_in, block_in, scope_of, tables_of, entry_at}
+use Rattle.pli_declarations.specs.Tables.{standing, standings_after, declared_entries, entries_of, entries_among, entries_in, repeats, verdicts_after, verdicts_in, block_in, scope_of, tables_of, entry_at}
 use Rattle.pli_declarations.proofs.RegionsAlike as regions_alike
 use Rattle.pli_declarations.proofs.ScopesAlike.{mapped}
 

@@ -2,7 +2,7 @@
 use Rattle.std.specs.Prelude.{◌≡◌, refl, ℕ, ◌+◌, nat_eq, Bool, true, false, not, Option, Some, None, option_map, option_and_then, List, [], ◌∷◌, ◌++◌, map, length, get_or, slice_get, if◌then◌else◌, cond, is_none, ◌&&◌}
 use Rattle.std.specs.List.{flat_map, filter_map, cons_option, fold, zip, enumerate_from, position_or_len, find}
 use Rattle.std.specs.Option.{unwrap_or}
-use Rattle.std.proofs.Common.{sym, ap, ap₂, ◌∙◌}
+use Rattle.std.proofs.Common.{sym, ap, ◌∙◌}
 use Rattle.std.proofs.lemmas.List.Folds.{flat_map-map}
 use Rattle.pli_base.specs.Name.{Name}
 use Rattle.pli_base.specs.Words.{same_name}
@@ -35,7 +35,7 @@ use Rattle.pli_declarations.specs.Blocks.{block_regions, block_numbers}
 use Rattle.pli_declarations.specs.Names.{blocks_of, outermost_of, use_at, areas_at, locators_at, all_uses}
 use Rattle.pli_declarations.specs.Tables.{last_where}
 use Rattle.pli_declarations.specs.Walk.{PlacedStatement, statements_of, outline_of}
-use Rattle.pli_declarations.specs.Units.{resolution_faults, last_under, target_at, function_named, block_number, outermost_number, key_in, key_of, declared_by, area_of, locator_of, label_statement, symbol_kind, symbol_of, region_entered, procedures_in, procedures_of, number_declared, block_of, function_at, kind_meaning, target_meaning, meaning_of, block_of_statement, resolved_unit_of}
+use Rattle.pli_declarations.specs.Units.{resolution_faults, last_under, target_at, function_named, block_number, key_in, key_of, declared_by, area_of, locator_of, label_statement, symbol_kind, symbol_of, region_entered, procedures_in, procedures_of, number_declared, block_of, function_at, kind_meaning, target_meaning, meaning_of, block_of_statement, resolved_unit_of}
 use Rattle.pli_declarations.proofs.BlocksAlike as blocks
 use Rattle.pli_declarations.proofs.FaultsAlike.{outline_alike}
 use Rattle.pli_declarations.proofs.NamesAlike as names

@@ -2,20 +2,17 @@
 use Rattle.std.specs.Prelude.{◌≡◌, refl, ℕ, zero, suc, ◌+◌, Bool, true, false, not, ◌&&◌, ◌||◌, ◌==◌, if◌then◌else◌, Option, Some, None, is_none, option_map, option_and_then, List, [], ◌∷◌, map, length, get_or, slice_get}
 use Rattle.std.specs.List.{list_any, list_all}
 use Rattle.std.specs.Option.{unwrap_or}
-use Rattle.std.proofs.Common.{sym, ap, ap₂, ◌∙◌}
+use Rattle.std.proofs.Common.{ap}
 use Rattle.pli_base.specs.Name.{Name}
 use Rattle.pli_base.specs.Words.{same_name}
 use Rattle.pli_base.specs.declared.code.Code.{Code}
-use Rattle.pli_base.specs.Declarations.{Item, DescribedAttribute}
-use Rattle.pli_map.specs.Description.{Description, Structure, Members, NoMembers, MemberThen}
+use Rattle.pli_base.specs.Declarations.{DescribedAttribute}
+use Rattle.pli_map.specs.Description.{Description, Structure, MemberThen}
 use Rattle.pli_declare.specs.Sets as sets
 use Rattle.pli_declare.specs.Sets.{outermost}
 use Rattle.pli_declare.specs.Extents.{all_bounds, is_array}
 use Rattle.pli_declare.specs.Extents as extents
-use Rattle.pli_declare.specs.Faults as faults
 use Rattle.pli_declare.specs.Faults.{with_bounds, is_too_large}
-use Rattle.pli_declare.specs.declared.place.ItemPlace.{ItemPlace}
-use Rattle.pli_declare.specs.declared.place.Position.{Position}
 use Rattle.pli_declare.specs.declared.place.Position.TheVariants.{AtLevelOne, Member, Parameter}
 use Rattle.pli_declare.specs.Tables.{Entity, AsItem, AsLabel, AsProcedure, Entry, no_entry, numbers_from}
 use Rattle.pli_declare.specs.Places as places
@@ -23,8 +20,8 @@ use Rattle.pli_declare.specs.Places.{owners_of, members_of, item_of, is_bad_leve
 use Rattle.pli_declare.specs.Descriptions as descriptions
 use Rattle.pli_declare.specs.Descriptions.{is_of_shape}
 use Rattle.pli_declare.specs.Declarations as declarations
-use Rattle.pli_declare.specs.Declarations.{Declaration, DeclaredKind, OfItem, OfLabel, OfProcedure, returned_by}
-use Rattle.pli_declarations.specs.Types.{scalar_of, has_star}
+use Rattle.pli_declare.specs.Declarations.{OfItem, OfProcedure, returned_by}
+use Rattle.pli_declarations.specs.Types.{scalar_of}
 use Rattle.pli_declarations.specs.Variables.{is_built_in, place_in, own_code, attributes_in, is_variable_item, is_locator, is_area, members_made, inside, described, description_of, is_whole, is_too_large_variable, kind_at, declared_in}
 use Rattle.pli_declarations.proofs.AttributesAlike.{set_alike, star_alike, scalar_alike}
 use Rattle.pli_declarations.proofs.ItemsAlike.{item_alike, completed_alike}

@@ -1,6 +1,6 @@
 -- An item of a DECLARE, and what RETURNS and ENTRY describe: the least fault of the attributes, apart from
 -- faults of names and levels, and what they are completed to.
-use Rattle.std.specs.Prelude.{ℕ, Bool, true, false, not, ◌&&◌, ◌||◌, nat_lt, if◌then◌else◌, Option, Some}
+use Rattle.std.specs.Prelude.{ℕ, Bool, false, not, ◌&&◌, ◌||◌, nat_lt, if◌then◌else◌, Option, Some}
 use Rattle.std.specs.Prelude.{None, option_map, option_and_then, List, [], ◌∷◌, ◌++◌, length, map}
 use Rattle.std.specs.Option.{unwrap_or, option_or}
 use Rattle.std.specs.List.{list_any, list_all, find, sum_by}

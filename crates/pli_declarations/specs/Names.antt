@@ -5,7 +5,7 @@ use Rattle.std.specs.List.{flat_map, filter_map}
 use Rattle.std.specs.Option.{option_to_list}
 use Rattle.pli_base.specs.Name.{Name}
 use Rattle.pli_base.specs.Declarations.{Item, SimpleAttribute}
-use Rattle.pli_declare_outline.specs.Outlines.{Mark, Declared, Entered, Used, Jumped, PlacedMark, Outline}
+use Rattle.pli_declare_outline.specs.Outlines.{Mark, Declared, Entered, Used, Jumped, Outline}
 use Rattle.pli_declare_constructs.specs.Regions.{blocks_round}
 use Rattle.pli_declare_scopes.specs.declared.found.ReferenceMeaning.{ReferenceMeaning}
 use Rattle.pli_declare_scopes.specs.declared.found.ReferenceMeaning.TheVariants.{Item as Means}

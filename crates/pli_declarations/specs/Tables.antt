@@ -1,6 +1,6 @@
 -- What each block of a unit declares, with the levels of items (X3.74) and names that are declared twice
 -- (own); and the blocks in which a name is looked up.
-use Rattle.std.specs.Prelude.{ℕ, ◌+◌, Bool, true, ◌&&◌, ◌||◌, ◌==◌, nat_eq, nat_lt, Option, None, Some}
+use Rattle.std.specs.Prelude.{ℕ, Bool, true, ◌&&◌, ◌||◌, ◌==◌, nat_eq, nat_lt, Option, None, Some}
 use Rattle.std.specs.Prelude.{is_none, option_map, List, [], ◌∷◌, ◌++◌, map, length, get_or, if◌then◌else◌}
 use Rattle.std.specs.List.{flat_map, list_any, fold, zip, enumerate_from}
 use Rattle.std.specs.Option.{unwrap_or, option_eq}

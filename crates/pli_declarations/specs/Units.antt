@@ -1,8 +1,7 @@
 -- The faults of the declarations of a unit; and, where there are none, what its blocks declare and what its
 -- names mean.
-use Rattle.std.specs.Prelude.{ℕ, nat_eq, Bool, Option, Some, None, option_map, option_and_then, is_none, ◌&&◌}
-use Rattle.std.specs.Prelude.{List, [], ◌∷◌, ◌++◌, map, length, get_or, slice_get, filter_map, fold, zip}
-use Rattle.std.specs.Prelude.{if◌then◌else◌}
+use Rattle.std.specs.Prelude.{ℕ, nat_eq, Option, Some, None, option_map, option_and_then, is_none, ◌&&◌}
+use Rattle.std.specs.Prelude.{List, [], ◌∷◌, ◌++◌, map, length, get_or, slice_get, filter_map, zip}
 use Rattle.std.specs.List.{flat_map, enumerate_from, position_or_len, find}
 use Rattle.std.specs.Option.{unwrap_or}
 use Rattle.pli_base.specs.Name.{Name}

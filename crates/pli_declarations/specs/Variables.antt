@@ -1,7 +1,7 @@
 -- The names of a block: where each item stands, its least fault apart from faults of names and levels, its
 -- description, and what each name is declared as.
 use Rattle.std.specs.Prelude.{ℕ, zero, suc, Bool, false, not, ◌&&◌, ◌||◌, ◌==◌, if◌then◌else◌, Option, Some}
-use Rattle.std.specs.Prelude.{None, is_none, option_map, option_and_then, List, [], ◌∷◌, map, length, get_or}
+use Rattle.std.specs.Prelude.{None, option_map, option_and_then, List, [], ◌∷◌, map, length, get_or}
 use Rattle.std.specs.Prelude.{slice_get}
 use Rattle.std.specs.List.{list_any, list_all}
 use Rattle.std.specs.Option.{unwrap_or}

@@ -7,7 +7,7 @@ use Rattle.pli_code.specs.Modules.{Module, program_of}
 use Rattle.pli_machine_step.specs.ModuleRuns.{RunsTo}
 use Rattle.pli_gen.specs.WellNumbered.{IsWellNumbered}
 use Rattle.pli_meaning_simulation.specs.CodeStands.{ProgramStands}
-use Rattle.pli_meaning_tree.specs.TreeMeaning.{TypedProgram, whole_run}
+use Rattle.pli_meaning_tree.specs.ProgramMeaning.{TypedProgram, whole_run}
 use Rattle.pli_meaning_typed.specs.TypedPrograms.{WellTyped}
 use Rattle.pli_gen_stands.specs.Linked.{IsModuleOf}
 

@@ -8,7 +8,7 @@ use Rattle.pli_type_tree.specs.TypedTree.{Global, OwnVariable, ExternalVariable,
 use Rattle.pli_code.specs.Modules.{Member, Module}
 use Rattle.pli_code.specs.Versions.{greatest_precision}
 use Rattle.pli_gen_emit.specs.Encoding.{code_of}
-use Rattle.pli_meaning_tree.specs.TreeMeaning.{TypedProgram, unit_named}
+use Rattle.pli_meaning_tree.specs.ProgramMeaning.{TypedProgram, unit_named}
 
 -- the names of a module's external variables
 abbrev pub external_names : Module → List Name

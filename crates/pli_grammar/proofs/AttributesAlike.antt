@@ -1,14 +1,12 @@
 -- The parts of declarations are read the same, up to one attribute.
-use Rattle.std.specs.Prelude.{◌≡◌, ℕ, zero, suc, ◌+◌, Bool, true, false, ◌||◌, Option, Some, None, Result, Ok, Err, List, [], ◌∷◌, ◌++◌, length, map, codes, refl, is_some, option_map, if◌then◌else◌}
+use Rattle.std.specs.Prelude.{◌≡◌, ℕ, ◌+◌, Bool, true, false, ◌||◌, Option, Some, None, Result, Ok, Err, List, [], ◌∷◌, ◌++◌, map, codes, refl, is_some, option_map, if◌then◌else◌}
 use Rattle.std.proofs.Common.{ap, sym, ◌∙◌, arith}
-use Rattle.std.proofs.Math.Path.{fun_ext}
 use Rattle.pli_base.specs.Name.{Name}
-use Rattle.pli_base.specs.Words.{Tokens, same_name, is_among, is_word, is_open, is_close, is_comma, is_period, is_colon, is_semicolon, rest_after}
+use Rattle.pli_base.specs.Words.{Tokens, same_name, is_among, is_open, is_close, is_comma, is_period, is_colon, rest_after}
 use Rattle.pli_base.specs.Results.{◌>>=◌}
-use Rattle.pli_base.specs.Reading.{Front, expected, misfit, read_as, mapped, taken, enclosed, if_open, or_none}
+use Rattle.pli_base.specs.Reading.{Front, expected, misfit, read_as, mapped, taken, enclosed, or_none}
 use Rattle.pli_base.specs.Declarations as tree
-use Rattle.pli_base.specs.declared.code.Code.TheVariants.{ParenthesisExpected, SemicolonExpected, ConstantExpected, BadAttribute}
-use Rattle.pli_base.specs.declared.declaration.WrittenBounds.{WrittenBounds}
+use Rattle.pli_base.specs.declared.code.Code.TheVariants.{ParenthesisExpected, ConstantExpected, BadAttribute}
 use Rattle.pli_base.specs.declared.declaration.WrittenBounds.TheVariants as limits
 use Rattle.pli_base.specs.declared.declaration.WrittenLength.TheVariants as extents
 use Rattle.pli_base.specs.declared.declaration.InitialValue.{InitialValue}
@@ -18,9 +16,9 @@ use Rattle.pli_base.specs.declared.token.Fault.{Fault}
 use Rattle.pli_base.specs.declared.token.Sign.TheVariants as signs
 use Rattle.pli_base.specs.declared.token.TokenText.TheVariants.{Word, Decimal, Binary, Characters, Bits, Sign}
 use Rattle.pli_parse_declaration.specs.DeclarationWords.{data_word, storage_word, nesting_word, word_or, attribute_word, with_rest, attribute_first, is_zero, if_first, with_attribute, begins_description}
-use Rattle.pli_parse_declaration.specs.DeclarationReading.{list_at, number_at, integer_at, bounds_from, stated_at, bounds_at, dimensions_at, extent_at, length_at, with_scale, scaled_at, precision_at, name_at, identifier_at, area_at, locator_at, repeated_at, null_from, value_at, values_at, simple_of}
-use Rattle.pli_parse_declaration.specs.Separators.{separated, after_separator}
-use Rattle.pli_parse_declaration.specs.declared.list.Separator.TheVariants.{Commas, Periods, Nothing}
+use Rattle.pli_parse_declaration.specs.DeclarationReading.{list_at, number_at, integer_at, bounds_from, stated_at, bounds_at, dimensions_at, extent_at, length_at, with_scale, scaled_at, precision_at, name_at, area_at, locator_at, repeated_at, null_from, value_at, values_at, simple_of}
+use Rattle.pli_parse_declaration.specs.Separators.{separated}
+use Rattle.pli_parse_declaration.specs.declared.list.Separator.TheVariants.{Periods, Nothing}
 use Rattle.pli_parse_declaration.specs.declared.word.SimpleWord.{SimpleWord}
 use Rattle.pli_parse_declaration.specs.declared.word.SimpleWord.TheVariants as words
 use Rattle.pli_parse_declaration.specs.declared.word.AttributeWord.{AttributeWord}

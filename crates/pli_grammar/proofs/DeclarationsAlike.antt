@@ -10,13 +10,13 @@ use Rattle.pli_base.specs.declared.code.Code.TheVariants.{ParenthesisExpected, S
 use Rattle.pli_base.specs.declared.token.Fault.{Fault}
 use Rattle.pli_base.specs.declared.token.Sign.TheVariants.{CloseParenthesis}
 use Rattle.pli_base.specs.declared.token.TokenText.TheVariants.{Sign}
-use Rattle.pli_parse_declaration.specs.DeclarationWords.{attribute_first, if_first, with_attribute, begins_description}
+use Rattle.pli_parse_declaration.specs.DeclarationWords.{attribute_first, if_first, begins_description}
 use Rattle.pli_parse_declaration.specs.DeclarationReading.{list_at, identifier_at, level_at, names_from, names_at, described_at, parameter_at, parameters_from, parameters_at, entry_from, entry_at, returned_at, attribute_from, attribute_at, attributes_from, attributes_at, item_at, declaration_at}
 use Rattle.pli_parse_declaration.specs.declared.list.Separator.TheVariants.{Commas, Nothing}
 use Rattle.pli_parse_declaration.specs.declared.word.AttributeWord.{AttributeWord}
 use Rattle.pli_parse_declaration.specs.declared.word.AttributeWord.TheVariants as attribute
 use Rattle.pli_parse_declaration.proofs.DeclarationSteps.{close_first}
-use Rattle.pli_grammar.specs.Readers.{Reader, made, token, either, after_token, begun, closed, list_of}
+use Rattle.pli_grammar.specs.Readers.{Reader, made, either, after_token, begun, closed, list_of}
 use Rattle.pli_grammar.specs.Declarations as new
 use Rattle.pli_grammar.specs.Declarations.{is_attribute}
 use Rattle.pli_grammar.proofs.ReadersAlike.{grouped, after, both, token_then, closed_same, parenthesized_then, list_of_same, found}

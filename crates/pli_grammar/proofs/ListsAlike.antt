@@ -13,11 +13,11 @@ use Rattle.pli_base.specs.declared.token.TokenText.TheVariants.{Word, Decimal, B
 use Rattle.pli_base.specs.Statements.{Ended, Before, count}
 use Rattle.pli_parse_declaration.specs.DeclarationWords.{is_either}
 use Rattle.pli_parse_statement.specs.StatementReading as old
-use Rattle.pli_parse_statement.specs.StatementReading.{label_at, paired, Listing, expression_in, reference_in, Misplacement, AtLabel, AtStatement, misplacement, NextStatement, EndsHere, Another}
+use Rattle.pli_parse_statement.specs.StatementReading.{label_at, NextStatement, EndsHere, Another}
 use Rattle.pli_parse_statement.specs.StatementWords.{Context, begins_assignment, after_word, keyword_of, first_kind, kind_of, word_kind, go_kind, Assigns, Unknown}
 use Rattle.pli_parse_statement.specs.declared.keyword.Keyword.{Keyword}
 use Rattle.pli_grammar.specs.Readers as readers
-use Rattle.pli_grammar.specs.Readers.{Reader, token, either, optional, closed, by_meaning, meaning_in}
+use Rattle.pli_grammar.specs.Readers.{either}
 use Rattle.pli_grammar.specs.Readers.{◌>>=◌ as ◌then◌}
 use Rattle.pli_grammar.specs.StatementParts as parts
 use Rattle.pli_grammar.specs.UnitReading as new

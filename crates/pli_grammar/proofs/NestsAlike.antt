@@ -11,8 +11,8 @@ use Rattle.pli_base.specs.declared.token.Fault.{Fault}
 use Rattle.pli_base.specs.declared.token.TokenText.{TokenText}
 use Rattle.pli_base.specs.declared.token.Sign.TheVariants.{CloseParenthesis}
 use Rattle.pli_base.specs.declared.token.TokenText.TheVariants.{Sign}
-use Rattle.pli_parse_declaration.specs.DeclarationWords.{attribute_first, if_first, with_attribute, begins_description}
-use Rattle.pli_parse_declaration.specs.DeclarationReading.{dimensions_at, simple_of, Walk, description_walk, parameters_walk, entry_walk, word_walk, closed_walk, comma_walk, after_attributes_walk, no_word_walk, walk_by, step_at, walked_after, walked, nest_at, described_from, described_at}
+use Rattle.pli_parse_declaration.specs.DeclarationWords.{attribute_first, if_first, begins_description}
+use Rattle.pli_parse_declaration.specs.DeclarationReading.{dimensions_at, simple_of, Walk, description_walk, parameters_walk, entry_walk, word_walk, closed_walk, comma_walk, after_attributes_walk, walk_by, step_at, walked_after, walked, nest_at, described_from, described_at}
 use Rattle.pli_parse_declaration.specs.declared.nest.Open.{Open}
 use Rattle.pli_parse_declaration.specs.declared.nest.Open.TheVariants as opened
 use Rattle.pli_parse_declaration.specs.declared.nest.Expects.TheVariants as expects
@@ -21,8 +21,8 @@ use Rattle.pli_parse_declaration.specs.declared.word.AttributeWord.{AttributeWor
 use Rattle.pli_parse_declaration.specs.declared.word.AttributeWord.TheVariants as attribute
 use Rattle.pli_parse_declaration.proofs.DeclarationSteps.{first_is, close_first}
 use Rattle.pli_parse_declaration.proofs.DeclarationRead.{dimensions_reads, simple_reads, word_first}
-use Rattle.pli_grammar.specs.Readers.{Reader, made, token, either, optional, begun, closed, listed, list_of, parenthesized}
-use Rattle.pli_grammar.specs.Declarations.{dimensions, is_attribute, attribute_with, attributes, parameter, entry, returned, described_within, described}
+use Rattle.pli_grammar.specs.Readers.{Reader, made, token, either, optional, begun, closed, listed, list_of}
+use Rattle.pli_grammar.specs.Declarations.{dimensions, is_attribute, attributes, parameter, entry, returned, described_within, described}
 use Rattle.pli_grammar.proofs.ReadersAlike.{found, parenthesized_then}
 use Rattle.pli_grammar.proofs.AttributesAlike.{dimensions_same, read_by, attribute_same, attribute_found, description_found}
 

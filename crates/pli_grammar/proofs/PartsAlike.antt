@@ -1,6 +1,6 @@
 -- The parts of statements are read the same.
-use Rattle.std.specs.Prelude.{◌≡◌, ℕ, zero, suc, ◌+◌, Bool, true, false, Option, Some, None, Result, Ok, Err, List, [], ◌∷◌, length, codes, refl, is_some, option_map, if◌then◌else◌}
-use Rattle.std.proofs.Common.{ap, sym, ◌∙◌}
+use Rattle.std.specs.Prelude.{◌≡◌, ℕ, zero, suc, ◌+◌, Bool, true, false, Option, Some, None, Result, Ok, Err, List, [], ◌∷◌, length, codes, refl, is_some}
+use Rattle.std.proofs.Common.{ap, ◌∙◌}
 use Rattle.std.proofs.Math.Path.{fun_ext}
 use Rattle.std.specs.List.{list_any}
 use Rattle.pli_base.specs.Name.{Name}
@@ -15,16 +15,16 @@ use Rattle.pli_base.specs.declared.token.Sign.TheVariants.{OpenParenthesis}
 use Rattle.pli_base.specs.declared.token.Sign.TheVariants as signs
 use Rattle.pli_base.specs.declared.token.TokenText.TheVariants.{Word, Decimal, Binary, Characters, Bits, Sign}
 use Rattle.pli_base.specs.declared.statement.Condition.{Condition}
-use Rattle.pli_base.specs.Statements.{ProcedureOption, Main, Returns, Recursive, Heading, Range, To, By, Repeat, Control, While, Iterate, Allocation, Body}
+use Rattle.pli_base.specs.Statements.{ProcedureOption, Main, Returns, Recursive, Range, Repeat, Control, While, Iterate, Allocation, Body}
 use Rattle.pli_base.specs.Statements as body
 use Rattle.pli_parse_declaration.specs.DeclarationReading.{list_at, identifier_at}
 use Rattle.pli_parse_declaration.specs.declared.list.Separator.TheVariants.{Commas}
 use Rattle.pli_parse_statement.specs.StatementReading as old
-use Rattle.pli_parse_statement.specs.StatementReading.{is_equals, paired, known_first, expression_in, reference_in, RangeWord, ToWord, ByWord, RepeatWord}
+use Rattle.pli_parse_statement.specs.StatementReading.{is_equals, paired, expression_in, reference_in, RangeWord}
 use Rattle.pli_parse_statement.specs.StatementWords.{condition_of}
 use Rattle.pli_grammar.specs.Readers as new
 use Rattle.pli_grammar.specs.Readers.{◌>>=◌ as ◌then◌}
-use Rattle.pli_grammar.specs.Readers.{fails, part_then, parts_from, Reader, token, either, optional, closed, by_meaning, meaning_in}
+use Rattle.pli_grammar.specs.Readers.{fails, part_then, parts_from, Reader, token, optional, by_meaning, meaning_in}
 use Rattle.pli_grammar.specs.StatementParts as parts
 use Rattle.pli_grammar.specs.Declarations.{returned, described}
 use Rattle.pli_grammar.proofs.ExpressionsAlike.{expression_read, reference_read, arguments_read}

@@ -12,13 +12,13 @@ use Rattle.pli_base.specs.declared.code.Code.TheVariants.{NotAStatement, Semicol
 use Rattle.pli_base.specs.declared.token.Fault.{Fault}
 use Rattle.pli_base.specs.declared.token.Sign.TheVariants as signs
 use Rattle.pli_base.specs.declared.token.TokenText.TheVariants.{Word, Decimal, Binary, Characters, Bits, Sign}
-use Rattle.pli_base.specs.Statements.{Statement, Numbered, Body, Statements, Ended, Before, Alternative, NoElse, Else, ExternalProcedure, count}
+use Rattle.pli_base.specs.Statements.{Statement, Numbered, Body, NoElse, Else, ExternalProcedure, count}
 use Rattle.pli_base.specs.Statements as body
 use Rattle.pli_parse_declaration.specs.DeclarationReading.{identifier_at}
 use Rattle.pli_parse_expression.specs.Assignments.{is_assignment, accepts}
 use Rattle.pli_parse_expression.specs.Operators.{nesting_limit}
 use Rattle.pli_parse_statement.specs.StatementReading as old
-use Rattle.pli_parse_statement.specs.StatementReading.{label_at, paired, Listing, expression_in, reference_in, Misplacement, AtLabel, AtStatement, misplacement, NextStatement, EndsHere, Another}
+use Rattle.pli_parse_statement.specs.StatementReading.{label_at, paired, Misplacement, AtLabel, AtStatement, misplacement}
 use Rattle.pli_parse_statement.specs.StatementWords.{Context, standing, a_procedure, begins_assignment, up_to_semicolon, after_word, keyword_of, first_kind, kind_of, word_kind, go_kind, Unknown}
 use Rattle.pli_parse_statement.specs.declared.keyword.Keyword.{Keyword}
 use Rattle.pli_parse_statement.specs.declared.keyword.Keyword.TheVariants as keys
@@ -26,7 +26,7 @@ use Rattle.pli_parse_statement.specs.declared.keyword.StatementStanding.{Stateme
 use Rattle.pli_parse_statement.specs.declared.keyword.StatementStanding.TheVariants.{InBlock, InGroup, AsClause, AsOnUnit}
 use Rattle.std.proofs.Common.{arith}
 use Rattle.pli_grammar.specs.Readers as readers
-use Rattle.pli_grammar.specs.Readers.{Reader, token, either, optional, closed, by_meaning, meaning_in}
+use Rattle.pli_grammar.specs.Readers.{Reader, either, by_meaning, meaning_in}
 use Rattle.pli_grammar.specs.Readers.{◌>>=◌ as ◌then◌}
 use Rattle.pli_grammar.specs.StatementParts as parts
 use Rattle.pli_grammar.specs.UnitReading as new

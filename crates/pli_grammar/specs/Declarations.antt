@@ -8,7 +8,7 @@ use Rattle.pli_base.specs.Reading.{expected, read_as, or_none}
 use Rattle.pli_base.specs.Declarations.{SimpleAttribute, Fixed, Binary, Character, Bit, Varying, Pointer}
 use Rattle.pli_base.specs.Declarations.{Offset, Area, Based, Controlled, Static, Automatic, External}
 use Rattle.pli_base.specs.Declarations.{Internal, Builtin, Initial, DescribedAttribute, Plain, AnyEntry}
-use Rattle.pli_base.specs.Declarations.{AnyReturns, ParameterDescription, Attribute, Simple, Entry}
+use Rattle.pli_base.specs.Declarations.{AnyReturns, ParameterDescription, Simple, Entry}
 use Rattle.pli_base.specs.Declarations.{Returns, Item}
 use Rattle.pli_base.specs.declared.code.Code.TheVariants.{ParenthesisExpected, SemicolonExpected}
 use Rattle.pli_base.specs.declared.code.Code.TheVariants.{ConstantExpected, BadAttribute}

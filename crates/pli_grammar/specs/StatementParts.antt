@@ -1,9 +1,9 @@
 -- Reading the parts of statements (X3.74, the rule of assignments own).
-use Rattle.std.specs.Prelude.{ℕ, zero, suc, ◌+◌, Bool, true, false, Option, Some, None, option_map, is_some}
+use Rattle.std.specs.Prelude.{ℕ, zero, suc, ◌+◌, Bool, true, false, Option, Some, None, is_some}
 use Rattle.std.specs.Prelude.{List, [], ◌∷◌, length, codes, if◌then◌else◌}
 use Rattle.std.specs.List.{list_any}
 use Rattle.pli_base.specs.Name.{Name}
-use Rattle.pli_base.specs.Words.{is_word, is_open, is_semicolon, same_name}
+use Rattle.pli_base.specs.Words.{is_word, is_semicolon, same_name}
 use Rattle.pli_base.specs.Reading.{at_fault, expected, read_as, or_none}
 use Rattle.pli_base.specs.Syntax.{Expression, Reference}
 use Rattle.pli_base.specs.declared.syntax.Identifier.{Identifier}

@@ -5,7 +5,7 @@ use Rattle.std.specs.Prelude.{List, [], ◌∷◌, length, option_map, is_some, 
 use Rattle.std.specs.List.{list_any}
 use Rattle.std.specs.Option.{unwrap_or}
 use Rattle.pli_base.specs.Name.{Name}
-use Rattle.pli_base.specs.Words.{Tokens, same_name, is_word, is_open, is_semicolon, rest_after}
+use Rattle.pli_base.specs.Words.{Tokens, same_name, is_word, is_semicolon, rest_after}
 use Rattle.pli_base.specs.Reading.{at_fault, misplaced, read_as}
 use Rattle.pli_base.specs.declared.syntax.Identifier.{Identifier}
 use Rattle.pli_base.specs.declared.code.Code.TheVariants.{NoProcedure, NotAStatement, SemicolonExpected}

@@ -1,24 +1,20 @@
 -- Linking, as the linker does it by its tables.
-use Rattle.std.specs.Prelude.{◌≡◌, ℕ, nat_eq, nat_lt, Bool, true, false, cond, not, ◌&&◌, ◌||◌, Option, Some, None, option_map, unwrap_or, is_none, Result, Ok, List, [], ◌∷◌, ◌++◌, length, drop, map, position, if◌then◌else◌, refl}
-use Rattle.std.specs.List.{flat_map, fold, filter, list_any, sum_by, position_from}
+use Rattle.std.specs.Prelude.{◌≡◌, ℕ, nat_eq, nat_lt, Bool, true, false, cond, not, ◌&&◌, ◌||◌, Option, Some, None, unwrap_or, is_none, Ok, List, [], ◌∷◌, ◌++◌, length, drop, map, position, if◌then◌else◌, refl}
+use Rattle.std.specs.List.{flat_map, fold, list_any, sum_by}
 use Rattle.std.specs.Map.{keys_of, values_of}
 use Rattle.std.specs.Option.{option_eq}
 use Rattle.std.proofs.Common.{sym, ap, ◌∙◌}
 use Rattle.pli_base.specs.Name.{Name}
-use Rattle.pli_map.specs.Sizes.{size_of}
-use Rattle.pli_map.specs.Variables.{byte_limit}
 use Rattle.pli_program.specs.declared.kind.VariableKind.{VariableKind}
 use Rattle.pli_program.specs.declared.kind.VariableKind.TheVariants.{Static, Controlled}
 use Rattle.pli_type_keys.specs.Same.{same_template}
 use Rattle.pli_type_tree.specs.Templates.{Template}
 use Rattle.pli_code.specs.CodeTables.{Code, CodedGlobal, OwnVariable, ExternalVariable, EntryPoint, there}
-use Rattle.pli_code.specs.ModuleParts.{Module, kind_number}
+use Rattle.pli_code.specs.ModuleParts.{kind_number}
 use Rattle.pli_link.specs.Alike.{same_kind, signature_at}
-use Rattle.pli_link.specs.Alike as old_alike
 use Rattle.pli_link.specs.Link as old
 use Rattle.pli_link.specs.Link.{mains, later, none_among, defined_again}
 use Rattle.pli_link.specs.Links as old_links
-use Rattle.pli_link.specs.LinkFaults as new
 use Rattle.pli_link.specs.LinkFaults.{same_signature, is_like_first, unresolved, mismatched, found_in, own_in, variables_made, is_too_large, told_if, told_of, link_faults}
 use Rattle.pli_link.specs.LinkedModule.{link_in, linked_unit, module_of, module_or, link_of}
 use Rattle.pli_link.specs.Mismatches as faulty
@@ -26,13 +22,12 @@ use Rattle.pli_link.specs.ModuleSize as sizes
 use Rattle.pli_link.specs.ModuleSize.{made_of}
 use Rattle.pli_link.specs.Names as old_names
 use Rattle.pli_link.specs.Names.{Declaration, with_name, meant, procedures}
-use Rattle.pli_link.specs.Shared.{unit_named, template_at, externals}
+use Rattle.pli_link.specs.Shared.{unit_named, externals}
 use Rattle.pli_link.specs.Units.{Compiled, procedure_of}
 use Rattle.pli_link.specs.declared.global_fault.GlobalFault.{GlobalFault}
 use Rattle.pli_link.specs.declared.global_fault.GlobalFault.TheVariants as globals
 use Rattle.pli_link.specs.declared.linking.LinkFault.{LinkFault}
 use Rattle.pli_link.specs.declared.linking.LinkFault.TheVariants.{NoMainProcedure, TwoMainProcedures, Unresolved, DefinedTwice, Mismatch, ModuleTooLarge}
-use Rattle.pli_link.specs.declared.units.LinkedName.{LinkedName}
 use Rattle.pli_link.proofs.SharedAlike.{procedure_alike, unit_alike, none_alike, template_alike, externals_alike, number_alike}
 
 -- ---- faults of globals

@@ -1,19 +1,18 @@
 -- What names mean to all units, as the tables of names have it.
-use Rattle.std.specs.Prelude.{◌≡◌, ℕ, suc, ◌+◌, Bool, true, false, cond, Option, Some, None, option_map, unwrap_or, is_none, List, [], ◌∷◌, ◌++◌, map, slice_get, if◌then◌else◌, refl}
+use Rattle.std.specs.Prelude.{◌≡◌, ℕ, suc, ◌+◌, Bool, true, false, cond, Option, Some, None, option_map, is_none, List, [], ◌∷◌, ◌++◌, slice_get, if◌then◌else◌, refl}
 use Rattle.std.specs.List.{find, flat_map, fold, enumerate_from, position_from}
 use Rattle.std.specs.Option.{option_and_then}
-use Rattle.std.proofs.Common.{sym, ap, ap₂, ◌∙◌, arith}
+use Rattle.std.proofs.Common.{sym, ap, ◌∙◌, arith}
 use Rattle.pli_base.specs.Name.{Name}
 use Rattle.pli_base.specs.Words.{same_name}
 use Rattle.pli_map.specs.Description.{Description}
 use Rattle.pli_map.specs.ParameterTypes.{stated}
-use Rattle.pli_type_tree.specs.Templates.{InitialScalar, Template}
+use Rattle.pli_type_tree.specs.Templates.{InitialScalar}
 use Rattle.pli_code.specs.CodeTables.{Code, CodedTemplate, CodedGlobal, OwnVariable, ExternalVariable, EntryPoint}
 use Rattle.pli_code.specs.CodeTables as tables
 use Rattle.pli_link.specs.Links.{short, number_of}
 use Rattle.pli_link.specs.Names as old
 use Rattle.pli_link.specs.Names.{Declaration, meant, procedures, procedures_from, unit_at, shared_from, first_declared, with_declaration}
-use Rattle.pli_link.specs.Shared as new
 use Rattle.pli_link.specs.Shared.{unit_named, template_at, shared_by, all_shared, externals}
 use Rattle.pli_link.specs.Units.{Compiled}
 use Rattle.pli_link.proofs.MeantFirst.{meant_first}

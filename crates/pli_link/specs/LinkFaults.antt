@@ -1,5 +1,5 @@
 -- The faults of linking (own).
-use Rattle.std.specs.Prelude.{ℕ, nat_eq, nat_lt, Bool, false, not, ◌||◌, ◌&&◌, Option, option_map, unwrap_or}
+use Rattle.std.specs.Prelude.{nat_eq, nat_lt, Bool, false, not, ◌||◌, ◌&&◌, Option, option_map, unwrap_or}
 use Rattle.std.specs.Prelude.{is_none, List, [], ◌∷◌, ◌++◌, length, drop, map, slice_get, if◌then◌else◌}
 use Rattle.std.specs.Cmp.Lexicographic.{pointwise, slice_cmp}
 use Rattle.std.specs.List.{filter, flat_map, fold, list_any, sum_by}

@@ -19,7 +19,7 @@ use Rattle.pli_type_tree.specs.TypedTree.{Signature, Global, OwnVariable, Extern
 use Rattle.pli_code.specs.CodeTables.{CodedGlobal}
 use Rattle.pli_gen.specs.laws.ListLaws.{all_front, all_back}
 use Rattle.pli_gen_stands.specs.Linked.{AreLinks, AreUnitsOf, IsModuleOf}
-use Rattle.pli_meaning_tree.specs.TreeMeaning.{unit_named}
+use Rattle.pli_meaning_tree.specs.ProgramMeaning.{unit_named}
 use Rattle.pli_meaning_typed.specs.TypedPrograms.{IsLinked, all_globals}
 use Rattle.pli_type_keys.specs.Same.{same_template}
 use Rattle.pli_type_keys.specs.laws.KeyLaws.{template_decides}

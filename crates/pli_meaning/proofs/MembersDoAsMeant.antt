@@ -5,7 +5,7 @@ use Rattle.std.proofs.Common.{sym, ◌∙◌, ap}
 use Rattle.pli_base.specs.Name.{Name}
 use Rattle.pli_members.specs.Members.{Member}
 use Rattle.pli_machine_step.specs.Runs.{Outcome}
-use Rattle.pli_meaning_tree.specs.TreeMeaning.{whole_run}
+use Rattle.pli_meaning_tree.specs.ProgramMeaning.{whole_run}
 use Rattle.pli_type_tree.specs.TypedTree.{TypedUnit}
 use Rattle.pli_meaning.specs.Members.{MembersSimulate, OneMeaning, MembersGrow}
 use Rattle.pli_meaning.specs.Programs.{program_of_units, main_numbers}

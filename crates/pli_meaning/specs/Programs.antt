@@ -3,7 +3,7 @@ use Rattle.std.specs.Prelude.{ℕ, ◌+◌, List, [], ◌∷◌, if◌then◌els
 use Rattle.pli_base.specs.Name.{Name}
 use Rattle.pli_type_tree.specs.TypedTree.{TypedUnit}
 use Rattle.pli_code.specs.Versions.{greatest_precision, written}
-use Rattle.pli_meaning_tree.specs.TreeMeaning.{TypedProgram}
+use Rattle.pli_meaning_tree.specs.ProgramMeaning.{TypedProgram}
 
 -- a unit has the name of its member, whatever its procedure is called
 abbrev pub of_member : (unit : Name) → TypedUnit → TypedUnit

@@ -33,7 +33,7 @@ use Rattle.pli_code.specs.ModuleParts.{Module}
 use Rattle.pli_code.specs.Versions.{written}
 use Rattle.pli_deck_write.specs.DeckBytes.{deck_written}
 use Rattle.pli_gen_emit.specs.Coding.{code_of}
-use Rattle.pli_meaning_tree.specs.TreeMeaning.{whole_run}
+use Rattle.pli_meaning_tree.specs.ProgramMeaning.{whole_run}
 use Rattle.pli_meaning.specs.CodeLimits.{is_too_long}
 
 -- a diagnostic, at a line of a member

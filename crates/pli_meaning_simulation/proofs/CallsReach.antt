@@ -17,7 +17,8 @@ use Rattle.pli_type_tree.specs.Blocks.{kind_of_procedure}
 use Rattle.pli_type_tree.specs.TypedTree.{Callee, OfBlock, OfEntry, Global, OwnVariable, ExternalVariable, EntryPoint, TypedProcedure, TypedUnit}
 use Rattle.pli_meaning_tree.specs.Effects as effect
 use Rattle.pli_meaning_tree.specs.Effects.{Label, Effect, Lost, Flow, Next, Returned, leaving, procedure_end}
-use Rattle.pli_meaning_tree.specs.TreeMeaning.{Calls, in_order, head_in, static_link, activation_of, does_from, does_list, procedure_run, procedure_in, unit_named, entry_unit, called_in, raised_in, calls}
+use Rattle.pli_meaning_tree.specs.TreeMeaning.{Calls, in_order, head_in, static_link, activation_of, does_from, does_list}
+use Rattle.pli_meaning_tree.specs.ProgramMeaning.{procedure_run, procedure_in, unit_named, entry_unit, called_in, raised_in, calls}
 use Rattle.pli_meaning_tree.specs.Parts.{activates_in, activates, activates_outer, activates_unit, activates_entry, runs_block, runs_on_unit}
 use Rattle.pli_meaning_simulation.specs.CodeStands.{Context, call_of, block_of, EndStands, ProcedureStands, ProceduresStand, GlobalStands, GlobalsStand, UnitStands, UnitsStand}
 use Rattle.pli_meaning_simulation.proofs.ReachesLemmas.{Fine, calm_kept, calm_fine, stays, from, waiting, frame, flows, resumes, returns, Reaches, gives, keeping, goes}

@@ -13,7 +13,8 @@ use Rattle.pli_machine_step.specs.Runs.{Outcome, outcome_of, names_of, is_main, 
 use Rattle.pli_type_tree.specs.Blocks.{kind_of_procedure}
 use Rattle.pli_type_tree.specs.TypedTree.{TypedProcedure, TypedUnit}
 use Rattle.pli_meaning_tree.specs.Effects.{Label, Effect, Gives, Jumps, Fails, Spent, Lost, Short, Flow, Next, Returned, and_then, answered, leaving, procedure_end}
-use Rattle.pli_meaning_tree.specs.TreeMeaning.{Calls, head_in, does_list, procedure_run, procedure_in, calls, all_made, unless_fault, ran}
+use Rattle.pli_meaning_tree.specs.TreeMeaning.{Calls, head_in, does_list}
+use Rattle.pli_meaning_tree.specs.ProgramMeaning.{procedure_run, procedure_in, calls, all_made, unless_fault, ran}
 use Rattle.pli_meaning_tree.specs.Parts.{main_run, unit_run, run_effect, unit_names}
 use Rattle.pli_meaning_simulation.specs.CodeStands.{Context, EndStands, ProcedureStands, UnitStands, UnitsStand}
 use Rattle.pli_meaning_simulation.specs.laws.Laws.{Simulation, NoFault}

@@ -17,7 +17,7 @@ use Rattle.pli_type_tree.specs.Globals.{global_variable}
 use Rattle.pli_type_tree.specs.Templates.{variable_of}
 use Rattle.pli_type_tree.specs.TypedTree.{Global, OwnVariable, ExternalVariable, EntryPoint, TypedUnit}
 use Rattle.pli_meaning_tree.specs.Effects.{Label}
-use Rattle.pli_meaning_tree.specs.TreeMeaning.{all_made}
+use Rattle.pli_meaning_tree.specs.ProgramMeaning.{all_made}
 use Rattle.pli_meaning_simulation.specs.CodeStands.{GlobalsStand, UnitsStand}
 
 -- names have numbers from one on

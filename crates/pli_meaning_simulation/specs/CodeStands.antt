@@ -35,7 +35,8 @@ use Rattle.pli_type_tree.specs.TypedTree.{NoStatement, StatementThen, TypedProce
 use Rattle.pli_type_tree.specs.TypedTree.{OfEntry, Global, OwnVariable, ExternalVariable, EntryPoint}
 use Rattle.pli_type_tree.specs.TypedTree.{TypedUnit}
 use Rattle.pli_meaning_tree.specs.Effects.{Label}
-use Rattle.pli_meaning_tree.specs.TreeMeaning.{TypedProgram, number_of, unit_named}
+use Rattle.pli_meaning_tree.specs.TreeMeaning.{number_of}
+use Rattle.pli_meaning_tree.specs.ProgramMeaning.{TypedProgram, unit_named}
 
 -- what stands from a place up to a place
 abbrev pub Span : Type 1

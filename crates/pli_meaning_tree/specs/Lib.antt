@@ -1,4 +1,5 @@
 pub mod Effects
 pub mod Parts
+pub mod ProgramMeaning
 pub mod TreeMeaning
 pub mod examples

@@ -17,11 +17,13 @@ use Rattle.pli_meaning_tree.specs.Effects.{Label, Effect, Jumps, Flow, Returned,
 use Rattle.pli_meaning_tree.specs.Effects.{gives}
 use Rattle.pli_meaning_tree.specs.Effects.{nothing_done, there, provided, after_flow, each, performed, just}
 use Rattle.pli_meaning_tree.specs.Effects.{handled, without_value, unless_full, block_end}
-use Rattle.pli_meaning_tree.specs.TreeMeaning.{TypedProgram, Calls, as_number, printed_item, or_zero}
+use Rattle.pli_meaning_tree.specs.TreeMeaning.{Calls, as_number, printed_item, or_zero}
+use Rattle.pli_meaning_tree.specs.ProgramMeaning.{TypedProgram}
 use Rattle.pli_meaning_tree.specs.TreeMeaning.{or_nothing}
 use Rattle.pli_meaning_tree.specs.TreeMeaning.{value_of, place_of, called_with, allocates_item, frees_item}
-use Rattle.pli_meaning_tree.specs.TreeMeaning.{static_link, activation_of, procedure_run, procedure_called}
-use Rattle.pli_meaning_tree.specs.TreeMeaning.{procedure_in, program_run}
+use Rattle.pli_meaning_tree.specs.TreeMeaning.{static_link, activation_of}
+use Rattle.pli_meaning_tree.specs.ProgramMeaning.{procedure_run, procedure_called}
+use Rattle.pli_meaning_tree.specs.ProgramMeaning.{procedure_in, program_run}
 
 -- one thing is done, and then the next, unless the procedure is being left
 abbrev pub followed : Effect Flow → Doing Flow → Effect Flow

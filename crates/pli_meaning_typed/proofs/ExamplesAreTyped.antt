@@ -12,7 +12,7 @@ use Rattle.pli_program.specs.declared.kind.VariableKind.TheVariants.{Static}
 use Rattle.pli_type_tree.specs.TypedTree.{Fit, TypedProcedure, TypedUnit, Held, AsPointer, Signature, Global, ExternalVariable, EntryPoint}
 use Rattle.pli_type_tree.specs.ValueTypes.{OfCharacters, OfBits, Numbers, Pointers, Offsets}
 use Rattle.pli_type_tree.specs.WellTyped.{KnownProcedure, TypingContext, IsTyped, IsAreaReference, IsPlaced, IsString, IsValueFor, Convert, in_group, IsOnUnitHere, AreTypedStatements}
-use Rattle.pli_meaning_tree.specs.TreeMeaning.{procedure_in, unit_named}
+use Rattle.pli_meaning_tree.specs.ProgramMeaning.{procedure_in, unit_named}
 use Rattle.pli_meaning_typed.specs.TypedPrograms.{context_in, IsTypedProcedure, IsTypedUnit}
 use Rattle.pli_meaning_typed.specs.examples.TypedExamples.{number, counter, one_more, few, counting, returning, caller, successor, of_caller, of_successor, signatures, ExampleIsWellTyped, GroupsAreWellTyped, plain, StackIsWellTyped, pointing, pointer, pointed, PointersAreWellTyped, declared_area, declared_offset, area_used, offset_used, block_used, AreasAreWellTyped, of_jumping, with_unit, handling, ConditionsAreWellTyped, shared, numeric, asker, answerer, asking_unit, answering_unit, UnitsAreWellTyped, short, three, of_stars, StarsAreWellTyped}
 

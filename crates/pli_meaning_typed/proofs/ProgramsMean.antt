@@ -22,8 +22,9 @@ use Rattle.pli_type_tree.specs.Globals.{signature_of}
 use Rattle.pli_type_tree.specs.TypedTree.{Callee, OfBlock, OfEntry, Global, OwnVariable, ExternalVariable, EntryPoint, TypedProcedure, TypedUnit}
 use Rattle.pli_type_tree.specs.WellTyped.{BlockAround, KnownProcedure, IsReached, IsCallee}
 use Rattle.pli_meaning_tree.specs.Effects.{Effect, Gives, Jumps, Fails, Spent, Lost, Short, Flow, Next, Returned, and_then, answered, unless_full, procedure_end}
-use Rattle.pli_meaning_tree.specs.TreeMeaning.{Calls, labels_in, static_link, head_in, activation_of, does_list, procedure_run, procedure_in, entry_unit, called_in, calls}
-use Rattle.pli_meaning_tree.specs.TreeMeaning.{raised_in, unless_fault, ran}
+use Rattle.pli_meaning_tree.specs.TreeMeaning.{Calls, labels_in, static_link, head_in, activation_of, does_list}
+use Rattle.pli_meaning_tree.specs.ProgramMeaning.{procedure_run, procedure_in, entry_unit, called_in, calls}
+use Rattle.pli_meaning_tree.specs.ProgramMeaning.{raised_in, unless_fault, ran}
 use Rattle.pli_meaning_tree.specs.Parts.{activates_in, activates, activates_outer, activates_unit, activates_entry, runs_block, runs_on_unit, main_run, unit_run, unit_names}
 use Rattle.pli_meaning_typed.specs.SoundWorlds.{AreGood, Known, Shape, HoldsValues, AreStacksGood, AreShaped, Stand, HaveOnUnits, AreStatics, IsSound}
 use Rattle.pli_meaning_typed.specs.TypedPrograms.{context_in, HasEnd, IsTypedProcedure, IsOuter, IsTypedUnit, AreTypedUnits, IsLinked, HasMain, EveryRunIsMeant}

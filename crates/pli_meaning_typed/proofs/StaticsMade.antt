@@ -19,7 +19,7 @@ use Rattle.pli_type_tree.specs.laws.GlobalLaws.{described_parts}
 use Rattle.pli_type_tree.specs.Templates.{Template, variable_of}
 use Rattle.pli_type_tree.specs.TypedTree.{Global, OwnVariable, ExternalVariable, EntryPoint, TypedUnit}
 use Rattle.pli_type_tree.specs.WellTyped.{IsMade as IsMadeWell, AreMade}
-use Rattle.pli_meaning_tree.specs.TreeMeaning.{all_made}
+use Rattle.pli_meaning_tree.specs.ProgramMeaning.{all_made}
 use Rattle.pli_meaning_typed.specs.SoundWorlds.{HoldsValues, EachGood, AreStacksGood, StandsGood, AreStatics, IsLater}
 use Rattle.pli_meaning_typed.specs.TypedPrograms.{all_globals, IsLinked, made_of_kind, unless, made_for, bytes_of, AreTypedUnits}
 use Rattle.pli_meaning_typed.proofs.WorldLaws.{later_same, later_then, eaches_later, stands_later, stacks_later, small_near, new_generation, with_new, new_later, new_values, new_variable, room_gives}

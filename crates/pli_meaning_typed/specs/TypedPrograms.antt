@@ -18,7 +18,7 @@ use Rattle.pli_type_tree.specs.TypedTree.{TypedProcedure, Signature, Global, Own
 use Rattle.pli_type_tree.specs.TypedTree.{EntryPoint, TypedUnit}
 use Rattle.pli_type_tree.specs.WellTyped.{AreMade, KnownProcedure, TypingContext, block_of}
 use Rattle.pli_type_tree.specs.WellTyped.{AreTypedStatements}
-use Rattle.pli_meaning_tree.specs.TreeMeaning.{TypedProgram, procedure_in, unit_named, whole_run}
+use Rattle.pli_meaning_tree.specs.ProgramMeaning.{TypedProgram, procedure_in, unit_named, whole_run}
 
 -- what a procedure's own statements know
 abbrev pub context_in : List Global → (procedures : ℕ → Option KnownProcedure) → KnownProcedure

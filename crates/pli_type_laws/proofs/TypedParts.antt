@@ -7,7 +7,7 @@ use Rattle.std.proofs.Common.{arith, sym, ap, ◌∙◌, subst}
 use Rattle.std.proofs.lemmas.Bool.{eqb-true}
 use Rattle.std.proofs.lemmas.Option.{same_Some, none-some}
 use Rattle.pli_base.specs.declared.token.Fault.{Fault}
-use Rattle.pli_meaning_tree.specs.TreeMeaning.{procedure_in}
+use Rattle.pli_meaning_tree.specs.ProgramMeaning.{procedure_in}
 use Rattle.pli_meaning_typed.specs.TypedPrograms.{IsTypedProcedure}
 use Rattle.pli_declare.specs.declared.block_numbers.ResolvedBlockKind.TheVariants as kinds
 use Rattle.pli_type_rules.specs.Checked.{typed_as, unit_of}

@@ -8,7 +8,7 @@ use Rattle.pli_machine_step.specs.ModuleRuns.{RunsTo}
 use Rattle.pli_run.specs.declared.ending.Ending.TheVariants.{MachineFault}
 use Rattle.pli_machine_step.specs.Runs.{Outcome}
 use Rattle.pli_machine_step.specs.laws.Laws.{GoesOn}
-use Rattle.pli_meaning_tree.specs.TreeMeaning.{TypedProgram, whole_run}
+use Rattle.pli_meaning_tree.specs.ProgramMeaning.{TypedProgram, whole_run}
 use Rattle.pli_meaning_typed.specs.TypedPrograms.{WellTyped}
 
 -- with so many steps the program has a meaning, which its module's run gives, and which is no fault of the

@@ -4,7 +4,7 @@ use Rattle.pli_run.specs.declared.ending.Ending.TheVariants.{MachineFault}
 use Rattle.pli_program.specs.Program.{Program}
 use Rattle.pli_machine_step.specs.Runs.{Outcome, ProgramRunsTo}
 use Rattle.pli_machine_step.specs.laws.Laws.{GoesOn}
-use Rattle.pli_meaning_tree.specs.TreeMeaning.{TypedProgram, whole_run}
+use Rattle.pli_meaning_tree.specs.ProgramMeaning.{TypedProgram, whole_run}
 use Rattle.pli_meaning_simulation.specs.CodeStands.{ProgramStands}
 
 -- Simulation: what a program means with so many steps, the run of its code gives with so many steps

@@ -12,7 +12,7 @@ use Rattle.pli_type_tree.specs.TypedTree.{AsPointer, AsOffset, TypedReference, W
 use Rattle.pli_type_tree.specs.TypedTree.{SubscriptThen, ByOperations, AsOffsetIn, ToBy, TypedStatement}
 use Rattle.pli_type_tree.specs.TypedTree.{Statement, Form, Assign, AssignArea, EmptyArea, Put, Allocate, Free}
 use Rattle.pli_type_tree.specs.TypedTree.{Iterate, AllocatesInArea, FreesBased, OwnVariable}
-use Rattle.pli_meaning_tree.specs.TreeMeaning.{whole_run}
+use Rattle.pli_meaning_tree.specs.ProgramMeaning.{whole_run}
 use Rattle.pli_meaning_tree.specs.examples.TreeExamples.{of, listed, main_of, unit_of, nothing_given, Prints}
 use Rattle.pli_meaning_tree.specs.examples.TreeExamples.{number, slot, held_in, text, shown, alone}
 

@@ -14,7 +14,7 @@ use Rattle.pli_type_tree.specs.TypedTree.{Form, Null, Assign, AssignArea, Put, A
 use Rattle.pli_type_tree.specs.TypedTree.{AllocatesInArea, Free, FreesControlled, FreesBased, If, Group, Goto}
 use Rattle.pli_type_tree.specs.TypedTree.{Iterate, Call, On, Revert, Signal, NoElse, Else, TypedProcedure}
 use Rattle.pli_type_tree.specs.TypedTree.{EntryPoint, OwnVariable}
-use Rattle.pli_meaning_tree.specs.TreeMeaning.{whole_run}
+use Rattle.pli_meaning_tree.specs.ProgramMeaning.{whole_run}
 use Rattle.pli_meaning_tree.specs.examples.AreaExamples.{area, allocates, pointer_of, with_pointers}
 use Rattle.pli_meaning_tree.specs.examples.AreaExamples.{allocates_block, allocates_blocks}
 use Rattle.pli_meaning_tree.specs.examples.TreeExamples.{of, listed, main_of, inner_of, unit_of}

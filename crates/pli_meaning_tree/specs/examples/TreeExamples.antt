@@ -30,7 +30,8 @@ use Rattle.pli_type_tree.specs.TypedTree.{ExternalVariable, EntryPoint, TypedUni
 use Rattle.pli_type_tree.specs.TypedTree.{Allocate, AllocatesControlled, Free, FreesControlled, Located}
 use Rattle.pli_type_tree.specs.TypedTree.{Address, AllocatesBased, FreesBased}
 use Rattle.pli_meaning_tree.specs.Effects.{Label, Effect, Gives, Jumps, Flow, Next, Doing}
-use Rattle.pli_meaning_tree.specs.TreeMeaning.{TypedProgram, as_list, whole_run}
+use Rattle.pli_meaning_tree.specs.TreeMeaning.{as_list}
+use Rattle.pli_meaning_tree.specs.ProgramMeaning.{TypedProgram, whole_run}
 
 -- variables without initial values
 abbrev pub of : Description → Template

@@ -18,15 +18,16 @@ use Rattle.pli_type_tree.specs.TypedTree.{TypedUnit, TypedExpression, Generation
 use Rattle.pli_type_tree.specs.TypedTree.{ByOperations, AsOffsetIn, AllocatesControlled, AllocatesBased}
 use Rattle.pli_type_tree.specs.TypedTree.{AllocatesInArea, FreesControlled, FreesBased, Allocate, Free}
 use Rattle.pli_type_tree.specs.TypedTree.{AssignArea, EmptyArea}
-use Rattle.pli_type_tree.specs.TypedTree.{Literal, Held, Calculated, Called, TypedReference, Whole, ElementOf, NoOperand}
-use Rattle.pli_type_tree.specs.TypedTree.{OperandThen, NoArgument, ByPlace, ByString, BlockHead, Statement, Assign, Put}
+use Rattle.pli_type_tree.specs.TypedTree.{Literal, Held, Calculated, Called, TypedReference, Whole, ElementOf}
+use Rattle.pli_type_tree.specs.TypedTree.{NoOperand, OperandThen, NoArgument, ByPlace, ByString, BlockHead}
+use Rattle.pli_type_tree.specs.TypedTree.{Statement, Assign, Put}
 use Rattle.pli_type_tree.specs.TypedTree.{AssignString, Call}
 use Rattle.pli_type_tree.specs.TypedTree.{If, Goto, ReturnValue, On, Revert, Signal, NoElse}
 use Rattle.pli_type_tree.specs.TypedTree.{TypedStatements, Form, Group, Iterate}
 use Rattle.pli_type_tree.specs.TypedTree.{TypedRange, ByTo, Repeated, NoStatement, StatementThen}
 use Rattle.pli_type_tree.specs.TypedTree.{TypedProcedure}
 use Rattle.pli_type_tree.specs.WellTyped.{KnownProcedure, block_of, IsTypedForm, AreTypedStatements}
-use Rattle.pli_meaning_tree.specs.TreeMeaning.{TypedProgram}
+use Rattle.pli_meaning_tree.specs.ProgramMeaning.{TypedProgram}
 use Rattle.pli_meaning_typed.specs.TypedPrograms.{WellTyped, IsTypedProcedure, context_in}
 
 -- FIXED BINARY(31), in P: PROCEDURE; DECLARE X FIXED BINARY(31); L: X = F(X); PUT LIST(X); IF X < 9 THEN GOTO

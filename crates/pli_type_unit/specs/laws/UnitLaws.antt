@@ -10,4 +10,5 @@ use Rattle.pli_type_unit.specs.Statements.{typed_unit}
 -- checker gives, which looks for the limits of the language itself and counts as it goes
 abbrev pub UnitsAreChecked : Type 0
 UnitsAreChecked =
-    (u : ExternalProcedure) → resolution_faults u ≡ [] → typed_unit (resolved_unit_of u) ≡ checked_unit (resolved_unit_of u)
+    (u : ExternalProcedure) → resolution_faults u ≡ []
+    → typed_unit (resolved_unit_of u) ≡ checked_unit (resolved_unit_of u)

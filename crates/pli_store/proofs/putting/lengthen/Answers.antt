@@ -1,6 +1,7 @@
 use Rattle.std.proofs.Common.{◌≡◌, [], ◌∷◌, length, refl, sym, ap, ◌∙◌, arith}
 use Rattle.pli_bytes.specs.Contents.{value_in}
 use Rattle.pli_map.specs.Description.{Varying}
+use Rattle.pli_map.specs.PlacedParts.{PlacedPart}
 use Rattle.pli_value.specs.Value.{Characters}
 use Rattle.pli_store.proofs.PutsSaid.{lengthened_or_same}
 use Rattle.pli_store.proofs.StandingParts.{bytes_within, held_there, read_there}
@@ -16,7 +17,7 @@ pub returns-clause-refused : goal.returns-clause-refused
 returns-clause-refused c = λ e there text holds fits.
     let items = c.args.generations.now.items in
     let d = Varying c.args.greatest in
-    let place = record { offset = c.args.part.offset; description = d } in
+    let place : PlacedPart = record { offset = c.args.part.offset; description = d } in
     let g = c.index_mut-generation.result.now in
     let here = read_there items c.args.part d there g c.index_mut-generation.ensures.value in
     let both : value_in g.bytes.items place ∷ [] ≡ Characters text ∷ [] = sym (held_there items c.args.part d there g here refl) ∙ holds in

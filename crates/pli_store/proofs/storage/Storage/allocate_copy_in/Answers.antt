@@ -47,17 +47,6 @@ invariant_of-self c =
     c.place_block.ensures.err) in
     record { counted = c.args.self.now.counted ∙ sym kept.counted; limited = c.args.self.now.limited; rising = kept.rising }
 
-pub invariant_of-self-2 : goal.invariant_of-self-2
-invariant_of-self-2 c =
-    let items = c.args.self.now.generations.items in
-    let d = description_view c.args.description.now in
-    let g = c.index_mut.result.now in
-    let here = area_here items (place_view c.args.area) c.in_ok-at.at c.in_ok-at.ensures g c.index_mut.ensures.value in
-    let kept = blocks_kept items c.in_ok-at.at g c.place_block.new.generation here c.args.self.now.made c.args.self.now.rising
-    (placed_others g c.place_block.new.generation c.place_block.result (λ position. placed position d (values_of d c.args.bytes.now)) c.place_block.ensures.blocks
-    c.place_block.ensures.err) in
-    record { counted = c.args.self.now.counted ∙ sym kept.counted; limited = c.args.self.now.limited; rising = kept.rising }
-
 pub returns-in_err-placed-clause-err : goal.returns-in_err-placed-clause-err
 returns-in_err-placed-clause-err c =
     let items = c.args.self.now.generations.items in
