@@ -1,13 +1,12 @@
 -- Commands that are obeyed are cases of the session.
-use Rattle.std.specs.Prelude.{◌≡◌, ◌≢◌, is_some, ℕ, Bool, true, false, nat_eq, if◌then◌else◌, Option, Some, None, Result, Ok, Err, List, [], ◌∷◌, ◌++◌, ◌⊎◌, refl}
-use Rattle.std.specs.Prelude.{OnOk, OnErr}
+use Rattle.std.specs.Prelude.{◌≡◌, ◌≢◌, is_some, ℕ, Bool, true, false, nat_eq, if◌then◌else◌, Option, Some, None, Result, Ok, Err, List, [], ◌∷◌, ◌++◌, ◌⊎◌, refl, OnOk, OnErr}
 use Rattle.std.specs.Result.{result_err}
 use Rattle.std.proofs.Common.{sym, ap, ◌∙◌, subst, inl, inr, append_assoc, arith}
 use Rattle.std.proofs.lemmas.Bool.Decides.{nat_tests}
 use Rattle.std.specs.Io.KnownBytes.{Appends}
 use Rattle.pli_base.specs.Name.{Name}
 use Rattle.pli_base.specs.Devices.{AppendsPrefix}
-use Rattle.pli_base.specs.laws.DeviceLaws.{Appends-then, Appends-then_AppendsPrefix, AppendsPrefix-more}
+use Rattle.pli_base.specs.laws.DeviceLaws.{AppendsPrefix-more}
 use Rattle.pli_members.specs.Members.{Store, lines_of}
 use Rattle.pli_members.specs.Refusals.{refusal_in}
 use Rattle.pli_members.specs.declared.refusal.EditError.{EditError}
@@ -15,8 +14,7 @@ use Rattle.pli_members.specs.declared.refusal.EditError.TheVariants.{Refused, Ou
 use Rattle.pli_members.specs.declared.refusal.Refusal.{Refusal}
 use Rattle.pli_members.specs.declared.refusal.Refusal.TheVariants.{NoSuchMember}
 use Rattle.pli_code.specs.Modules.{Module, program_of}
-use Rattle.pli_ledger.specs.answers.Built.{IsStanding}
-use Rattle.pli_ledger.specs.answers.Built.{IsOfMembers}
+use Rattle.pli_ledger.specs.answers.Built.{IsStanding, IsOfMembers}
 use Rattle.pli_ledger.specs.Kept.{Ledger}
 use Rattle.pli_ledger.specs.Refused.{IsRefused}
 use Rattle.pli_ledger.specs.Work.{ledger_after}
@@ -28,18 +26,20 @@ use Rattle.pli_run.specs.declared.ending.Ran.{Ran}
 use Rattle.pli_meaning.specs.Scratch.{Built, Made, scratch}
 use Rattle.pli_meaning.proofs.MembersDoAsMeant.{members_simulate}
 use Rattle.pli_meaning.specs.Members.{HasMeaning}
-use Rattle.pli_bench.specs.answers.Answering.{Writes}
+use Rattle.pli_commands.specs.answers.Answering.{Writes}
 use Rattle.pli_machine.specs.answers.Runs.{RanTo, StoppedWithin}
 use Rattle.pli_bench.specs.answers.Obeying.{Does, as_edit, edit_answer, end_answer, gone, standing_after}
-use Rattle.pli_bench.specs.CommandLines.{command_of}
-use Rattle.pli_bench.specs.Commands.{Command}
-use Rattle.pli_bench.specs.Exchanges.{exchange, span}
-use Rattle.pli_bench.specs.Runs.{AnsweredOne}
-use Rattle.pli_bench.proofs.LinesAnswered.{next_after}
-use Rattle.pli_bench.specs.declared.serving.AfterCommand.{AfterCommand}
-use Rattle.pli_bench.specs.declared.serving.WriteFailed.{WriteFailed}
+use Rattle.pli_commands.specs.CommandLines.{command_of}
+use Rattle.pli_commands.specs.Commands.{Command}
+use Rattle.pli_commands.specs.Exchanges.{exchange, span}
+use Rattle.pli_commands.specs.Runs.{AnsweredOne}
+use Rattle.pli_commands.proofs.LinesAnswered.{next_after}
+use Rattle.pli_commands.specs.declared.serving.AfterCommand.{AfterCommand}
+use Rattle.pli_commands.specs.declared.serving.WriteFailed.{WriteFailed}
 use Rattle.pli_machine_step.proofs.OutcomesAreOne.{one_outcome}
-use Rattle.pli_bench.specs.Session.{State, Lists, numbered_lines, EditsInMemory, Edits, ending_line, refused, okay, no_memory, not_built, Builds, is_made, Runs, run_answer, build_answer, Breaks, Obeys, Step, quits, is_quit}
+use Rattle.pli_bench.specs.Session.{State, Lists, EditsInMemory, Edits, Builds, is_made, Runs, run_answer, build_answer, Breaks, Obeys, Step, quits, is_quit}
+use Rattle.pli_commands.specs.AnswerLines.{numbered_lines, ending_line, refused, okay, no_memory, not_built}
+use Rattle.pli_commands.proofs.PartAfterPart.{writes_then}
 
 abbrev pub state : Store → Ledger → Bool → ℕ → State
 state store ledger stands steps = record { store = store; ledger = ledger; stands = stands; steps = steps }
@@ -104,11 +104,6 @@ module _ (s : State) (store : Store) (ledger : Ledger) (stands : Bool) (steps : 
 -- no module stands
 pub runs_not : (s : State) (n : ℕ) → s.stands ≡ false → Runs s.stands n (exchange s not_built s)
 runs_not s n e = subst (λ b. Runs b n (exchange s not_built s)) (sym e) (refl, refl)
-
--- a part is written after another
-pub writes_then : {A E : Type 0} (a b c : Option (List ℕ)) (xs ys : List ℕ) (r : Result A E) → Appends a b xs → Writes b c ys r → Writes a c (xs ++ ys) r
-writes_then a b c xs ys (Ok x) p q = Appends-then a b c xs ys p q
-writes_then a b c xs ys (Err e) p q = Appends-then_AppendsPrefix a b c xs ys p q
 
 module _ (s : State) (n : ℕ) (m : Module) (stands : s.stands ≡ true) (built : scratch s.store.entries ≡ Made m) where
   means_at : HasMeaning s.store.entries m n

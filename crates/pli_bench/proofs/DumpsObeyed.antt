@@ -1,9 +1,10 @@
 -- What DUMP answers is a case of the session.
 use Rattle.std.specs.Prelude.{◌≡◌, ℕ, true, false, ◌++◌, List, Option, Some, None, is_some, refl}
 use Rattle.std.proofs.Common.{sym, subst, ap, ◌∙◌}
-use Rattle.pli_bench.specs.Dumps.{hex_from}
-use Rattle.pli_bench.specs.Exchanges.{exchange}
-use Rattle.pli_bench.specs.Session.{State, Dumps, okay, not_built}
+use Rattle.pli_commands.specs.Dumps.{hex_from}
+use Rattle.pli_commands.specs.Exchanges.{exchange}
+use Rattle.pli_bench.specs.Session.{State, Dumps}
+use Rattle.pli_commands.specs.AnswerLines.{okay, not_built}
 use Rattle.pli_ledger.specs.answers.Built.{IsOfMembers}
 use Rattle.pli_deck_write.proofs.BytesAlike.{module_same}
 use Rattle.pli_deck_write.specs.ModuleSpelling.{SpellsModule}

@@ -1,10 +1,2 @@
-pub mod BytesWaiting
-pub mod CommandsAlike
 pub mod CommandsObeyed
 pub mod DumpsObeyed
-pub mod FirstWordFound
-pub mod HexLines
-pub mod LinesAnswered
-pub mod LinesListed
-pub mod LinesOfBytes
-pub mod PartsPut

@@ -1,10 +1,3 @@
-pub mod CommandLines
-pub mod Commands
-pub mod Dumps
-pub mod Exchanges
-pub mod Lines
-pub mod Runs
 pub mod Session
 pub mod answers
 pub mod laws
-pub mod views

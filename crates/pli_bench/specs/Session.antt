@@ -1,32 +1,27 @@
 -- The session (own): what a command answers, and what it leaves.
 use Rattle.std.specs.Prelude.{◌≡◌, ℕ, ◌+◌, Bool, true, false, nat_eq, ◌⊎◌, Option, Some, None, List, [], ◌∷◌}
-use Rattle.std.specs.Prelude.{◌++◌, length, codes, decimal, unwrap_or, if◌then◌else◌}
+use Rattle.std.specs.Prelude.{◌++◌, codes, decimal, unwrap_or, if◌then◌else◌}
 use Rattle.std.specs.List.{flat_map}
 use Rattle.pli_base.specs.Name.{Name}
-use Rattle.pli_members.specs.Members.{Store, Member, Change, empty_store, lines_of, added, deleted}
-use Rattle.pli_members.specs.Members.{with_change}
+use Rattle.pli_members.specs.Members.{Store, Change, empty_store, lines_of, added, deleted, with_change}
 use Rattle.pli_members.specs.Members as lines
 use Rattle.pli_members.specs.Refusals.{refusal_of_add, refusal_of_delete, refusal_of_change}
-use Rattle.pli_members.specs.Refusals.{refusal_label, refusal_text}
 use Rattle.pli_members.specs.declared.refusal.Refusal.{Refusal}
 use Rattle.pli_members.specs.declared.refusal.Refusal.TheVariants.{NoSuchMember}
-use Rattle.pli_members.specs.declared.kind.MemberKind.{MemberKind}
-use Rattle.pli_members.specs.declared.kind.MemberKind.TheVariants.{Source, Include}
-use Rattle.pli_run.specs.Errors.{error_label, error_text}
 use Rattle.pli_machine_step.specs.Outcomes.{Outcome}
-use Rattle.pli_run.specs.declared.ending.Ending.{Ending}
-use Rattle.pli_run.specs.declared.ending.Ending.TheVariants.{Ended, OutOfSteps, Error, MachineFault}
 use Rattle.pli_ledger.specs.Kept.{Ledger, empty_ledger}
 use Rattle.pli_ledger.specs.Refused.{IsRefused}
 use Rattle.pli_ledger.specs.Work.{ledger_after}
 use Rattle.pli_meaning.specs.Scratch.{Built, Diagnosed, Made, scratch, Means}
 use Rattle.pli_code.specs.ModuleParts.{Module}
-use Rattle.pli_bench.specs.Exchanges.{Exchange}
-use Rattle.pli_bench.specs.Commands.{Command, Add, Delete, Insert, Replace, Remove, ListLines, ListMembers}
-use Rattle.pli_bench.specs.Commands.{Build, ListWork, Dump, Run, Quit}
-use Rattle.pli_bench.specs.CommandLines.{command_of}
-use Rattle.pli_bench.specs.Dumps.{hex_from}
+use Rattle.pli_commands.specs.Exchanges.{Exchange}
+use Rattle.pli_commands.specs.Commands.{Command, Add, Delete, Insert, Replace, Remove, ListLines, ListMembers}
+use Rattle.pli_commands.specs.Commands.{Build, ListWork, Dump, Run, Quit}
+use Rattle.pli_commands.specs.CommandLines.{command_of}
+use Rattle.pli_commands.specs.Dumps.{hex_from}
 use Rattle.pli_deck_write.specs.ModuleBytes.{module_written}
+use Rattle.pli_commands.specs.AnswerLines.{line, okay, no_memory, bad_command, not_built, refused}
+use Rattle.pli_commands.specs.AnswerLines.{ending_line, numbered_lines, member_line}
 
 -- the members, what is kept of their units, whether a module of them stands, and the steps of a bare RUN
 pub record State : Type 0 where
@@ -34,38 +29,6 @@ pub record State : Type 0 where
   pub ledger : Ledger
   pub stands : Bool
   pub steps : ℕ
-
--- a text with its line feed
-abbrev pub line : List ℕ → List ℕ
-line text = text ++ 10 ∷ []
-
--- a command was done
-abbrev pub okay : List ℕ
-okay = line (codes "OK")
-
--- memory was refused
-abbrev pub no_memory : List ℕ
-no_memory = line (codes "NO MEMORY")
-
--- a line is no command
-abbrev pub bad_command : List ℕ
-bad_command = line (codes "B1 BAD COMMAND")
-
--- no module stands that could be run
-abbrev pub not_built : List ℕ
-not_built = line (codes "B2 NOT BUILT")
-
--- why an edit was refused
-abbrev pub refused : Refusal → List ℕ
-refused r = line (refusal_label r ++ 32 ∷ refusal_text r)
-
--- how a run ended, in words
-abbrev pub ending_line : Ending → List ℕ
-ending_line Ended = line (codes "ENDED")
-ending_line OutOfSteps = line (codes "OUT OF STEPS")
-ending_line (Error e unit statement) =
-    line (codes "ERROR " ++ error_label e ++ 32 ∷ error_text e ++ 32 ∷ unit ++ 32 ∷ decimal statement)
-ending_line MachineFault = line (codes "MACHINE FAULT")
 
 -- the output, a line end unless the next column is 1, and how the run ended
 abbrev pub run_answer : Outcome → List ℕ
@@ -147,25 +110,10 @@ Runs true n e =
     (o : Outcome) × Means e.before.store.entries n o × ((e.answer ≡ run_answer o) ⊎ Breaks o.output e.answer)
     × (e.after ≡ e.before)
 
--- lines after their numbers, the first of which is given
-abbrev pub numbered_lines : ℕ → List (List ℕ) → List ℕ
-numbered_lines number [] = []
-numbered_lines number (text ∷ lines) =
-    line (decimal number ++ 32 ∷ text) ++ numbered_lines (number + 1) lines
-
 -- the lines of a member, if there is one, are listed from 1 on
 abbrev pub Lists : Option (List (List ℕ)) → Exchange State → Type 0
 Lists None e = Says (refused NoSuchMember) e
 Lists (Some lines) e = Says (numbered_lines 1 lines ++ okay) e
-
--- the word for a kind of members
-abbrev pub kind_word : MemberKind → List ℕ
-kind_word Source = codes "SOURCE"
-kind_word Include = codes "INCLUDE"
-
--- a member's name, its kind and how many lines it has
-abbrev pub member_line : Name × Member → List ℕ
-member_line entry = line (entry.0 ++ 32 ∷ kind_word entry.1.kind ++ 32 ∷ decimal (length entry.1.lines))
 
 -- what a command may answer, and what it leaves
 abbrev pub Obeys : Option Command → Exchange State → Type 0

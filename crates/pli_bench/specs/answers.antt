@@ -1,5 +1,1 @@
-pub mod Answering
-pub mod Batches
-pub mod Going
-pub mod Kept
 pub mod Obeying

@@ -1,20 +1,21 @@
 //! The workbench: members, what is kept of their units, the module that stands, and the commands on them.
 ghost use Rattle.std.specs.Prelude.{◌≡◌, ◌≤◌, ◌+◌, ◌∷◌, Err};
-ghost use Rattle.pli_bench.specs.declared.serving.ServeFault.TheVariants.{TooManyReads};
-ghost use Rattle.pli_bench.specs.answers.Answering.{Writes};
-ghost use Rattle.pli_bench.specs.Commands as spelt;
+ghost use Rattle.pli_commands.specs.declared.serving.ServeFault.TheVariants.{TooManyReads};
+ghost use Rattle.pli_commands.specs.answers.Answering.{Writes};
+ghost use Rattle.pli_commands.specs.Commands as spelt;
 ghost use Rattle.pli_bench.specs.answers.Obeying.{Does, as_edit, edit_answer, end_answer, gone, standing_after};
-ghost use Rattle.pli_bench.specs.Exchanges.{span};
-ghost use Rattle.pli_bench.specs.Runs.{AnsweredOne, Marked, Served, Takes, Blames, piece_limit};
-ghost use Rattle.pli_bench.specs.Session.{Obeys, Step, no_memory, quits, opened};
+ghost use Rattle.pli_commands.specs.Exchanges.{span};
+ghost use Rattle.pli_commands.specs.Runs.{AnsweredOne, Marked, Served, Takes, Blames, piece_limit};
+ghost use Rattle.pli_bench.specs.Session.{Obeys, Step, quits, opened};
+ghost use Rattle.pli_commands.specs.AnswerLines.{no_memory};
 ghost use Rattle.pli_bench.specs.laws.ShownModules.{ShowsModule};
 
-use crate::answer::{put_ending, put_parts, put_refusal};
-use crate::command::{Command, read_command};
-use crate::dumping::put_dump;
-use crate::listing::{put_lines, put_members, put_work};
-use crate::serving::{AfterCommand, Interpreter, ServeFault, WriteFailed, serve};
+use crate::work::put_work;
 use pli_base::{Failed, Name, Sink, Source};
+use pli_commands::{
+    AfterCommand, Command, Interpreter, ServeFault, WriteFailed, put_dump, put_ending, put_lines,
+    put_members, put_parts, put_refusal, read_command, serve,
+};
 use pli_deck::Compiler;
 use pli_include::Expander;
 use pli_ledger::{Ledger, Outcome, StoredModule, edits_keep_fits};

@@ -1,14 +1,8 @@
 //! The workbench: commands on members of text, which build and run the program that they hold.
 #![tactic(auto)]
 
-mod answer;
-mod batch;
 mod bench;
-mod command;
-mod dumping;
-mod listing;
-mod pending;
-mod serving;
+mod work;
 
 pub use bench::Bench;
-pub use serving::{AfterCommand, ServeFault, WriteFailed};
+pub use pli_commands::{AfterCommand, ServeFault, WriteFailed};

@@ -1,10 +1,10 @@
 -- What came of serving a new workbench.
 use Rattle.std.proofs.Common.{◌≡◌, ℕ, Result, subst}
-use Rattle.pli_bench.specs.Exchanges.{span}
+use Rattle.pli_commands.specs.Exchanges.{span}
 use Rattle.pli_bench.specs.Session.{State, Step, quits, opened}
-use Rattle.pli_bench.specs.Runs.{Service, Served, Takes, Blames, piece_limit}
-use Rattle.pli_bench.specs.declared.serving.AfterCommand.{AfterCommand}
-use Rattle.pli_bench.specs.declared.serving.ServeFault.{ServeFault}
+use Rattle.pli_commands.specs.Runs.{Service, Served, Takes, Blames, piece_limit}
+use Rattle.pli_commands.specs.declared.serving.AfterCommand.{AfterCommand}
+use Rattle.pli_commands.specs.declared.serving.ServeFault.{ServeFault}
 use Rattle.pli_command_line.specs.Statuses.{Devices, Serves}
 
 -- a workbench in this state serves

@@ -5,10 +5,10 @@ use Rattle.std.specs.Io.KnownBytes.{Keeps, Appends}
 use Rattle.clap.specs.Words.{Text}
 use Rattle.pli_base.specs.Devices.{AppendsPrefix}
 use Rattle.pli_bench.specs.Session.{State, Step, quits, opened}
-use Rattle.pli_bench.specs.Exchanges.{Span, span}
-use Rattle.pli_bench.specs.Runs.{Bytes, Service, Served, Takes, Blames, piece_limit}
-use Rattle.pli_bench.specs.declared.serving.AfterCommand.{AfterCommand}
-use Rattle.pli_bench.specs.declared.serving.ServeFault.{ServeFault}
+use Rattle.pli_commands.specs.Exchanges.{Span, span}
+use Rattle.pli_commands.specs.Runs.{Bytes, Service, Served, Takes, Blames, piece_limit}
+use Rattle.pli_commands.specs.declared.serving.AfterCommand.{AfterCommand}
+use Rattle.pli_commands.specs.declared.serving.ServeFault.{ServeFault}
 use Rattle.pli_command_line.specs.CommandLine.{Refuses, faults}
 use Rattle.pli_command_line.specs.declared.arguments.ArgumentsError.{ArgumentsError}
 use Rattle.pli_command_line.specs.declared.arguments.ArgumentsError.TheVariants.{Usage, OutOfMemory}

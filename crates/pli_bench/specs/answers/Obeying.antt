@@ -4,12 +4,13 @@ use Rattle.pli_members.specs.declared.refusal.EditError.{EditError}
 use Rattle.pli_members.specs.declared.refusal.EditError.TheVariants.{Refused, OutOfMemory}
 use Rattle.pli_members.specs.declared.refusal.Refusal.{Refusal}
 use Rattle.pli_run.specs.declared.ending.Ending.{Ending}
-use Rattle.pli_bench.specs.answers.Answering.{Writes}
-use Rattle.pli_bench.specs.declared.serving.AfterCommand.{AfterCommand}
-use Rattle.pli_bench.specs.declared.serving.AfterCommand.TheVariants.{Go}
-use Rattle.pli_bench.specs.declared.serving.WriteFailed.{WriteFailed}
-use Rattle.pli_bench.specs.Exchanges.{Exchange, exchange}
-use Rattle.pli_bench.specs.Session.{State, ending_line, no_memory, okay, refused}
+use Rattle.pli_commands.specs.answers.Answering.{Writes}
+use Rattle.pli_commands.specs.declared.serving.AfterCommand.{AfterCommand}
+use Rattle.pli_commands.specs.declared.serving.AfterCommand.TheVariants.{Go}
+use Rattle.pli_commands.specs.declared.serving.WriteFailed.{WriteFailed}
+use Rattle.pli_commands.specs.Exchanges.{Exchange, exchange}
+use Rattle.pli_bench.specs.Session.{State}
+use Rattle.pli_commands.specs.AnswerLines.{ending_line, no_memory, okay, refused}
 
 -- from one state to another over an answer, which is put
 abbrev pub Does : {A E : Type 0} → (R : Exchange State → Type 0) → (s t : State)

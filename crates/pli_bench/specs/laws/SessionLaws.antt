@@ -2,9 +2,9 @@
 use Rattle.std.specs.Prelude.{◌≡◌, ℕ, ◌<◌, false, None, List, length}
 use Rattle.std.proofs.Common.{sym, subst, ap, ◌∙◌, refl}
 use Rattle.std.proofs.lemmas.Bool.{lt-ltb}
-use Rattle.pli_bench.specs.Exchanges.{exchange}
-use Rattle.pli_bench.specs.CommandLines.{command_of}
-use Rattle.pli_bench.specs.Commands.{line_limit}
+use Rattle.pli_commands.specs.Exchanges.{exchange}
+use Rattle.pli_commands.specs.CommandLines.{command_of}
+use Rattle.pli_commands.specs.Commands.{line_limit}
 use Rattle.pli_bench.specs.Session.{State, Obeys, Step, quits, is_quit}
 
 -- a line over the limit is no command

@@ -1,8 +1,9 @@
 use Rattle.std.specs.Prelude.{is_some, ◌++◌}
 use Rattle.std.proofs.Common.{sym, ap, subst, ◌∙◌}
-use Rattle.pli_bench.specs.Dumps.{hex_from}
-use Rattle.pli_bench.specs.Exchanges.{exchange}
-use Rattle.pli_bench.specs.Session.{Dumps, not_built, okay}
+use Rattle.pli_commands.specs.Dumps.{hex_from}
+use Rattle.pli_commands.specs.Exchanges.{exchange}
+use Rattle.pli_bench.specs.Session.{Dumps}
+use Rattle.pli_commands.specs.AnswerLines.{not_built, okay}
 use Rattle.pli_bench.proofs.CommandsObeyed.{standing_built}
 use Rattle.pli_bench.proofs.DumpsObeyed.{dumps_not, dumps}
 use Rattle.pli_bench.proofs.bench.Bench.dump.Goals as goal

@@ -4,8 +4,9 @@ use Rattle.std.specs.Option.{option_copied}
 use Rattle.std.proofs.lemmas.Result.{err_from_is_err_and}
 use Rattle.pli_base.specs.laws.DeviceLaws.{AppendsPrefix-more}
 use Rattle.pli_members.specs.declared.refusal.Refusal.TheVariants.{NoSuchMember}
-use Rattle.pli_bench.specs.Session.{okay, refused, numbered_lines}
-use Rattle.pli_bench.proofs.CommandsObeyed.{lists_none, lists, writes_then}
+use Rattle.pli_commands.specs.AnswerLines.{okay, refused, numbered_lines}
+use Rattle.pli_bench.proofs.CommandsObeyed.{lists_none, lists}
+use Rattle.pli_commands.proofs.PartAfterPart.{writes_then}
 use Rattle.pli_bench.proofs.bench.Bench.list_lines.Goals as goal
 
 pub returns-in_default-clause-answered : goal.returns-in_default-clause-answered

@@ -3,8 +3,8 @@ use Rattle.std.specs.List.{flat_map}
 use Rattle.std.proofs.Common.{ap, ◌∙◌}
 use Rattle.std.proofs.lemmas.Result.{err_from_is_err_and}
 use Rattle.pli_base.specs.laws.DeviceLaws.{AppendsPrefix-more}
-use Rattle.pli_bench.specs.Session.{okay, member_line}
-use Rattle.pli_bench.proofs.CommandsObeyed.{writes_then}
+use Rattle.pli_commands.specs.AnswerLines.{okay, member_line}
+use Rattle.pli_commands.proofs.PartAfterPart.{writes_then}
 use Rattle.pli_bench.proofs.bench.Bench.list_members.Goals as goal
 
 pub returns-in_err-put_members-clause-answered : goal.returns-in_err-put_members-clause-answered

@@ -3,8 +3,9 @@ use Rattle.std.proofs.Common.{Option, subst, sym}
 use Rattle.pli_meaning.specs.Scratch.{Made, Diagnosed}
 use Rattle.pli_ledger.specs.answers.Built.{IsOfMembers}
 use Rattle.pli_ledger.specs.declared.stored.StoredModule.{StoredModule}
-use Rattle.pli_bench.specs.Exchanges.{exchange}
-use Rattle.pli_bench.specs.Session.{Builds, build_answer, no_memory}
+use Rattle.pli_commands.specs.Exchanges.{exchange}
+use Rattle.pli_bench.specs.Session.{Builds, build_answer}
+use Rattle.pli_commands.specs.AnswerLines.{no_memory}
 use Rattle.pli_bench.proofs.CommandsObeyed.{builds, builds_not, state}
 use Rattle.pli_bench.proofs.bench.Bench.rebuild.Goals as goal
 

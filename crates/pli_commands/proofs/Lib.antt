@@ -1,0 +1,9 @@
+pub mod BytesWaiting
+pub mod CommandsAlike
+pub mod FirstWordFound
+pub mod HexLines
+pub mod LinesAnswered
+pub mod LinesListed
+pub mod LinesOfBytes
+pub mod PartAfterPart
+pub mod PartsPut

@@ -1,0 +1,9 @@
+pub mod AnswerLines
+pub mod CommandLines
+pub mod Commands
+pub mod Dumps
+pub mod Exchanges
+pub mod Lines
+pub mod Runs
+pub mod answers
+pub mod views

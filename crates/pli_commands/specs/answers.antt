@@ -1,0 +1,4 @@
+pub mod Answering
+pub mod Batches
+pub mod Going
+pub mod Kept
