@@ -16,6 +16,7 @@ use pli_value::Value;
 
 /// A value put where a scalar of this description lies, which holds it. Of CHARACTER VARYING only the length and the
 /// characters are written.
+#[inline(always)]
 pub fn put_value_at(bytes: &mut [u8], offset: usize, description: &Description, value: &Value)
     requires held { holds (description_view description.now) (value_view value.now) ≡ true }
     requires within { offset + size_of (description_view description.now) ≤ length bytes.old }
@@ -25,6 +26,7 @@ pub fn put_value_at(bytes: &mut [u8], offset: usize, description: &Description, 
 }
 
 /// The same of the scalar with which the bytes begin.
+#[inline(always)]
 fn put_first(bytes: &mut [u8], description: &Description, value: &Value)
     requires held { holds (description_view description.now) (value_view value.now) ≡ true }
     requires within { size_of (description_view description.now) ≤ length bytes.old }
@@ -46,6 +48,7 @@ fn put_first(bytes: &mut [u8], description: &Description, value: &Value)
 }
 
 /// The same where the value is stored in all bytes of the scalar, so many.
+#[inline(never)]
 fn store_first(bytes: &mut [u8], size: usize, description: &Description, value: &Value)
     requires storable { is_storable (description_view description.now) ≡ true }
     requires held { holds (description_view description.now) (value_view value.now) ≡ true }
@@ -93,6 +96,7 @@ fn put_first_number(bytes: &mut [u8], precision: u8, number: i64) -> bool
 }
 
 /// The characters of a scalar of CHARACTER VARYING put with which the bytes begin: the length in two bytes, and they.
+#[inline(never)]
 fn write_text(bytes: &mut [u8], greatest: u16, text: &[u8])
     requires fits { length text.now ≤ greatest }
     requires within { 2 + greatest ≤ length bytes.old }
@@ -103,6 +107,7 @@ fn write_text(bytes: &mut [u8], greatest: u16, text: &[u8])
 }
 
 /// These in the place of as many bytes.
+#[inline(never)]
 fn write_front(bytes: &mut [u8], front: &[u8])
     requires { length front.now ≤ length bytes.old }
     ensures { bytes.new ≡ front.now ++ drop (length front.now) bytes.old }

@@ -4,7 +4,7 @@ use Rattle.std.specs.Prelude.{length, get_or, if◌then◌else◌}
 use Rattle.pli_base.specs.Name.{Name}
 use Rattle.pli_base.specs.Declarations.{DescribedAttribute}
 use Rattle.pli_base.specs.Statements as options
-use Rattle.pli_base.specs.Statements.{Heading, ProcedureOption}
+use Rattle.pli_base.specs.Statements.{ProcedureOption}
 use Rattle.pli_base.specs.declared.syntax.Identifier.{Identifier}
 use Rattle.pli_map.specs.Description.{Description}
 use Rattle.pli_declare.specs.Completed.{Completed, completed_of}

@@ -1,9 +1,12 @@
 //! Beginnings of activations.
 ghost use Rattle.std.specs.Prelude.{◌≡◌, ◌<◌, ℕ, List, [], ◌∷◌, map, length, replicate, false, None, IfOk, OnOk};
+ghost use Rattle.std.specs.Option.{option_map};
+ghost use Rattle.pli_value.specs.Value.{value_view};
+ghost use Rattle.pli_machine_operate.specs.views.OperandView.{stack};
 ghost use Rattle.pli_world.specs.Activations.{no_on_unit};
 ghost use Rattle.pli_machine_activations.specs.views.Image.{Image};
 ghost use Rattle.pli_store.specs.views.StorageView.{place_view};
-ghost use Rattle.pli_machine_step.specs.Machine.{enters, fresh};
+ghost use Rattle.pli_machine_step.specs.Machine.{enters};
 ghost use Rattle.pli_code.specs.CodeTables.{block_looked_up};
 ghost use Rattle.pli_code.specs.views.CodeView.{code_view, block_view};
 ghost use Rattle.pli_machine_activations.specs.answers.Activated.{HasBegun};
@@ -17,6 +20,7 @@ use crate::spare::Room;
 use crate::stops::stop_at;
 use crate::variables::make_variables;
 use pli_code::Block;
+use pli_machine_operate::Operand;
 use pli_store::Place;
 use pli_value::Value;
 use std::alloc::{AllocError, Global};
@@ -24,18 +28,29 @@ use std::mem;
 
 /// So many temporaries, of which none is set.
 #[inline(always)]
-fn unset(mut temporaries: Vec<Option<Value>>, count: u16) -> Result<Vec<Option<Value>>, AllocError>
-    requires { temporaries.items ≡ [] }
-    ensures { IfOk result (λ temporaries. temporaries.items ≡ replicate count None) }
+pub fn unset(temporaries: &mut Vec<Option<Value>>, count: u16) -> Result<(), AllocError>
+    ensures { OnOk result (temporaries.new.items ≡ replicate count None) }
 {
+    temporaries.clear();
+    temporaries.reserve(usize::from(count))?;
     for _unset in 0..count {
-        temporaries.push(None)?;
+        temporaries.push_reserved(None);
     }
-    Ok(temporaries)
+    Ok(())
+}
+
+/// No operands.
+#[inline(always)]
+fn emptied(operands: &mut Vec<Operand<'_>>)
+    ensures { operands.new.items ≡ [] }
+{
+    if !operands.is_empty() {
+        operands.clear();
+    }
 }
 
 /// The activation of a block before its first instruction and before its variables are made: its first slots are its
-/// arguments, it owns these generations, and has this room, in which nothing is yet.
+/// arguments, and it has this room, in which nothing is yet but the generations that it owns.
 #[inline(always)]
 pub fn activation<'m>(
     unit: usize,
@@ -43,37 +58,38 @@ pub fn activation<'m>(
     block: &Block,
     link: u32,
     slots: Vec<Place<'m>>,
-    owned: Vec<u32>,
     room: Room<'m>,
-) -> Result<Activation<'m>, AllocError>
-    requires operands { room.operands.items ≡ [] }
-    requires pending { room.pending.items ≡ [] }
-    requires temporaries { room.temporaries.items ≡ [] }
-    ensures { IfOk result (λ a. (frame_view a ≡ record {
+) -> Activation<'m>
+    requires { room.pending.items ≡ [] }
+    ensures frame { frame_view result ≡ record {
       unit = unit;
       next = block.now.entry;
-      operands = [];
-      locals = fresh block.now.temporaries;
+      operands = stack room.entry.operands.items;
+      locals = record {
+        temporaries = map (option_map value_view) room.entry.temporaries.items;
+        jumps = 0;
+        stamp = 0;
+      };
       again = false;
-    })
-        × (activation_view a ≡ record {
-          unit = unit;
-          block = number;
-          statement = block.now.statement;
-          link = link;
-          slots = map place_view slots.entry.items;
-          pending = [];
-          owned = owned.items;
-          on_units = no_on_unit;
-        })) }
+    } }
+    ensures activation { activation_view result ≡ record {
+      unit = unit;
+      block = number;
+      statement = block.now.statement;
+      link = link;
+      slots = map place_view slots.entry.items;
+      pending = [];
+      owned = room.entry.owned.items;
+      on_units = no_on_unit;
+    } }
 {
     let Room {
         operands,
         pending,
+        owned,
         temporaries,
     } = room;
-    let temporaries = unset(temporaries, block.temporaries)?;
-    Ok(Activation {
+    Activation {
         unit,
         block: number,
         statement: block.statement,
@@ -92,7 +108,7 @@ pub fn activation<'m>(
             area: None,
         },
         again: false,
-    })
+    }
 }
 
 /// Lets the newest activation wait, with what it hands over, to execute its next instruction again or not, and begins
@@ -113,15 +129,16 @@ fn begin_block<'m>(
         HasBegun image put unit number block.now.statement block.now.entry block.now.temporaries link
         (map place_view places.entry.items) again machine.old machine.new) }
 {
-    let pending = mem::replace(&mut machine.here.pending, Vec::new(alloc));
-    let (handed, others) = hand_over(alloc, pending, &places)?;
-    machine.here.pending = others;
-    let room = machine.spare.take_room(alloc);
-    let new = activation(unit, number, block, link, places, handed, room)?;
-    let mut before = mem::replace(&mut machine.here, new);
-    before.again = again;
-    machine.waiting.push(before)?;
+    let mut room = machine.spare.take_room(alloc);
+    hand_over(alloc, &mut machine.here.pending, &places, &mut room.owned)?;
+    machine.here.again = again;
+    machine.waiting.reserve(1)?;
+    let new = activation(unit, number, block, link, places, room);
+    let before = mem::replace(&mut machine.here, new);
+    machine.waiting.push_reserved(before);
     machine.display.turn(&machine.waiting, link);
+    emptied(&mut machine.here.operands);
+    unset(&mut machine.here.temporaries, block.temporaries)?;
     Ok(())
 }
 

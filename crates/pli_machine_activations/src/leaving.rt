@@ -13,28 +13,16 @@ use pli_value::Value;
 use std::alloc::{AllocError, Global};
 use std::mem;
 
-/// Gives numbers, where there are none yet, the memory of those that have ended.
-#[inline]
-fn lend(pending: &mut Vec<u32>, ended: &mut Vec<u32>)
-    ensures { pending.new.items ≡ pending.old.items }
-{
-    if pending.is_empty() {
-        ended.clear();
-        mem::swap(pending, ended);
-    }
-}
-
 /// Ends the newest activation, where one waits for it, which is to go on as it waited; else the machine stays as it is.
 pub fn leave(machine: &mut Machine) -> bool
     ensures leaves { Leaves result machine.old machine.new }
     ensures fewer { result ≡ true → length machine.new.waiting.items < length machine.old.waiting.items }
 {
     match machine.waiting.pop() {
-        Some(mut next) => {
-            machine.storage.end(&machine.here.pending);
-            machine.storage.end(&machine.here.owned);
-            lend(&mut next.pending, &mut machine.here.owned);
+        Some(next) => {
             let ended = mem::replace(&mut machine.here, next);
+            machine.storage.end(&ended.pending);
+            machine.storage.end(&ended.owned);
             machine.display.turn(&machine.waiting, machine.here.link);
             machine.spare.keep(ended);
             true

@@ -12,6 +12,7 @@ use std::alloc::Global;
 pub struct Room<'m> {
     pub operands: Vec<Operand<'m>>,
     pub pending: Vec<u32>,
+    pub owned: Vec<u32>,
     pub temporaries: Vec<Option<Value>>,
 }
 
@@ -21,11 +22,13 @@ impl<'m> Room<'m> {
     pub fn new(alloc: Global) -> Room<'m>
         ensures operands { result.operands.items ≡ [] }
         ensures pending { result.pending.items ≡ [] }
+        ensures owned { result.owned.items ≡ [] }
         ensures temporaries { result.temporaries.items ≡ [] }
     {
         Room {
             operands: Vec::new(alloc),
             pending: Vec::new(alloc),
+            owned: Vec::new(alloc),
             temporaries: Vec::new(alloc),
         }
     }
@@ -47,18 +50,16 @@ impl<'m> Spare<'m> {
         }
     }
 
-    /// Room in which nothing is, with memory if there is any.
-    #[inline]
+    /// Room in which no generation is, with memory if there is any; of operands and temporaries it may have some.
+    #[inline(always)]
     pub fn take_room(&mut self, alloc: Global) -> Room<'m>
-        ensures operands { result.operands.items ≡ [] }
         ensures pending { result.pending.items ≡ [] }
-        ensures temporaries { result.temporaries.items ≡ [] }
+        ensures owned { result.owned.items ≡ [] }
     {
         match self.rooms.pop() {
             Some(mut room) => {
-                room.operands.clear();
                 room.pending.clear();
-                room.temporaries.clear();
+                room.owned.clear();
                 room
             }
             None => Room::new(alloc),
@@ -66,7 +67,7 @@ impl<'m> Spare<'m> {
     }
 
     /// No slots, with memory for some if there is any.
-    #[inline]
+    #[inline(always)]
     pub fn take_slots(&mut self, alloc: Global) -> Vec<Place<'m>>
         ensures { result.items ≡ [] }
     {
@@ -80,11 +81,12 @@ impl<'m> Spare<'m> {
     }
 
     /// Keeps the memory of an activation that has ended; lets it go where there is none to note it.
-    #[inline]
+    #[inline(always)]
     pub fn keep(&mut self, ended: Activation<'m>) {
         let Activation {
             slots,
             pending,
+            owned,
             operands,
             temporaries,
             ..
@@ -92,6 +94,7 @@ impl<'m> Spare<'m> {
         let room = Room {
             operands,
             pending,
+            owned,
             temporaries,
         };
         let _room = self.rooms.push(room);

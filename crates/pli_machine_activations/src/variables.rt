@@ -113,6 +113,7 @@ fn make_variable<'m>(
 }
 
 /// The same of a template's number; where the tables have no such template, there is no variable.
+#[inline(never)]
 fn make_numbered<'m>(
     alloc: Global,
     ready: &ReadyCode<'_, 'm>,
@@ -135,6 +136,7 @@ fn make_numbered<'m>(
 }
 
 /// Makes the variables of these templates, one after another, as variables of the newest activation.
+#[inline(always)]
 pub fn make_variables<'m>(
     alloc: Global,
     ready: &ReadyCode<'_, 'm>,

@@ -27,7 +27,7 @@ pub fn outer(waiting: &[Activation], link: u32, outward: u8) -> Option<usize>
 }
 
 /// Which of the activations that wait is so many static links outward from the one that the newest one's link names.
-#[inline]
+#[inline(never)]
 pub fn outer_place(machine: &Machine, outward: u8) -> Option<usize>
     ensures found { outward_from (activations_of machine.now.waiting.items) machine.now.here.link outward
         ≡ option_map suc result }

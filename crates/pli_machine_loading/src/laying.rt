@@ -18,8 +18,8 @@ const TEMPLATE_BYTES: usize = 4096;
 /// How many bytes are laid for a module at most (own).
 const MODULE_BYTES: usize = 1_048_576;
 
-/// The bytes with which variables of the template of a number begin, where it has initial values, and takes no more
-/// than so many bytes and than may be laid for one.
+/// The bytes with which variables of the template of a number begin, where it takes no more than so many bytes and than
+/// may be laid for one.
 fn lay_template(
     alloc: Global,
     code: &Code,
@@ -31,7 +31,7 @@ fn lay_template(
 {
     match template_of(code, number) {
         Some((description, scalars)) => {
-            if scalars.is_empty() || far_size(description) > left.min(TEMPLATE_BYTES) as u64 {
+            if far_size(description) > left.min(TEMPLATE_BYTES) as u64 {
                 return Ok(None);
             }
             let bytes = initial_bytes(alloc, description, scalars)?;

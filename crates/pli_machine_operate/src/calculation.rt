@@ -11,6 +11,7 @@ ghost use Rattle.pli_value.specs.Value as plain;
 ghost use Rattle.pli_value.specs.Value.{value_view};
 ghost use Rattle.pli_machine_operate.specs.views.CalculationView.{calculation_view, immediate_view};
 
+use crate::texts::place_number;
 use pli_map::Description;
 use pli_operation::{Operation, Relation};
 use pli_value::bit::{self, Bits};
@@ -126,12 +127,12 @@ fn fitted(precision: u8, number: i64) -> Result<i64, Raised>
 
 /// A place in a string of so many elements, which is 0 or one of them.
 #[inline]
-fn as_place(place: usize, _elements: usize) -> Calculation
-    requires place { place ≤ _elements }
-    requires elements { _elements ≤ 9223372036854775807 }
+fn as_place(place: usize, elements: usize) -> Calculation
+    requires place { place ≤ elements }
+    requires elements { elements ≤ 9223372036854775807 }
     ensures { calculation_view result ≡ calculate.Calculates (plain.Number (pos place)) }
 {
-    Calculation::Gives(Value::Number(place as i64))
+    Calculation::Gives(Value::Number(place_number(place, elements)))
 }
 
 /// A quotient of at most so many binary digits, and at most 63.

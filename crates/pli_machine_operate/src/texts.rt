@@ -1,7 +1,7 @@
 //! Strings of characters that are looked at where they stand.
-ghost use Rattle.std.specs.Prelude.{◌≡◌, ◌∷◌, [], IfSome};
+ghost use Rattle.std.specs.Prelude.{◌≡◌, ◌≤◌, ◌∷◌, [], pos, IfSome};
 ghost use Rattle.pli_operation.specs.Operations as calculate;
-ghost use Rattle.pli_operation.specs.declared.operation.Operation.TheVariants.{LengthOf, Substring, Compare};
+ghost use Rattle.pli_operation.specs.declared.operation.Operation.TheVariants.{LengthOf, Substring, Compare, Index};
 ghost use Rattle.pli_operation.specs.Operations.{calculated_from, calculated_with, calculated_by};
 ghost use Rattle.pli_value.specs.Value as plain;
 
@@ -15,6 +15,26 @@ pub fn text_length(text: &[u8]) -> i64
     ensures { calculate.Calculates (plain.Number result) ≡ calculated_from LengthOf (plain.Characters text.now) }
 {
     text.len() as i64
+}
+
+/// The number of a place in a string of so many elements, which is 0 or one of them.
+#[inline]
+pub fn place_number(place: usize, _elements: usize) -> i64
+    requires place { place ≤ _elements }
+    requires elements { _elements ≤ 9223372036854775807 }
+    ensures { result ≡ pos place }
+{
+    place as i64
+}
+
+/// INDEX (X3.74): the first place, from 1 on, at which the sought string stands; 0 where it is nowhere, or where one of
+/// the two is empty.
+#[inline]
+pub fn text_index(text: &[u8], sought: &[u8]) -> i64
+    ensures { calculate.Calculates (plain.Number result)
+        ≡ calculated_with 31 Index (plain.Characters text.now) (plain.Characters sought.now) }
+{
+    place_number(character::index(text, sought), text.len())
 }
 
 /// SUBSTR with a length (X3.74), which is not copied; none where the part does not lie within the string.

@@ -27,7 +27,7 @@ use std::alloc::{AllocError, Global};
 
 /// Performs an instruction of the newest activation's unit, and answers why the run stops there, if it does. The next
 /// instruction is known already.
-#[inline]
+#[inline(always)]
 pub fn perform<'m>(
     alloc: Global,
     unit: &ActiveUnit<'_, 'm>,

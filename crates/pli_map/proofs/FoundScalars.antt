@@ -1,9 +1,10 @@
 -- What the function that finds scalars computes.
-use Rattle.std.proofs.Common.{◌≡◌, ℕ, ◌+◌, ◌-◌, ◌*◌, ◌/◌, ◌%◌, ◌<◌, ◌≤◌, min, Bool, true, false, nat_lt, ◌⊎◌, inl, inr, List, Option, Some, None, option_map, if◌then◌else◌, refl, ap, sym, ◌∙◌, arith}
+use Rattle.std.proofs.Common.{◌≡◌, ℕ, ◌+◌, ◌-◌, ◌*◌, ◌/◌, ◌%◌, ◌<◌, ◌≤◌, min, Bool, true, false, nat_lt, ◌⊎◌, inl, inr, List, Option, Some, None, option_map, if◌then◌else◌, refl, ap, sym, mul_comm, suc, zero, ◌∙◌, arith}
 use Rattle.std.specs.Int.{next_multiple_of}
 use Rattle.std.proofs.lemmas.Bool.{cases_lt, lt-ltb, le-ltb}
 use Rattle.std.proofs.lemmas.Option.{same_Some, none-some}
 use Rattle.std.proofs.Math.Nat.{div-eq_of_lt, mod-eq_of_lt}
+use Rattle.std.proofs.lemmas.Nat.{div-mul-add, mul-le}
 use Rattle.pli_map.specs.declared.description.Bounds.{Bounds}
 use Rattle.pli_map.specs.Description.{Description, FixedBinary, Character, Varying, Bit, Pointer, Offset, Area, Array, Structure, Members, MemberThen}
 use Rattle.pli_map.specs.Scalars.{scalars_in, stands_here, first_scalar, scalar_after}
@@ -56,6 +57,18 @@ le_cases a b = elim (cases_lt a b) [ inl h ↦ inl (omega arith) | inr h ↦ inr
 -- a stride that was cut where no offset comes is passed as often, and as much is left
 pub quotient_cut : (o s far : ℕ) → o < far → (o / min s far ≡ o / s) × (o % min s far ≡ o % s)
 quotient_cut o s far below = quotient_at o s far below (le_cases far s)
+
+-- a size over the number of elements is the stride, also where that number is cut
+pub stride_found : (count stride size n : ℕ) → size ≡ count * stride → size ≤ 18446744073709551615 → n ≡ min count 18446744073709551615 → 0 < n
+    → size / n ≡ stride
+stride_found count zero size n is small cut some =
+    let none : size ≡ 0 = omega (arith, is) in
+    rw none (div-eq_of_lt {n = 0} {m = n} some)
+stride_found count (suc k) size n is small cut some =
+    let more = mul-le count 1 count (suc k) (omega arith) (omega arith) in
+    let all : n ≡ count = omega (arith, is, small, cut, more) in
+    let turned : size ≡ suc k * n + 0 = omega (arith, is ∙ mul_comm count (suc k) ∙ ap (λ m. suc k * m) (sym all)) in
+    rw turned (div-mul-add (suc k) n 0 some)
 
 -- the same of the stride of a description, where that is cut to a number of 33 binary digits
 pub quotient_is : (offset : ℕ) (d : Description) (stride : ℕ) → offset < 4294967296 → stride ≡ min (stride_of d) 4294967296

@@ -27,6 +27,17 @@ pub fn far_size(description: &Description) -> u64
     }
 }
 
+/// The same; that of a number is found at once.
+#[inline(always)]
+pub fn size_at_once(description: &Description) -> u64
+    ensures { result ≡ min (size_of (description_view description.now)) 4294967296 }
+{
+    match description {
+        Description::FixedBinary(precision) => u64::from(fixed_binary_size(u64::from(*precision))),
+        _ => far_size(description),
+    }
+}
+
 #[cycle(far_size)]
 fn far_array(bounds: &[Bounds], element: &Description) -> u64
     ensures { result ≡ min (count_of bounds.now * stride_of (description_view element.now)) 4294967296 }
@@ -55,6 +66,7 @@ pub fn far_stride(element: &Description) -> u64
 }
 
 /// How many elements an array of these bounds has; 2^64 - 1 stands for every greater number.
+#[inline]
 pub fn every_element(dimensions: &[Bounds]) -> u64
     ensures { result ≡ min (count_of dimensions.now) 18446744073709551615 }
 {

@@ -16,7 +16,7 @@ mod table;
 
 pub use description::{Bounds, Description, are_same_scalars};
 pub use dimension::{Dimension, WhichBound, nth_dimension};
-pub use extents::{FAR, every_element, far_size};
+pub use extents::{FAR, every_element, far_size, size_at_once};
 pub use laws::{
     areas_are_rounded, elements_are_in_row_major_order, elements_are_within_bounds,
     filled_parts_take_bytes, first_values_are_held, four_alignments, offsets_are_sums,
@@ -28,6 +28,7 @@ pub use parameter::{ArrayRef, ParameterType, StringForm, TypeRef, agrees, array_
 pub use parts::{PathStep, PlacedPart, place};
 pub use scalars::{
     first_scalar, is_aggregate, is_area, is_scalar, scalars_in, stands_among, stands_in,
+    stands_in_array,
 };
 pub use sizes::{alignment, fixed_binary_size, measure, size};
 pub use table::Table;

@@ -124,33 +124,50 @@ pub fn stands_among(members: &[Description], offset: u32, part: &Description) ->
     false
 }
 
-/// Whether a part of this description stands so many bytes after the beginning of a whole. A scalar in an array of
-/// such, and one that is a member of a structure after other scalars in an array of such, take a short way. Takes no
-/// memory, and time for the members.
+/// Whether a part of this description stands so many bytes after the beginning of a whole. Takes no memory, and time for
+/// the members.
 pub fn stands_in(whole: &Description, offset: u32, part: &Description) -> bool
     ensures { result ≡ is_some (first_scalar (description_view whole.now) offset (description_view part.now)) }
 {
+    first_scalar(whole, offset, part).is_some()
+}
+
+/// Whether a scalar stands so in a whole of so many bytes, where that is an array of such scalars, or of structures in
+/// which it stands after other scalars; `false` leaves it open. No size is computed: a stride is the size over the
+/// number of elements.
+#[inline(always)]
+pub fn stands_in_array(whole: &Description, size: usize, offset: u32, part: &Description) -> bool
+    requires { size ≡ size_of (description_view whole.now) }
+    ensures { result ≡ true → is_some (first_scalar (description_view whole.now) offset (description_view part.now))
+        ≡ true }
+{
     match whole {
         Description::Array { bounds, element } => {
-            stands_in_elements(bounds, element, offset, part)
-                || first_scalar(whole, offset, part).is_some()
+            stands_in_elements(bounds, element, size as u64, offset, part)
         }
-        _ => first_scalar(whole, offset, part).is_some(),
+        _ => false,
     }
 }
 
-/// Whether a scalar stands so in an array of such; `false` leaves it open.
+/// The same of an array of so many bytes.
+#[inline(always)]
 fn stands_in_elements(
     bounds: &[Bounds],
     element: &Description,
+    size: u64,
     offset: u32,
     part: &Description,
 ) -> bool
+    requires { size ≡ count_of bounds.now * stride_of (description_view element.now) }
     ensures { result ≡ true → is_some (first_scalar (Array bounds.now (description_view element.now)) offset
         (description_view part.now)) ≡ true }
 {
-    let (index, inner) = divided(offset, far_stride(element));
-    if index >= every_element(bounds) {
+    let count = every_element(bounds);
+    if count == 0 {
+        return false;
+    }
+    let (index, inner) = divided(offset, size / count);
+    if index >= count {
         return false;
     }
     stands_in_element(element, inner, part)
@@ -225,6 +242,7 @@ fn scalar_of_element(
 }
 
 /// How many strides an offset passes, and how far it goes on; a stride of no bytes is passed by no offset.
+#[inline(always)]
 fn divided(offset: u32, stride: u64) -> (u64, u32)
     ensures passed { result.0 ≡ offset / stride }
     ensures left { result.1 ≡ offset % stride }

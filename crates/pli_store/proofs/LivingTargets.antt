@@ -4,7 +4,7 @@ use Rattle.std.proofs.lemmas.Option.{none-some, same_Some, slice_get_read}
 use Rattle.pli_area_blocks.proofs.Options.{unmapped_nothing, unmapped_one}
 use Rattle.pli_map.specs.Description.{Description}
 use Rattle.pli_world.specs.Storage as plain
-use Rattle.pli_world.specs.Storage.{Based, Block, block_at, whole}
+use Rattle.pli_world.specs.Storage.{Based, Block, block_at}
 use Rattle.pli_world.specs.Targets.{block_target, target_at, target_in}
 use Rattle.pli_world.specs.Storage.{whole_at}
 use Rattle.pli_store.specs.answers.Found.{StandsAt}

@@ -1,6 +1,5 @@
 -- What new generations answer, and what they leave.
-use Rattle.std.proofs.Common.{◌≡◌, ℕ, suc, ◌+◌, ◌<◌, ◌≤◌, Bool, true, false, true≢false, ◌&&◌, nat_lt, nat_le, List, [], ◌∷◌, ◌++◌, length, map, take, drop, if◌then◌else◌, Result, Ok, Err, MatchResult, refl, sym, ap, ◌∙◌, arith}
-use Rattle.std.specs.Result.{is_ok, is_err}
+use Rattle.std.proofs.Common.{◌≡◌, ℕ, suc, ◌+◌, ◌<◌, ◌≤◌, Bool, true, false, true≢false, ◌&&◌, nat_lt, nat_le, List, [], ◌∷◌, ◌++◌, length, map, take, drop, Result, Ok, Err, MatchResult, refl, sym, ap, ◌∙◌, arith}
 use Rattle.std.proofs.lemmas.Bool.{le-leb, lt-leb}
 use Rattle.std.proofs.lemmas.List.{map_push}
 use Rattle.pli_bytes.specs.Changes.{IsPut}
@@ -20,14 +19,20 @@ use Rattle.pli_store.specs.answers.Answered.{Answered}
 use Rattle.pli_store.specs.declared.fault.StoreFault.{StoreFault}
 use Rattle.pli_store.specs.declared.fault.StoreFault.TheVariants.{Raised, NoRule, OutOfMemory}
 use Rattle.pli_store.specs.declared.generation.Generation.{Generation}
+use Rattle.pli_store.specs.declared.storage.Storage.{Storage}
 use Rattle.pli_store.specs.views.GenerationView.{generation_view}
+use Rattle.pli_store.specs.views.StorageView.{RoomFor}
 use Rattle.pli_store.proofs.HeldScalars.{scalar_of_held}
 
 -- a generation put after the others
-pub pushed_says : {T E : Type 0} (r : Result T E) (items now : List Generation) (g : Generation) → is_err r ≡ false → now ≡ (if is_ok r then items ++ g ∷ [] else items)
+pub pushed_says : (items kept now : List Generation) (g : Generation) → now ≡ kept ++ g ∷ [] → kept ≡ items
     → map generation_view now ≡ map generation_view items ++ generation_view g ∷ []
-pushed_says (Ok x) items now g kept pushed = ap (map generation_view) pushed ∙ map_push generation_view items g
-pushed_says (Err x) items now g kept pushed = cc
+pushed_says items kept now g pushed same = ap (map generation_view) (pushed ∙ ap (λ xs. xs ++ g ∷ []) same) ∙ map_push generation_view items g
+
+-- what a test of room tells, by what it gives
+pub room_told : (s : Storage) (d : Description) (fits : Bool) → (fits ≡ true → RoomFor true s d) → (fits ≡ false → RoomFor false s d) → RoomFor fits s d
+room_told s d true there none = there refl
+room_told s d false there none = none refl
 
 second_fails : (a b : Bool) → b ≡ false → (a && b) ≡ false
 second_fails true b e = e

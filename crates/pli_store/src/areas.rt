@@ -97,7 +97,8 @@ impl<'m> Storage<'m> {
         bytes: &[u8],
     ) -> Result<Locator, StoreFault>
         requires { length bytes.now ≡ size_of (description_view description.now) }
-        ensures answer { (w : World) (vs : List plain.Value) → BeginsWith (description_view description.now) bytes.now vs
+        ensures answer { (w : World) (vs : List plain.Value)
+            → BeginsWith (description_view description.now) bytes.now vs
             → Answered (λ locator. locator) result (with_storage self.old w) (with_storage self.new w)
             (allocated_in (place_view area.entry) (record {
               description = description_view description.now;

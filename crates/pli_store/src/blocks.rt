@@ -1,5 +1,5 @@
 //! Blocks of one generation, where that is an area.
-ghost use Rattle.std.specs.Prelude.{◌≡◌, ◌≤◌, ◌<◌, ℕ, true, None, [], length, IfOk, MatchOption, OnErr};
+ghost use Rattle.std.specs.Prelude.{◌≡◌, ◌≤◌, ◌<◌, ◌%◌, ℕ, true, None, [], length, IfOk, MatchOption, OnErr};
 ghost use Rattle.std.specs.Option.{is_some, option_map};
 ghost use Rattle.pli_area_blocks.specs.answers.Parts.{PartHolds, PartPut, PartStands, placed};
 ghost use Rattle.pli_area_blocks.specs.views.AreaBlocksView.{blocks_view, capacity_of};
@@ -19,6 +19,7 @@ use pli_map::{Description, far_size};
 use std::alloc::{AllocError, Global};
 
 /// The area that a generation of this description begins as, without blocks; `None` where it is none.
+#[inline(always)]
 pub fn new_area<'m>(
     alloc: Global,
     description: &Description,
@@ -31,11 +32,22 @@ pub fn new_area<'m>(
 {
     match description {
         Description::Area(_bytes) => {
-            let area = AreaBlocks::new(alloc, far_size(description) as u32)?;
-            Ok(Some(Box::new(alloc, area)?))
+            let area = boxed_area(alloc, far_size(description) as u32)?;
+            Ok(Some(area))
         }
         _ => Ok(None),
     }
+}
+
+/// An area of so many bytes without blocks.
+#[inline(never)]
+fn boxed_area<'m>(alloc: Global, capacity: u32) -> Result<Box<AreaBlocks<'m>>, AllocError>
+    requires { capacity % 8 ≡ 0 }
+    ensures capacity { IfOk result (λ area. capacity_of area.value ≡ capacity) }
+    ensures blocks { IfOk result (λ area. blocks_view area.value ≡ []) }
+{
+    let area = AreaBlocks::new(alloc, capacity)?;
+    Ok(Box::new(alloc, area)?)
 }
 
 /// The whole description of the block at a position; `None` where no block is there.

@@ -1,5 +1,6 @@
 //! Generations of storage (X3.53).
-ghost use Rattle.std.specs.Prelude.{◌≡◌, true, length};
+ghost use Rattle.std.specs.Prelude.{◌≡◌, ◌<◌, true, length, get_or};
+ghost use Rattle.std.specs.List.{remove};
 ghost use Rattle.std.specs.Option.{is_some};
 ghost use Rattle.pli_map.specs.Scalars.{is_area};
 ghost use Rattle.pli_map.specs.Sizes.{size_of};
@@ -39,4 +40,17 @@ pub struct Generation<'m> {
     ghost inhabited: { is_some area ≡ is_area (description_view description.now) },
     ghost roomy: { is_area (description_view description.now) ≡ true →
         capacity_in area ≡ size_of (description_view description.now) },
+}
+
+/// The generation at this index, taken out of all; the later ones move down.
+#[inline(always)]
+pub fn take_out<'m>(generations: &mut Vec<Generation<'m>>, at: usize) -> Generation<'m>
+    requires { at < length generations.old.items }
+    ensures value { result ≡ get_or generations.old.items at result }
+    ensures items { generations.new.items ≡ remove generations.old.items at }
+{
+    if at + 1 < generations.len() {
+        return generations.remove(at);
+    }
+    generations.take_last()
 }

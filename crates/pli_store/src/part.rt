@@ -8,7 +8,9 @@ ghost use Rattle.pli_map.specs.Sizes.{number_bytes, size_of};
 ghost use Rattle.pli_map.specs.views.DescriptionView.{description_view, members_view};
 ghost use Rattle.pli_store.specs.answers.Kinds.{are_numbers};
 
-use pli_map::{Bounds, Description, are_same_scalars, first_scalar, stands_among, stands_in};
+use pli_map::{
+    Bounds, Description, are_same_scalars, first_scalar, stands_among, stands_in, stands_in_array,
+};
 use pli_value::short::SHORT_LIMIT;
 
 /// Where a part stands: the index of its generation among those that live, and its offset there, in bytes.
@@ -171,8 +173,8 @@ fn is_member(members: &[Description], offset: u32, part: &Description) -> bool
 }
 
 /// Whether a part of this description stands so many bytes after the beginning of a whole. A scalar that stands alone,
-/// one that is a member of a structure after other scalars, one that is such a member in an array of structures, and a
-/// number and one bit in an array of one dimension, take the short way.
+/// one that is a member of a structure after other scalars, and a number and one bit in an array of one dimension, take
+/// the short way.
 #[inline(always)]
 pub fn is_part(whole: &Description, offset: u32, part: &Description) -> bool
     ensures { result ≡ is_some (first_scalar (description_view whole.now) offset (description_view part.now)) }
@@ -197,5 +199,18 @@ pub fn is_part(whole: &Description, offset: u32, part: &Description) -> bool
             is_member(members, offset, part) || first_scalar(whole, offset, part).is_some()
         }
         _ => stands_in(whole, offset, part),
+    }
+}
+
+/// The same of a whole of so many bytes. A scalar in an array of such, and one that is a member of a structure after
+/// other scalars in an array of such, take a short way too.
+#[inline(always)]
+pub fn is_part_of(whole: &Description, size: usize, offset: u32, part: &Description) -> bool
+    requires { size ≡ size_of (description_view whole.now) }
+    ensures { result ≡ is_some (first_scalar (description_view whole.now) offset (description_view part.now)) }
+{
+    match part {
+        Description::Bit(1) => is_part(whole, offset, part),
+        _ => stands_in_array(whole, size, offset, part) || is_part(whole, offset, part),
     }
 }

@@ -4,7 +4,7 @@ ghost use Rattle.std.specs.Prelude.{◌≡◌, length, IfOk};
 use std::alloc::{AllocError, Global};
 
 /// For how many generations memory is kept at most (own).
-const KEPT_LIMIT: usize = 1000;
+const KEPT_LIMIT: usize = 16_384;
 
 /// How many bytes a generation takes at most whose memory is kept (own).
 const KEPT_BYTES: usize = 256;
@@ -36,7 +36,7 @@ impl SpareBytes {
         Ok(bytes)
     }
 
-    /// Keeps the memory of a small generation; lets any other go, and where there is none to note it.
+    /// Keeps the memory of a small generation; any other is dropped, and also this where there is none to note it.
     #[inline]
     pub fn keep(&mut self, bytes: Vec<u8>) {
         if bytes.len() <= KEPT_BYTES && self.kept.len() < KEPT_LIMIT {

@@ -1,8 +1,9 @@
 //! Storage: the generations that live.
-ghost use Rattle.std.specs.Prelude.{◌≡◌, ◌↔◌, ℕ, ◌≤◌, ◌++◌, List, ◌∷◌, [], length, map, true, false, None, IfOk};
-ghost use Rattle.std.specs.Prelude.{IsTrue, IsFalse, IfSome, MatchOption, MatchResult, OnErr};
+ghost use Rattle.std.specs.Prelude.{◌≡◌, ◌↔◌, ℕ, ◌≤◌, ◌++◌, List, ◌∷◌, [], length, map, min, true, false, None};
+ghost use Rattle.std.specs.Prelude.{IsTrue, IsFalse, IfOk, IfSome, MatchOption, MatchResult, OnErr};
 ghost use Rattle.std.specs.Option.{option_map};
 ghost use Rattle.pli_bytes.specs.Contents.{values_of};
+ghost use Rattle.pli_map.specs.Description as tree;
 ghost use Rattle.pli_map.specs.Description.{Bit, FixedBinary, Pointer};
 ghost use Rattle.pli_map.specs.Scalars.{scalars_of};
 ghost use Rattle.pli_map.specs.Sizes.{size_of};
@@ -25,10 +26,10 @@ use crate::bits::bit_at;
 use crate::blocks::{new_area, whole_at};
 use crate::copying::copy_part;
 use crate::fault::StoreFault;
-use crate::generation::{Generation, Made};
+use crate::generation::{Generation, Made, take_out};
 use crate::living::Target;
 use crate::part::{
-    GenerationPart, greatest_length, is_number_at, is_of_bits, is_one_bit, is_part, is_pointer,
+    GenerationPart, greatest_length, is_number_at, is_of_bits, is_one_bit, is_part_of, is_pointer,
     number_precision, short_length,
 };
 use crate::place::Place;
@@ -38,7 +39,7 @@ use crate::putting::{
 };
 use crate::spare::SpareBytes;
 use pli_bytes::{holds, number_at, put_value_at, short_at, text_at, value_at};
-use pli_map::{Description, are_same_scalars, far_size, is_area, is_scalar};
+use pli_map::{Description, are_same_scalars, is_area, is_scalar, size_at_once};
 use pli_run::RunError;
 use pli_value::{Locator, ShortBits, Value};
 use std::alloc::{AllocError, Global};
@@ -154,8 +155,10 @@ impl<'m> Storage<'m> {
         if place.position != 0 {
             return Err(StoreFault::NoRule);
         }
-        if !is_part(
-            self.generations[at].description,
+        let generation = &self.generations[at];
+        if !is_part_of(
+            generation.description,
+            generation.bytes.len(),
             place.offset,
             place.description,
         ) {
@@ -271,6 +274,19 @@ impl<'m> Storage<'m> {
             Some(at) => number_at(&self.generations[at].bytes, 0, precision),
             None => self.far_number(place, precision),
         }
+    }
+
+    /// The same, where the place mostly leads to an element of an array: that is found at once.
+    #[inline(always)]
+    pub fn element_number(&self, place: Place<'_>) -> Option<i64>
+        ensures { (w : World) → MatchOption result ((precision : ℕ)
+            → description_view place.entry.description.now ≡ FixedBinary precision
+            → LeadsToNone (storage_view self.now) (place_view place.entry))
+            (λ x. held (place_view place.entry) (with_storage self.now w)
+            ≡ Yields (Number x) (with_storage self.now w)) }
+    {
+        let precision = number_precision(place.description)?;
+        self.far_number(place, precision)
     }
 
     /// The bit that the place of a scalar of BIT of one bit holds; `None` where it holds none, or nothing, and for a
@@ -562,6 +578,16 @@ impl<'m> Storage<'m> {
         Ok(())
     }
 
+    /// Whether there is room for a new generation of so many bytes; 2^32 stands for every greater number.
+    #[inline(always)]
+    fn has_room_for(&self, size: u64) -> bool
+        ensures { (d : tree.Description) → min size 4294967296 ≡ min (size_of d) 4294967296
+            → RoomFor result self.now d }
+    {
+        let room = u64::from(BYTE_LIMIT - self.live);
+        self.made < GENERATION_LIMIT && size <= room
+    }
+
     /// How many bytes a new generation of this description takes, if there is room for it.
     #[inline(always)]
     fn size_within(&self, description: &Description) -> Option<usize>
@@ -569,12 +595,12 @@ impl<'m> Storage<'m> {
             (λ size. (size ≡ size_of (description_view description.now))
             × RoomFor true self.now (description_view description.now)) }
     {
-        let size = far_size(description);
-        let room = u64::from(BYTE_LIMIT - self.live);
-        if self.made >= GENERATION_LIMIT || size > room {
-            return None;
+        let size = size_at_once(description);
+        if self.has_room_for(size) {
+            Some(size as usize)
+        } else {
+            None
         }
-        Some(size as usize)
     }
 
     /// Whether there is room for a new generation of this description: no more than 4,294,967,294 are ever made, and no
@@ -637,10 +663,10 @@ impl<'m> Storage<'m> {
             (made_of (description_view description.now) (made_view made) vs (with_storage self.old w)) }
         ensures err { OnErr result (SameStorage self.old self.new) }
     {
-        let Some(size) = self.size_within(description) else {
+        if !self.has_room_for(bytes.len() as u64) {
             return Err(StoreFault::Raised(RunError::StorageLimit));
-        };
-        let mut own = self.spare.take(alloc, size)?;
+        }
+        let mut own = self.spare.take(alloc, bytes.len())?;
         own.copy_from_slice(bytes);
         self.add(description, made, own)
     }
@@ -694,17 +720,15 @@ impl<'m> Storage<'m> {
     {
         let size = bytes.len() as u32;
         let area = new_area(self.alloc, description)?;
+        self.generations.reserve(1)?;
         let place = Place::of_whole(self.made, 0, self.generations.len() as u32, description);
-        let generation = Generation {
+        self.generations.push_reserved(Generation {
             number: self.made,
             description,
             made,
             bytes,
             area,
-        };
-        if self.generations.push(generation).is_err() {
-            return Err(StoreFault::OutOfMemory);
-        }
+        });
         self.made += 1;
         self.live += size;
         Ok(place)
@@ -712,6 +736,7 @@ impl<'m> Storage<'m> {
 
     /// The generations of these numbers end; a number of which none lives changes nothing. Fast where the newest stand
     /// last among the numbers.
+    #[inline(always)]
     pub fn end(&mut self, numbers: &[u32])
         ensures storage { storage_view self.new ≡ without numbers.now (storage_view self.old) }
         ensures made { made_count self.new ≡ made_count self.old }
@@ -722,13 +747,14 @@ impl<'m> Storage<'m> {
     }
 
     /// The generation of this number ends, if it lives.
+    #[inline(never)]
     fn end_one(&mut self, number: u32)
         ensures storage { storage_view self.new ≡ without (number ∷ []) (storage_view self.old) }
         ensures made { made_count self.new ≡ made_count self.old }
     {
         let last = self.generations.len().saturating_sub(1);
         if let Some(at) = self.find(number, last) {
-            let ended = self.generations.remove(at);
+            let ended = take_out(&mut self.generations, at);
             self.live -= ended.bytes.len() as u32;
             self.spare.keep(ended.bytes);
         }

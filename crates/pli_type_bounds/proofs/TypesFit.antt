@@ -6,7 +6,6 @@ use Rattle.std.proofs.lemmas.Bool.Decides.{Decides-eqb}
 use Rattle.std.proofs.lemmas.Option.{same_Some}
 use Rattle.pli_map.specs.Description.{Description, FixedBinary, Character, Varying, Bit, Pointer, Offset, Area, Array, Structure}
 use Rattle.pli_map.specs.ParameterTypes.{ParameterType, Stated, AnyString, AnyArray, ArrayOf, StructureOf, stated, type_if, element_type}
-use Rattle.pli_map.specs.declared.description.Bounds.{Bounds}
 use Rattle.pli_resolve_bounds.specs.SymbolBounds.{IsTaken}
 use Rattle.pli_type_rules.specs.References.{open_part}
 use Rattle.pli_deck_laws.specs.Limits.{IsDescription, IsAnyString, IsOpenElement, IsParameterType}

@@ -236,7 +236,8 @@ fn bound_in(
     number: u64,
     reference: TypedReference,
 ) -> Option<TypedValue>
-    ensures { option_map value_view result ≡ spec.bound_in which number (reference_view reference) (type_seen taken.entry) }
+    ensures { option_map value_view result
+        ≡ spec.bound_in which number (reference_view reference) (type_seen taken.entry) }
 {
     match taken {
         TypeRef::Stated(description) => {

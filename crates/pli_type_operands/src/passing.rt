@@ -101,8 +101,8 @@ fn dummy_for(
     meant: ExpressionMeaning<'_>,
 ) -> Result<Option<TypedArgument>, AllocError>
     ensures { IfOk result (λ passed. (more : tree.TypedArguments) → option_map (λ a. argument_before a more) passed
-        ≡ spec.passed (type_seen taken.entry) None (spec.passed_value greatest (type_seen taken.entry) (meant_view meant.entry))
-        more) }
+        ≡ spec.passed (type_seen taken.entry) None
+        (spec.passed_value greatest (type_seen taken.entry) (meant_view meant.entry)) more) }
 {
     match taken {
         TypeRef::Stated(description) => dummy(alloc, greatest, description, meant),

@@ -1,7 +1,7 @@
 -- Worked examples of ON, REVERT and SIGNAL, and of where the GOTO of an ON-unit leads.
 use Rattle.std.specs.Prelude.{◌≡◌, ◌+◌, ℕ, true, Some, None, List, [], ◌∷◌, codes, Result, Ok, Err}
 use Rattle.pli_base.specs.Statements.{Statement, Numbered, Begin, Do, On, Revert, Signal, Goto}
-use Rattle.pli_base.specs.Statements.{Statements, Ended, Before}
+use Rattle.pli_base.specs.Statements.{Statements}
 use Rattle.pli_base.specs.declared.code.Code.TheVariants.{BadGoto}
 use Rattle.pli_base.specs.declared.statement.Condition.TheVariants.{FixedOverflow}
 use Rattle.pli_base.specs.declared.token.Fault.{Fault}

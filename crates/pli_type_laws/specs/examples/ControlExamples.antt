@@ -19,7 +19,7 @@ use Rattle.pli_type_laws.specs.examples.ExampleTrees.{decimal, of_bits, null, a_
 use Rattle.pli_type_laws.specs.examples.ExampleTrees.{unit_of}
 use Rattle.pli_type_laws.specs.examples.ExampleTrees.{x, n, i, a}
 use Rattle.pli_type_tree.specs.TypedTree as typed
-use Rattle.pli_type_tree.specs.TypedTree.{InSlot, OfBlock, Whole, BlockHead, TypedProcedure, NoArgument}
+use Rattle.pli_type_tree.specs.TypedTree.{InSlot, OfBlock, Whole, BlockHead, NoArgument}
 use Rattle.pli_type_tree.specs.TypedTree.{Fit, ByPlace, ByDummy, NoStatement, StatementThen}
 
 -- `DO V = .. range; ; END;`, whose variable stands at token 1 and its `=` at 2

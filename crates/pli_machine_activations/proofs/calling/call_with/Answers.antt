@@ -12,28 +12,28 @@ pub returns-then-not-is_callable : goal.returns-then-not-is_callable
 returns-then-not-is_callable c = λ image put.
     let m = c.args.machine.now in
     let b = block_looked_up (code_view c.args.ready.now.code.now) (block_view c.args.block.now) in
-    let off = rw c.in-Some.is at c.in_ok-places.ensures in
+    let off = c.in_ok-taken.ensures.taken c.if-not-taken.false in
     called_other m.here.unit c.args.number b c.args.arguments (frame_view m.here) (frames_of m.waiting.items) (world_of image m put) (left_of m)
-    _ (map place_view c.in-Some.places.items) (stack c.pop_places.new.operands.items) off (sym c.is_callable.ensures ∙ c.if-not-is_callable.true)
+    _ (map place_view c.pop_places.new.places.items) (stack c.pop_places.new.operands.items) off (sym c.is_callable.ensures ∙ c.if-not-is_callable.true)
 
-pub returns-in_default-link_of : goal.returns-in_default-link_of
-returns-in_default-link_of c = λ image put.
+pub returns-in_default : goal.returns-in_default
+returns-in_default c = λ image put.
     let m = c.args.machine.now in
     let b = block_looked_up (code_view c.args.ready.now.code.now) (block_view c.args.block.now) in
-    let off = rw c.in-Some.is at c.in_ok-places.ensures in
+    let off = c.in_ok-taken.ensures.taken c.if-not-taken.false in
     called_unlinked m.here.unit c.args.number b c.args.arguments (frame_view m.here) (frames_of m.waiting.items) (world_of image m put) (left_of m)
-    _ (map place_view c.in-Some.places.items) (stack c.pop_places.new.operands.items) off (sym c.is_callable.ensures ∙ c.if-not-is_callable.false)
-    (c.link_of.ensures image put ∙ c.in_default-link_of.is)
+    _ (map place_view c.pop_places.new.places.items) (stack c.pop_places.new.operands.items) off (sym c.is_callable.ensures ∙ c.if-not-is_callable.false)
+    (c.link_of.ensures image put ∙ c.in_default.is)
 
 pub returns : goal.returns
 returns c =
     let m = c.args.machine.now in
     let b = block_looked_up (code_view c.args.ready.now.code.now) (block_view c.args.block.now) in
-    let off = rw c.in-Some.is at c.in_ok-places.ensures in
+    let off = c.in_ok-taken.ensures.taken c.if-not-taken.false in
     IfOk-weaker c.call_block.result _ _
     (λ stop moves image put.
     called_calls m.here.unit c.args.number b c.args.arguments (frame_view m.here) (frames_of m.waiting.items) (world_of image m put) (left_of m)
-    _ (map place_view c.in-Some.places.items) (stack c.pop_places.new.operands.items) off c.in-Some-link_of.link (sym c.is_callable.ensures ∙ c.if-not-is_callable.false)
-    (c.link_of.ensures image put ∙ c.in-Some-link_of.is)
+    _ (map place_view c.pop_places.new.places.items) (stack c.pop_places.new.operands.items) off c.in-Some.link (sym c.is_callable.ensures ∙ c.if-not-is_callable.false)
+    (c.link_of.ensures image put ∙ c.in-Some.is)
     ∙ moves image put)
     c.call_block.ensures

@@ -28,13 +28,12 @@ returns-in-Some-clause-leaves c = λ image put.
       world =
           same_world (world_of image c.args.machine.now put) _ _ _ _ _ _
           (c.end-in-Some.ensures.storage
-          ∙ ap (λ ns. without ns (storage_view c.end.new.self)) c.deref-in-Some.ensures.value
-          ∙ ap (without here.owned.items) (c.end.ensures.storage ∙ ap (λ ns. without ns storage) c.deref.ensures.value)
+          ∙ ap (λ ns. without ns (storage_view c.end.new.self)) (c.deref-in-Some.ensures.value ∙ ap (λ a. a.owned.items) c.replace-ended.ensures.value)
+          ∙ ap (without here.owned.items) (c.end.ensures.storage ∙ ap (λ ns. without ns storage) (c.deref.ensures.value ∙ ap (λ a. a.pending.items) c.replace-ended.ensures.value))
           ∙ sym (without_append here.pending.items here.owned.items storage))
           (c.end-in-Some.ensures.made ∙ c.end.ensures.made)
           (sym (ap (λ xs. reverse (map activation_view xs)) c.in-Some.ensures.items
           ∙ newest_first activation_view c.pop.new.self.items c.in-Some.next
-          ∙ ap (λ ns. record (activation_view c.in-Some.next) { pending = ns } ∷ activations_of c.pop.new.self.items) (sym c.lend.ensures)
           ∙ ap (λ a. activation_view a ∷ activations_of c.pop.new.self.items) (sym c.replace-ended.ensures.after)));
       left = refl;
     }

@@ -11,7 +11,7 @@ use Rattle.pli_code.specs.views.CodeView.{code_view, block_view}
 use Rattle.pli_machine_activations.specs.answers.Making.{EndsAs, first_world}
 use Rattle.pli_machine_activations.specs.views.MachineView.{frame_view, waiting_view, frames_of, world_of, left_of, shown}
 use Rattle.pli_machine_activations.proofs.BeginningLemmas.{no_step, one_step, main_begun, begun_main, ends_main}
-use Rattle.pli_machine_activations.proofs.EnteredBlocks.{enters_goes, enters_stops}
+use Rattle.pli_machine_activations.proofs.EnteredBlocks.{begun_frame, enters_goes, enters_stops}
 use Rattle.pli_machine_activations.proofs.StateLemmas.{goes_on}
 use Rattle.pli_machine_activations.proofs.starting.begin_main.Goals as goal
 
@@ -28,31 +28,35 @@ pub returns-in-Ok : goal.returns-in-Ok
 returns-in-Ok c = λ image named.
     let code = code_view c.args.unit.now.deck.code in
     let b = block_looked_up code (block_view c.args.block.now) in
-    let is = begun_main image c.args.storage c.args.stacks c.in_ok-here.here c.new-3.result.items c.new-4.result.items c.args.number b
-    c.new.result.items c.new-2.result.items
-    c.in_ok-here.ensures.1 c.new.ensures.items c.new-2.ensures.items c.new-3.ensures.items
-    c.new-4.ensures.items in
+    let is = begun_main image c.args.storage c.args.stacks c.activation-here.result c.new-2.result.items c.new-3.result.items c.args.number b
+    c.new.result.items c.new-room.result.owned.items
+    c.activation-here.ensures.activation c.new.ensures.items c.new-room.ensures.owned c.new-2.ensures.items
+    c.new-3.ensures.items in
+    let here = c.activation-here.ensures.frame
+    ∙ begun_frame c.args.number b.entry b.temporaries c.new-room.result.operands.items c.unset.new.temporaries.items c.new-room.ensures.operands c.in_ok-unset.ensures in
     let same = c.in-Ok.ensures.same in
-    let mid = main_begun image c.args.storage c.args.stacks c.in_ok-here.here c.new-3.result.items c.new-4.result.items in
+    let mid = main_begun image c.args.storage c.args.stacks c.activation-here.result c.new-2.result.items c.new-3.result.items in
     one_step c.args.number b c.args.storage c.args.stacks image.statics c.args.limit (c.args.limit - 1) c.requires (omega arith)
     ∙ goes_on _ _
     (enters_goes c.args.number 0 b 0 [] (stepped (first_world c.args.storage c.args.stacks image.statics)) mid is
     [] (c.args.limit - 1)
     (frame_view c.make_variables.new.machine.here) (frames_of c.make_variables.new.machine.waiting.items) (world_of image c.make_variables.new.machine []) (left_of c.make_variables.new.machine)
     (ap (λ ns. made_all (variables_at code ns) mid) (sym c.deref.ensures.value) ∙ c.in-Ok.ensures.made image [])
-    (same.here ∙ c.in_ok-here.ensures.0) (same.frames ∙ ap (λ xs. reverse (map waiting_view xs)) c.new-3.ensures.items) same.left)
+    (same.here ∙ here) (same.frames ∙ ap (λ xs. reverse (map waiting_view xs)) c.new-2.ensures.items) same.left)
 
 pub returns : goal.returns
 returns c = λ image named.
     let code = code_view c.args.unit.now.deck.code in
     let b = block_looked_up code (block_view c.args.block.now) in
-    let is = begun_main image c.args.storage c.args.stacks c.in_ok-here.here c.new-3.result.items c.new-4.result.items c.args.number b
-    c.new.result.items c.new-2.result.items
-    c.in_ok-here.ensures.1 c.new.ensures.items c.new-2.ensures.items c.new-3.ensures.items
-    c.new-4.ensures.items in
+    let is = begun_main image c.args.storage c.args.stacks c.activation-here.result c.new-2.result.items c.new-3.result.items c.args.number b
+    c.new.result.items c.new-room.result.owned.items
+    c.activation-here.ensures.activation c.new.ensures.items c.new-room.ensures.owned c.new-2.ensures.items
+    c.new-3.ensures.items in
+    let here = c.activation-here.ensures.frame
+    ∙ begun_frame c.args.number b.entry b.temporaries c.new-room.result.operands.items c.unset.new.temporaries.items c.new-room.ensures.operands c.in_ok-unset.ensures in
     let last = c.make_variables.new.machine in
     let same = c.in-Err.ensures.same in
-    let mid = main_begun image c.args.storage c.args.stacks c.in_ok-here.here c.new-3.result.items c.new-4.result.items in
+    let mid = main_begun image c.args.storage c.args.stacks c.activation-here.result c.new-2.result.items c.new-3.result.items in
     let v = world_of image last [] in
     let ends = subst (λ ns. EndsAs c.in-Err.fault (made_all (variables_at code ns) mid) v) c.deref.ensures.value (c.in-Err.ensures.made image []) in
     let begun =
@@ -61,5 +65,5 @@ returns c = λ image named.
     (λ s stops. ap shown begun ∙ enters_stops c.args.number 0 b 0 [] (stepped (first_world c.args.storage c.args.stacks image.statics)) mid is
     [] (c.args.limit - 1) c.in-Err.fault s (frame_view last.here) [] v 0 ends stops same.output same.column)
     c.in_ok-ending-in-Err.ensures
-    (ap (λ (f : Frame). slice_get (names_of (program_of image.linked)) f.unit) (same.here ∙ c.in_ok-here.ensures.0) ∙ named)
-    (same.statement ∙ ap (λ (a : pli.Activation). a.statement) c.in_ok-here.ensures.1) (same.output ∙ c.new-4.ensures.items) same.column
+    (ap (λ (f : Frame). slice_get (names_of (program_of image.linked)) f.unit) (same.here ∙ here) ∙ named)
+    (same.statement ∙ ap (λ (a : pli.Activation). a.statement) c.activation-here.ensures.activation) (same.output ∙ c.new-3.ensures.items) same.column

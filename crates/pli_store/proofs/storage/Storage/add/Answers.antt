@@ -10,36 +10,29 @@ use Rattle.pli_store.specs.views.StorageView.{storage_view, with_storage}
 use Rattle.pli_store.proofs.MakingLemmas.{made_there, pushed_says}
 use Rattle.pli_store.proofs.RisingNumbers.{live_added, rise_added, rise_length}
 use Rattle.pli_store.proofs.storage.Storage.add.Goals as goal
-use Rattle.pli_store.proofs.storage.Storage.add.Goals.{Else-is_err}
-
--- the generation that is added
-abbrev added : Else-is_err → plain.Generation
-added c =
-    record {
-      number = c.args.self.now.made;
-      description = description_view c.args.description.now;
-      made = made_view c.args.made;
-      values = values_of (description_view c.args.description.now) c.args.bytes.items;
-      blocks = [];
-    }
-
-says : (c : Else-is_err) → map generation_view c.push.new.self.items ≡ storage_view c.args.self.now ++ added c ∷ []
-says c =
-    pushed_says c.push.result c.args.self.now.generations.items c.push.new.self.items _ (sym c.is_err.ensures.value ∙ c.if-is_err.false) c.push.ensures.items
-    ∙ ap (λ bs. storage_view c.args.self.now ++ record (added c) { blocks = bs } ∷ []) c.in_ok-area.ensures.blocks
 
 pub overflow_cast-len : goal.overflow_cast-len
 overflow_cast-len c =
     let few = rise_length 0 (storage_view c.args.self.now) c.args.self.now.made c.args.self.now.rising in
     let count = length-map c.args.self.now.generations.items generation_view in
     let owned = c.args.self.now.generations.ok.0 in
-    omega (arith, few, count, owned, c.len.ensures)
+    omega (arith, few, count, owned, c.len.ensures, c.reserve.ensures.len)
 
 pub invariant_of-self-2 : goal.invariant_of-self-2
 invariant_of-self-2 c =
     let gs = storage_view c.args.self.now in
-    let e = (goal.at.invariant_of-self-2 c).Else-is_err in
-    let live = ap live_bytes (says e) ∙ live_added gs (added e) in
+    let added : plain.Generation =
+    record {
+      number = c.args.self.now.made;
+      description = description_view c.args.description.now;
+      made = made_view c.args.made;
+      values = values_of (description_view c.args.description.now) c.args.bytes.items;
+      blocks = [];
+    } in
+    let says : map generation_view c.push_reserved.new.self.items ≡ gs ++ added ∷ [] =
+    pushed_says c.args.self.now.generations.items c.reserve.new.self.items c.push_reserved.new.self.items _ c.push_reserved.ensures.items c.reserve.ensures.items
+    ∙ ap (λ bs. gs ++ record added { blocks = bs } ∷ []) c.in_ok-area.ensures.blocks in
+    let live = ap live_bytes says ∙ live_added gs added in
     let counted = c.args.self.now.counted in
     let room = c.requires.room.1 in
     let size = c.requires.size in
@@ -48,15 +41,21 @@ invariant_of-self-2 c =
     record {
       counted = omega (arith, live, counted, size, count, whole_count);
       limited = omega (arith, room, counted, size, count, whole_count);
-      rising = rw (says e, add-one) (rise_added 0 gs c.args.self.now.made (added e) c.args.self.now.rising (omega arith));
+      rising = rw (says, add-one) (rise_added 0 gs c.args.self.now.made added c.args.self.now.rising (omega arith));
     }
 
 pub returns-clause-answer : goal.returns-clause-answer
 returns-clause-answer c = λ w held.
     let d = description_view c.args.description.now in
     let made = c.args.self.now.made in
+    let gs = storage_view c.args.self.now in
     let before = with_storage c.args.self.now w in
+    let added : plain.Generation =
+    record { number = made; description = d; made = made_view c.args.made; values = values_of d c.args.bytes.items; blocks = [] } in
+    let says : map generation_view c.push_reserved.new.self.items ≡ gs ++ added ∷ [] =
+    pushed_says c.args.self.now.generations.items c.reserve.new.self.items c.push_reserved.new.self.items _ c.push_reserved.ensures.items c.reserve.ensures.items
+    ∙ ap (λ bs. gs ++ record added { blocks = bs } ∷ []) c.in_ok-area.ensures.blocks in
     made_there d (made_view c.args.made) (values_of d c.args.bytes.items) before c.requires.room.0 c.requires.room.1 held
-    ∙ ap (λ s. Yields (whole made d) (record before { storage = s; made = suc made })) (sym (says (goal.at.returns-clause-answer c).Else-is_err))
-    ∙ ap (λ n. Yields (whole made d) (record before { storage = map generation_view c.push.new.self.items; made = n })) (sym (add-one made))
-    ∙ ap (λ p. Yields p (record before { storage = map generation_view c.push.new.self.items; made = made + 1 })) (sym c.of_whole-place.ensures)
+    ∙ ap (λ s. Yields (whole made d) (record before { storage = s; made = suc made })) (sym says)
+    ∙ ap (λ n. Yields (whole made d) (record before { storage = map generation_view c.push_reserved.new.self.items; made = n })) (sym (add-one made))
+    ∙ ap (λ p. Yields p (record before { storage = map generation_view c.push_reserved.new.self.items; made = made + 1 })) (sym c.of_whole-place.ensures)

@@ -9,22 +9,22 @@ use Rattle.pli_store.proofs.storage.Storage.end_one.Goals as goal
 pub overflow_cast-self : goal.overflow_cast-self
 overflow_cast-self c =
     let size = ended_size c.args.self.now.generations.items c.args.self.now.made c.args.self.now.rising
-    c.args.number c.in-Some.at c.in-Some.ensures c.remove-ended.result c.remove-ended.ensures.value in
+    c.args.number c.in-Some.at c.in-Some.ensures c.take_out-ended.result c.take_out-ended.ensures.value in
     omega (arith, size, c.args.self.now.counted, c.args.self.now.limited, c.len.ensures)
 
 pub overflow_sub-self : goal.overflow_sub-self
 overflow_sub-self c =
     let size = ended_size c.args.self.now.generations.items c.args.self.now.made c.args.self.now.rising
-    c.args.number c.in-Some.at c.in-Some.ensures c.remove-ended.result c.remove-ended.ensures.value in
+    c.args.number c.in-Some.at c.in-Some.ensures c.take_out-ended.result c.take_out-ended.ensures.value in
     omega (arith, size, c.args.self.now.counted, c.len.ensures)
 
 pub invariant_of-self : goal.invariant_of-self
 invariant_of-self c =
     let size = ended_size c.args.self.now.generations.items c.args.self.now.made c.args.self.now.rising
-    c.args.number c.in-Some.at c.in-Some.ensures c.remove-ended.result c.remove-ended.ensures.value in
+    c.args.number c.in-Some.at c.in-Some.ensures c.take_out-ended.result c.take_out-ended.ensures.value in
     let live = ended_live c.args.self.now.generations.items c.args.self.now.made c.args.self.now.rising
-    c.args.number c.in-Some.at c.in-Some.ensures c.remove-ended.result c.remove-ended.ensures.value in
-    let left = ap (λ l. live_bytes (map generation_view l)) c.remove-ended.ensures.items in
+    c.args.number c.in-Some.at c.in-Some.ensures c.take_out-ended.result c.take_out-ended.ensures.value in
+    let left = ap (λ l. live_bytes (map generation_view l)) c.take_out-ended.ensures.items in
     record {
       counted =
           omega (
@@ -38,16 +38,16 @@ invariant_of-self c =
           );
       limited = omega (arith, c.args.self.now.limited);
       rising =
-          ap (λ l. rise 0 (map generation_view l) c.args.self.now.made) c.remove-ended.ensures.items
+          ap (λ l. rise 0 (map generation_view l) c.args.self.now.made) c.take_out-ended.ensures.items
           ∙ ended_rise c.args.self.now.generations.items c.args.self.now.made c.args.self.now.rising
-          c.args.number c.in-Some.at c.in-Some.ensures c.remove-ended.result c.remove-ended.ensures.value;
+          c.args.number c.in-Some.at c.in-Some.ensures c.take_out-ended.result c.take_out-ended.ensures.value;
     }
 
 pub returns-in-Some-clause-storage : goal.returns-in-Some-clause-storage
 returns-in-Some-clause-storage c =
-    ap (map generation_view) c.remove-ended.ensures.items
+    ap (map generation_view) c.take_out-ended.ensures.items
     ∙ ended_view c.args.self.now.generations.items c.args.self.now.made c.args.self.now.rising c.args.number
-    c.in-Some.at c.in-Some.ensures c.remove-ended.result c.remove-ended.ensures.value
+    c.in-Some.at c.in-Some.ensures c.take_out-ended.result c.take_out-ended.ensures.value
 
 pub returns-in_default-clause-storage : goal.returns-in_default-clause-storage
 returns-in_default-clause-storage c = sym (none_ended (storage_view c.args.self.now) c.args.self.now.made c.args.number c.args.self.now.rising c.in_default.ensures)

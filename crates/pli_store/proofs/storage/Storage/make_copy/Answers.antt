@@ -1,4 +1,4 @@
-use Rattle.std.proofs.Common.{◌≡◌, ap, ◌∙◌, subst, arith}
+use Rattle.std.proofs.Common.{◌≡◌, min, ap, ◌∙◌, subst, arith}
 use Rattle.pli_bytes.specs.Contents.{values_of}
 use Rattle.pli_map.specs.Scalars.{scalars_of}
 use Rattle.pli_map.specs.Values.{are_held}
@@ -9,11 +9,12 @@ use Rattle.pli_store.specs.views.GenerationView.{made_view}
 use Rattle.pli_store.specs.views.StorageView.{place_view, with_storage}
 use Rattle.pli_store.proofs.storage.Storage.make_copy.Goals as goal
 
-pub returns-in_default-clause-answer : goal.returns-in_default-clause-answer
-returns-in_default-clause-answer c = λ w vs begins. c.in_default.ensures w (made_view c.args.made) vs
+pub returns-then-not-has_room_for-clause-answer : goal.returns-then-not-has_room_for-clause-answer
+returns-then-not-has_room_for-clause-answer c = λ w vs begins.
+    c.if-not-has_room_for.ensures (description_view c.args.description.now) (ap (λ n. min n 4294967296) c.requires) w (made_view c.args.made) vs
 
 pub copy_from_slice-requires : goal.copy_from_slice-requires
-copy_from_slice-requires c = omega (arith, c.in_ok-own.own.ok.0, c.in_ok-own.ensures, c.in-Some.ensures.0, c.requires)
+copy_from_slice-requires c = omega (arith, c.in_ok-own.own.ok.0, c.in_ok-own.ensures, c.requires)
 
 pub returns-clause-answer : goal.returns-clause-answer
 returns-clause-answer c = λ w vs begins.
