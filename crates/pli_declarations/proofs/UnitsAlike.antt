@@ -23,12 +23,12 @@ use Rattle.pli_map.specs.Description as described
 use Rattle.pli_map.specs.ParameterTypes.{ParameterType}
 use Rattle.pli_declare.specs.BuiltIns as built_ins
 use Rattle.pli_declare.specs.ResolvedUnits as old
-use Rattle.pli_declare.specs.StatementPlaces as places
+use Rattle.pli_declare_outline.specs.StatementPlaces as places
 use Rattle.pli_declare.specs.Symbols as symbols
 use Rattle.pli_declare.specs.Symbols.{SymbolKind, Variable, OpenParameter, Way, ways_of, class_of}
 use Rattle.pli_declare.specs.declared.block_numbers.BlockRegion.{BlockRegion}
 use Rattle.pli_declare.specs.declared.built_in.BuiltInFunction.{BuiltInFunction}
-use Rattle.pli_declare.specs.declared.statement_places.StatementPlace.{StatementPlace}
+use Rattle.pli_declare_outline.specs.declared.statement_places.StatementPlace.{StatementPlace}
 use Rattle.pli_declare.specs.declared.symbol.NameMeaning.TheVariants as meanings
 use Rattle.pli_declare.specs.declared.symbol.SymbolKey.{SymbolKey}
 use Rattle.pli_declarations.specs.Blocks.{block_regions, block_numbers}

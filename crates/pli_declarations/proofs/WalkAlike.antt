@@ -13,8 +13,8 @@ use Rattle.pli_declare_outline.specs.Outlines as old
 use Rattle.pli_declare_outline.specs.Outlines.{Region, Mark, Entered, PlacedMark, label_marks, expression_marks}
 use Rattle.pli_declare_outline.specs.declared.region.RegionKind.{RegionKind}
 use Rattle.pli_declare_outline.specs.declared.region.RegionKind.TheVariants as kinds
-use Rattle.pli_declare.specs.StatementPlaces as places
-use Rattle.pli_declare.specs.declared.statement_places.StatementPlace.{StatementPlace}
+use Rattle.pli_declare_outline.specs.StatementPlaces as places
+use Rattle.pli_declare_outline.specs.declared.statement_places.StatementPlace.{StatementPlace}
 use Rattle.pli_declarations.specs.Walk.{PlacedStatement, kind_of, regions_begun, until_end, placed, placed_list, statements_of, region_of, own_marks, marks_at, start_of, outline_of}
 
 -- where a statement stands

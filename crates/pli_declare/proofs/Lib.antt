@@ -10,6 +10,7 @@ pub mod ItemsStandAfter
 pub mod LeastFaults
 pub mod MembersFound
 pub mod MembersStandAfter
+pub mod NameLengths
 pub mod NumberListLemmas
 pub mod OwnerLemmas
 pub mod ShapeLemmas

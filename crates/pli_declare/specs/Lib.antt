@@ -19,7 +19,6 @@ pub mod Initials
 pub mod Places
 pub mod ResolvedUnits
 pub mod Sets
-pub mod StatementPlaces
 pub mod Symbols
 pub mod Tables
 pub mod TreeBlocks

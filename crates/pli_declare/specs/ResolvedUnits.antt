@@ -16,12 +16,12 @@ use Rattle.pli_declare.specs.declared.block.Target.{Target}
 use Rattle.pli_declare.specs.declared.block.Target.TheVariants.{Name as AName, Function as AFunction}
 use Rattle.pli_declare.specs.BuiltIns.{function_named}
 use Rattle.pli_declare.specs.BlockNumbers.{block_regions, block_numbers}
-use Rattle.pli_declare.specs.StatementPlaces.{unit_starts, unit_places}
+use Rattle.pli_declare_outline.specs.StatementPlaces.{unit_starts, unit_places}
 use Rattle.pli_declare.specs.Symbols.{Symbol, SymbolFacts, found_in, block_under, number_declared, symbols_of}
 use Rattle.pli_declare.specs.declared.block_numbers.BlockRegion.{BlockRegion}
 use Rattle.pli_declare.specs.declared.block_numbers.ResolvedBlockKind.{ResolvedBlockKind}
 use Rattle.pli_declare.specs.declared.built_in.BuiltInFunction.{BuiltInFunction}
-use Rattle.pli_declare.specs.declared.statement_places.StatementPlace.{StatementPlace}
+use Rattle.pli_declare_outline.specs.declared.statement_places.StatementPlace.{StatementPlace}
 use Rattle.pli_declare.specs.declared.symbol.NameMeaning.{NameMeaning}
 use Rattle.pli_declare.specs.declared.symbol.NameMeaning.TheVariants as meanings
 use Rattle.pli_declare.specs.declared.symbol.SymbolKey.{SymbolKey}

@@ -32,11 +32,12 @@ pub enum BuiltInFunction {
     Offset,
 }
 
-/// Whether the name is this word.
+/// Whether the name is this word. Most names differ in their lengths, which are compared first.
+#[tactic(auto, using(crate::proofs::NameLengths::lengths_differ))]
 fn is_word(name: &Name, word: &[u8]) -> bool
     ensures { result ≡ same_name name.now word.now }
 {
-    name.is(word)
+    name.bytes().len() == word.len() && name.is(word)
 }
 
 /// SUBSTR, or the function of storage of a name.

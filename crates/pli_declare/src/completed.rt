@@ -1,12 +1,7 @@
 //! What the attributes of a name are completed to.
-ghost use Rattle.std.specs.Prelude.{◌≡◌, map, option_map, IfOk};
-ghost use Rattle.pli_map.specs.views.DescriptionView.{description_view};
-ghost use Rattle.pli_map.specs.views.ParameterView.{type_view};
-ghost use Rattle.pli_declare.specs.views.CompletedView.{variable_view, completed_view};
 
 use pli_base::declaration::InitialValue;
 use pli_map::{Bounds, Description, ParameterType};
-use std::alloc::{AllocError, Global};
 
 /// Where the generations of a variable come from.
 #[derive(Clone, Copy)]
@@ -51,77 +46,4 @@ pub enum Completed<'a> {
         result: Option<Description>,
     },
     BuiltIn,
-}
-
-/// Copies a description, if there is one.
-pub fn copied_description(
-    alloc: Global,
-    description: &Option<Description>,
-) -> Result<Option<Description>, AllocError>
-    ensures { IfOk result (λ copied. option_map description_view copied ≡ option_map description_view description.now) }
-{
-    match description {
-        Some(description) => Ok(Some(description.copy(alloc)?)),
-        None => Ok(None),
-    }
-}
-
-/// Copies a type, if there is one.
-fn copied_type(
-    alloc: Global,
-    taken: &Option<ParameterType>,
-) -> Result<Option<ParameterType>, AllocError>
-    ensures { IfOk result (λ copied. option_map type_view copied ≡ option_map type_view taken.now) }
-{
-    match taken {
-        Some(taken) => Ok(Some(taken.copy(alloc)?)),
-        None => Ok(None),
-    }
-}
-
-/// Copies types of parameters.
-fn copied_parameters(
-    alloc: Global,
-    parameters: &[ParameterType],
-) -> Result<Vec<ParameterType>, AllocError>
-    ensures { IfOk result (λ copied. map type_view copied.items ≡ map type_view parameters.now) }
-{
-    let mut copied = Vec::with_capacity(alloc, parameters.len())?;
-    for parameter in parameters {
-        copied.push(parameter.copy(alloc)?)?;
-    }
-    Ok(copied)
-}
-
-impl<'a> Variable<'a> {
-    /// A variable that says the same.
-    pub fn copy(&self, alloc: Global) -> Result<Variable<'a>, AllocError>
-        ensures { IfOk result (λ copied. variable_view copied ≡ variable_view self.now) }
-    {
-        let bounds = Vec::from_slice(alloc, self.bounds.as_slice())?;
-        Ok(Variable {
-            description: copied_description(alloc, &self.description)?,
-            bounds,
-            taken: copied_type(alloc, &self.taken)?,
-            storage: self.storage,
-            scope: self.scope,
-            initial: self.initial,
-        })
-    }
-}
-
-impl<'a> Completed<'a> {
-    /// What says the same.
-    pub fn copy(&self, alloc: Global) -> Result<Completed<'a>, AllocError>
-        ensures { IfOk result (λ copied. completed_view copied ≡ completed_view self.now) }
-    {
-        match self {
-            Completed::Variable(variable) => Ok(Completed::Variable(variable.copy(alloc)?)),
-            Completed::Entry { parameters, result } => Ok(Completed::Entry {
-                parameters: copied_parameters(alloc, parameters.as_slice())?,
-                result: copied_description(alloc, result)?,
-            }),
-            Completed::BuiltIn => Ok(Completed::BuiltIn),
-        }
-    }
 }

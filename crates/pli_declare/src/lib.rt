@@ -10,16 +10,14 @@ mod declaration;
 mod laws;
 mod place;
 mod resolved;
-mod statement_places;
 mod symbol;
 
 pub use block::{BlockDeclarations, Target, Use};
 pub use block_numbers::{BlockRegion, ResolvedBlockKind};
 pub use built_in::{BuiltInFunction, function_named};
-pub use completed::{Completed, DeclaredStorage, ScopeAttribute, Variable, copied_description};
+pub use completed::{Completed, DeclaredStorage, ScopeAttribute, Variable};
 pub use declaration::{Declaration, DeclaredKind};
 pub use laws::{faults_are_least_codes, resolved_examples, worked_examples};
 pub use place::{ItemPlace, Position};
 pub use resolved::{NamedMeanings, Resolved, UnitMeanings};
-pub use statement_places::StatementPlace;
 pub use symbol::{NameMeaning, StorageClass, Symbol, SymbolKey, SymbolKind};

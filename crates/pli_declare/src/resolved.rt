@@ -1,18 +1,16 @@
 //! Resolved units.
-ghost use Rattle.std.specs.Prelude.{◌≡◌, ℕ, nat_eq, map, IfOk};
-ghost use Rattle.indexmap.specs.IndexMap.{get};
+ghost use Rattle.std.specs.Prelude.{◌≡◌, map};
 ghost use Rattle.pli_base.specs.views.StatementView.{unit_view};
 ghost use Rattle.pli_declare_outline.specs.views.OutlineView.{regions_view};
 ghost use Rattle.pli_declare.specs.views.DeclarationView.{declaration_view};
 ghost use Rattle.pli_declare.specs.Resolved.{resolved_of, meaning_at};
 ghost use Rattle.pli_declare.specs.views.BlockView.{block_view, IsResolvedOf};
 
-use crate::block::{BlockDeclarations, Target, copied_blocks, copied_declarations};
+use crate::block::{BlockDeclarations, Target};
 use crate::declaration::Declaration;
 use indexmap::IndexMap;
 use pli_base::statement::Procedure;
 use pli_declare_outline::Region;
-use std::alloc::{AllocError, Global};
 use std::marker::Model;
 
 /// What the names in the attributes of declared names mean, by the tokens of these.
@@ -57,43 +55,6 @@ impl<'a> Model for Resolved<'a> {
 
     ghost invariant = { λ r. IsResolvedOf (unit_view r.unit.now) r.regions.items r.outermost.items r.blocks.items
         r.meanings.uses r.meanings.named.areas r.meanings.named.locators };
-}
-
-/// The same meanings.
-fn copied_meanings(meanings: &IndexMap<u32, Target>) -> Result<IndexMap<u32, Target>, AllocError>
-    ensures { IfOk result (λ copied. (at : ℕ) → get nat_eq copied at ≡ get nat_eq meanings.now at) }
-{
-    meanings.clone()
-}
-
-impl NamedMeanings {
-    /// The same meanings.
-    fn copy(&self) -> Result<NamedMeanings, AllocError>
-        ensures areas { IfOk result (λ copied. (at : ℕ) → get nat_eq copied.areas at ≡ get nat_eq self.now.areas at) }
-        ensures locators { IfOk result (λ copied. (at : ℕ) →
-            get nat_eq copied.locators at ≡ get nat_eq self.now.locators at) }
-    {
-        Ok(NamedMeanings {
-            areas: copied_meanings(&self.areas)?,
-            locators: copied_meanings(&self.locators)?,
-        })
-    }
-}
-
-impl UnitMeanings {
-    /// The same meanings.
-    fn copy(&self) -> Result<UnitMeanings, AllocError>
-        ensures uses { IfOk result (λ copied. (at : ℕ) → get nat_eq copied.uses at ≡ get nat_eq self.now.uses at) }
-        ensures areas { IfOk result (λ copied. (at : ℕ) → get nat_eq copied.named.areas at
-            ≡ get nat_eq self.now.named.areas at) }
-        ensures locators { IfOk result (λ copied. (at : ℕ) →
-            get nat_eq copied.named.locators at ≡ get nat_eq self.now.named.locators at) }
-    {
-        Ok(UnitMeanings {
-            uses: copied_meanings(&self.uses)?,
-            named: self.named.copy()?,
-        })
-    }
 }
 
 impl<'a> Resolved<'a> {
@@ -166,17 +127,5 @@ impl<'a> Resolved<'a> {
         ensures { result ≡ meaning_at (resolved_of (unit_view self.now)).locators at }
     {
         self.meanings.named.locators.get(&at).copied()
-    }
-    /// A resolved unit of the same tree.
-    pub fn copy(&self, alloc: Global) -> Result<Resolved<'a>, AllocError>
-        ensures { IfOk result (λ copied. copied ≡ self.now) }
-    {
-        Ok(Resolved {
-            unit: self.unit,
-            regions: Vec::from_slice(alloc, &self.regions)?,
-            outermost: copied_declarations(alloc, &self.outermost)?,
-            blocks: copied_blocks(alloc, &self.blocks)?,
-            meanings: self.meanings.copy()?,
-        })
     }
 }

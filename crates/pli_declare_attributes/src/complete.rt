@@ -14,25 +14,22 @@ ghost use Rattle.pli_declare.specs.Faults.{returned_in};
 ghost use Rattle.pli_declare.specs.Faults as spec;
 ghost use Rattle.pli_declare.specs.Completed.{storage_at, storage_of, scope_of, open_type, variable_of};
 ghost use Rattle.pli_declare.specs.Completed.{completed_of};
-ghost use Rattle.pli_declare.specs.views.CompletedView.{variable_view, completed_view, IsCompleted};
+ghost use Rattle.pli_declare.specs.views.CompletedView.{variable_view, completed_view};
 ghost use Rattle.pli_declare.specs.views.CompletedView.{IsResult};
 
 use crate::extents::{all_described, any_star};
 use crate::facts::ItemFacts;
-use crate::faults::{item_fault, may_be_open, result_fault};
+use crate::faults::{may_be_open, result_fault};
 use crate::initials::values_of;
 use crate::parts::{parameters_of, returned_of};
 use crate::set::AttributeSet;
 use crate::summary::Summary;
 use crate::types::{element, scalar};
+use pli_base::Code;
 use pli_base::declaration::{Attribute, DescribedAttribute, ParameterDescription, WrittenBounds};
-use pli_base::{Code, Failure};
 use pli_declare::{Completed, DeclaredStorage, ItemPlace, Position, ScopeAttribute, Variable};
 use pli_map::{Bounds, Description, ParameterType, array_of, size};
 use std::alloc::{AllocError, Global};
-
-/// Why there is nothing to which an item's attributes are completed: its least fault, or that memory was refused.
-pub type AttributeError = Failure<Code>;
 
 /// The storage class: AUTOMATIC by default; EXTERNAL implies STATIC unless CONTROLLED stands.
 fn storage(set: AttributeSet) -> DeclaredStorage
@@ -246,19 +243,17 @@ fn variable<'a>(
     })
 }
 
-/// What an item is, by its attributes with their defaults; or the least of A3 to A7, A9 and A13 to A15 that holds,
-/// apart from faults of the names and the level that stand in it (own). Memory is taken only where the attributes have
-/// no fault.
+/// What an item is, by its attributes with their defaults, where it has no fault. Its attributes are not looked through
+/// for faults again.
 pub fn completed_item<'a>(
     alloc: Global,
     place: ItemPlace,
     facts: &ItemFacts<'a>,
-) -> Result<Completed<'a>, AttributeError>
-    ensures { IsCompleted result place (item_view facts.now.item.now) }
+) -> Result<Completed<'a>, AllocError>
+    requires { spec.item_fault place (item_view facts.now.item.now) ≡ None }
+    ensures { IfOk result (λ completed. completed_view completed
+        ≡ completed_of place (item_view facts.now.item.now)) }
 {
-    if let Some(code) = item_fault(place, facts) {
-        return Err(AttributeError::Fault(code));
-    }
     let attributes = facts.item.attributes.as_slice();
     let set = facts.summary.set;
     if set.has(AttributeSet::ENTRY) {

@@ -1,7 +1,7 @@
 //! What items take by their attributes and dimensions alone, without a tree.
 ghost use Rattle.std.specs.Prelude.{◌≡◌, ◌+◌, ◌*◌, false, map};
 ghost use Rattle.std.specs.Int.{next_multiple_of};
-ghost use Rattle.pli_base.specs.views.DeclarationView.{attribute_view};
+ghost use Rattle.pli_base.specs.views.DeclarationView.{attribute_view, item_view};
 ghost use Rattle.pli_map.specs.Layouts.{IsLayout};
 ghost use Rattle.pli_map.specs.Sizes.{count_of, size_of, alignment_of};
 ghost use Rattle.pli_declare.specs.Sets.{outermost};
@@ -9,6 +9,7 @@ ghost use Rattle.pli_declare.specs.Extents.{are_bad_bounds, all_bounds};
 ghost use Rattle.pli_declare.specs.Faults.{described_scalar};
 ghost use Rattle.pli_declare.specs.Types.{number_or, scalar_of};
 
+use crate::facts::ItemFacts;
 use crate::initials::elements;
 use crate::set::AttributeSet;
 use crate::summary::Summary;
@@ -70,6 +71,16 @@ pub fn scalar_layout(attributes: &[Attribute]) -> Option<Layout>
         IsLayout result (size_of d) (alignment_of d) }
 {
     summary_layout(Summary::of_item(attributes))
+}
+
+impl ItemFacts<'_> {
+    /// What the type takes that the item's attributes say, or `None` where it is over the limit.
+    pub fn layout(&self) -> Option<Layout>
+        ensures { let d = described_scalar (map outermost (item_view self.now.item.now).attributes) in
+            IsLayout result (size_of d) (alignment_of d) }
+    {
+        summary_layout(self.summary)
+    }
 }
 
 /// What an array takes of these dimensions, which are good, and of elements of this layout; or `None` where it is over

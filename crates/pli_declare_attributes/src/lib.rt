@@ -17,8 +17,8 @@ mod set;
 mod summary;
 mod types;
 
-pub use complete::{AttributeError, completed_item, completed_result};
-pub use described::{array_description, has_star, scalar_description};
+pub use complete::{completed_item, completed_result};
+pub use described::{array_description, scalar_description};
 pub use facts::ItemFacts;
 pub use faults::{item_fault, lesser, result_fault};
 pub use initials::elements_within;

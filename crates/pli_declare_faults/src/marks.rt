@@ -148,7 +148,7 @@ fn tell_used(
                 faults,
             )
         }
-        Mark::Used(names) => tell_reference(alloc, scopes, here, names, faults, uses),
+        Mark::Used(names) => { tell_reference(alloc, scopes, here, names.as_slice(), faults, uses) }
         Mark::Jumped(label) => tell_jump(scopes, here, *label, faults, uses),
     }
 }

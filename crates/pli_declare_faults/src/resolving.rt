@@ -11,10 +11,11 @@ ghost use Rattle.pli_declare.specs.Resolution.{outline_faults};
 ghost use Rattle.pli_declare.specs.Resolved.{block_at, of_marks, uses_at, areas_at, locators_at};
 ghost use Rattle.pli_declare.specs.views.BlockView.{block_view, AreMeanings};
 ghost use Rattle.pli_declare.specs.views.ResolvedView.{IsResolved};
+ghost use Rattle.pli_declare_faults.specs.answers.Answers.{AreKnown};
 ghost use Rattle.pli_declare_faults.specs.answers.Walks.{AreParameters};
 
 use crate::meanings::meanings;
-use crate::parameters::parameters;
+use crate::parameters::{judged_blocks, parameters};
 use crate::scopes::Scopes;
 use crate::unit::{Told, outline_told};
 use pli_base::statement::Procedure;
@@ -24,7 +25,7 @@ use pli_declare_constructs::Nesting;
 use pli_declare_found::searched_tables;
 use pli_declare_outline::Outline;
 use pli_declare_tables::{Tables, owners_stand_before};
-use pli_declare_variables::declare;
+use pli_declare_variables::{Judged, declare, judge};
 use std::alloc::{AllocError, Global};
 
 /// Why there is no resolved unit: all faults of declarations and uses, in the order of their tokens, or that memory was
@@ -37,17 +38,20 @@ fn declared_block<'a>(
     outline: &Outline<'a>,
     tables: &Tables<'a>,
     parameters: &[Vec<Name>],
+    judged: &[Vec<Judged>],
     block: usize,
 ) -> Result<BlockDeclarations<'a>, AllocError>
     requires tabled { AreOf tables.now (outline_view outline.now) }
     requires faultless { outline_faults (outline_view outline.now) (outline_view outline.now).marks ≡ [] }
     requires parameters { AreParameters (map (λ list. list.items) parameters.now) (outline_view outline.now) }
+    requires known { AreKnown (map (λ list. list.items) judged.now) (outline_view outline.now) }
     requires within { block < length outline.now.regions.items }
     ensures { IfOk result (λ made. block_view made ≡ block_at (outline_view outline.now) block) }
 {
     owners_stand_before();
     let names = &parameters[block];
-    let declarations = declare(alloc, &tables.blocks[block].entries, names)?;
+    let known = &judged[block];
+    let declarations = declare(alloc, &tables.blocks[block].entries, names, known)?;
     Ok(BlockDeclarations {
         parameters: Vec::from_slice(alloc, names)?,
         declarations,
@@ -59,16 +63,20 @@ fn blocks<'a>(
     alloc: Global,
     outline: &Outline<'a>,
     tables: &Tables<'a>,
+    parameters: &[Vec<Name>],
+    judged: &[Vec<Judged>],
 ) -> Result<Vec<BlockDeclarations<'a>>, AllocError>
     requires tabled { AreOf tables.now (outline_view outline.now) }
+    requires parameters { AreParameters (map (λ list. list.items) parameters.now) (outline_view outline.now) }
+    requires known { AreKnown (map (λ list. list.items) judged.now) (outline_view outline.now) }
     requires faultless { outline_faults (outline_view outline.now) (outline_view outline.now).marks ≡ [] }
     ensures { IfOk result (λ blocks. map block_view blocks.items
         ≡ map (block_at (outline_view outline.now)) (numbers_from 0 (length (outline_view outline.now).regions))) }
 {
-    let parameters = parameters(alloc, outline)?;
-    let mut blocks = Vec::new(alloc);
+    let mut blocks = Vec::with_capacity(alloc, outline.regions.len())?;
     for block in 0..outline.regions.len() {
-        blocks.push(declared_block(alloc, outline, tables, &parameters, block)?)?;
+        let declared = declared_block(alloc, outline, tables, parameters, judged, block)?;
+        blocks.push(declared)?;
     }
     Ok(blocks)
 }
@@ -84,7 +92,9 @@ fn outermost<'a>(
     ensures { IfOk result (λ declarations. map declaration_view declarations.items
         ≡ declared_in (unit_entries (outline_view outline.now).marks) []) }
 {
-    declare(alloc, &tables.unit.entries, &[])
+    let entries = tables.unit.entries.as_slice();
+    let judged = judge(alloc, entries, &[])?;
+    declare(alloc, entries, &[], &judged)
 }
 
 /// What names mean, by their tokens.
@@ -108,11 +118,16 @@ fn resolved<'a>(
     alloc: Global,
     unit: &'a Procedure,
     scopes: &Scopes<'_, 'a>,
+    parameters: &[Vec<Name>],
+    judged: &[Vec<Judged>],
     told: &Told,
 ) -> Result<Resolved<'a>, AllocError>
     requires outlined { outline_view scopes.now.outline.now ≡ outline_of (unit_view unit.now) }
     requires faultless { outline_faults (outline_view scopes.now.outline.now)
         (outline_view scopes.now.outline.now).marks ≡ [] }
+    requires parameters { AreParameters (map (λ list. list.items) parameters.now)
+        (outline_view scopes.now.outline.now) }
+    requires known { AreKnown (map (λ list. list.items) judged.now) (outline_view scopes.now.outline.now) }
     requires uses { told.now.uses.items ≡ of_marks (uses_at (outline_view scopes.now.outline.now))
         (inner_marks (outline_view scopes.now.outline.now).marks) }
     requires areas { told.now.areas.items ≡ of_marks (areas_at (outline_view scopes.now.outline.now))
@@ -123,7 +138,7 @@ fn resolved<'a>(
 {
     let regions = Vec::from_slice(alloc, &scopes.outline.regions)?;
     let outermost = outermost(alloc, scopes.outline, scopes.tables)?;
-    let blocks = blocks(alloc, scopes.outline, scopes.tables)?;
+    let blocks = blocks(alloc, scopes.outline, scopes.tables, parameters, judged)?;
     let meanings = unit_meanings(alloc, told)?;
     Ok(Resolved::new(unit, regions, outermost, blocks, meanings))
 }
@@ -147,11 +162,13 @@ fn resolve_told<'a>(
         nesting,
         tables,
     };
-    let told = outline_told(alloc, &scopes)?;
+    let parameters = parameters(alloc, outline)?;
+    let judged = judged_blocks(alloc, outline, tables, &parameters)?;
+    let told = outline_told(alloc, &scopes, &judged)?;
     if !told.faults.is_empty() {
         return Err(ResolveError::Fault(told.faults));
     }
-    Ok(resolved(alloc, unit, &scopes, &told)?)
+    Ok(resolved(alloc, unit, &scopes, &parameters, &judged, &told)?)
 }
 
 /// The resolved unit of a tree whose outline is given, or all faults of its declarations and uses: for each declared

@@ -5,18 +5,20 @@ ghost use Rattle.pli_declare_tables.specs.answers.Answers.{AreOf};
 ghost use Rattle.pli_declare.specs.Tables.{inner_marks};
 ghost use Rattle.pli_declare.specs.Resolution.{unit_faults, outline_faults};
 ghost use Rattle.pli_declare.specs.Resolved.{of_marks, uses_at, areas_at, locators_at};
+ghost use Rattle.pli_declare_faults.specs.answers.Answers.{AreKnown};
 ghost use Rattle.pli_declare_faults.specs.answers.Walks.{AreCodes, AreGoodness};
 
 use crate::heading::{heading_code, returned_name_nothing};
 use crate::known::Known;
 use crate::marks::tell_marks;
-use crate::parameters::{judged_blocks, parameters, tell_parameters};
+use crate::parameters::tell_parameters;
 use crate::scopes::Scopes;
 use crate::told::tell;
 use pli_base::{Code, Fault};
 use pli_declare::Use;
 use pli_declare_outline::{Mark, Outline, PlacedMark};
 use pli_declare_tables::Tables;
+use pli_declare_variables::Judged;
 use std::alloc::{AllocError, Global};
 
 /// The least code of each name of each block, of which it is known whether the names in its attributes are good.
@@ -40,9 +42,11 @@ fn codes_of_blocks(
 fn codes_of(
     alloc: Global,
     scopes: &Scopes,
+    judged: &Vec<Vec<Judged>>,
     areas: &mut Vec<Use>,
     locators: &mut Vec<Use>,
 ) -> Result<Vec<Vec<Option<Code>>>, AllocError>
+    requires { AreKnown (map (λ list. list.items) judged.now.items) (outline_view scopes.now.outline.now) }
     ensures codes { IfOk result (λ codes. AreCodes (map (λ list. list.items) codes.items)
         (outline_view scopes.now.outline.now)) }
     ensures areas { let o = outline_view scopes.now.outline.now in
@@ -50,11 +54,9 @@ fn codes_of(
     ensures locators { let o = outline_view scopes.now.outline.now in
         OnOk result (locators.new.items ≡ locators.old.items ++ of_marks (locators_at o) (inner_marks o.marks)) }
 {
-    let parameters = parameters(alloc, scopes.outline)?;
-    let judged = judged_blocks(alloc, scopes.outline, scopes.tables, &parameters)?;
     let known = Known {
         scopes: *scopes,
-        judged: &judged,
+        judged,
     };
     let good = known.names_in_attributes(alloc, areas, locators)?;
     codes_of_blocks(alloc, &known, &good)
@@ -92,11 +94,13 @@ fn tell_unit(
 fn tell_outline(
     alloc: Global,
     scopes: &Scopes,
+    judged: &Vec<Vec<Judged>>,
     faults: &mut Vec<Fault>,
     uses: &mut Vec<Use>,
     areas: &mut Vec<Use>,
     locators: &mut Vec<Use>,
 ) -> Result<(), AllocError>
+    requires { AreKnown (map (λ list. list.items) judged.now.items) (outline_view scopes.now.outline.now) }
     ensures faults { let o = outline_view scopes.now.outline.now in
         OnOk result (faults.new.items ≡ faults.old.items ++ outline_faults o o.marks) }
     ensures uses { let o = outline_view scopes.now.outline.now in
@@ -110,7 +114,7 @@ fn tell_outline(
         return Ok(());
     };
     tell_unit(alloc, scopes.outline, scopes.tables, first, faults)?;
-    let codes = codes_of(alloc, scopes, areas, locators)?;
+    let codes = codes_of(alloc, scopes, judged, areas, locators)?;
     tell_marks(alloc, scopes, &codes, marks, faults, uses)
 }
 
@@ -124,8 +128,13 @@ pub(crate) struct Told {
     pub locators: Vec<Use>,
 }
 
-/// What is told of the marks of an outline.
-pub(crate) fn outline_told(alloc: Global, scopes: &Scopes) -> Result<Told, AllocError>
+/// What is told of the marks of an outline, where this is known of each name of each block.
+pub(crate) fn outline_told(
+    alloc: Global,
+    scopes: &Scopes,
+    judged: &Vec<Vec<Judged>>,
+) -> Result<Told, AllocError>
+    requires { AreKnown (map (λ list. list.items) judged.now.items) (outline_view scopes.now.outline.now) }
     ensures faults { let o = outline_view scopes.now.outline.now in IfOk result (λ told. told.faults.items
         ≡ outline_faults o o.marks) }
     ensures uses { let o = outline_view scopes.now.outline.now in IfOk result (λ told. told.uses.items
@@ -142,6 +151,7 @@ pub(crate) fn outline_told(alloc: Global, scopes: &Scopes) -> Result<Told, Alloc
     tell_outline(
         alloc,
         scopes,
+        judged,
         &mut faults,
         &mut uses,
         &mut areas,

@@ -34,9 +34,9 @@ fn remember_mark(
         Mark::Entered { procedure, .. } => {
             remember_options(alloc, nesting, tables, region, procedure.options.as_slice())
         }
-        Mark::Used(identifiers) if identifiers.len() < 2 => Ok(()),
-        Mark::Used(identifiers) => {
-            let names = names_of(alloc, identifiers)?;
+        Mark::Used(used) if used.as_slice().len() < 2 => Ok(()),
+        Mark::Used(used) => {
+            let names = names_of(alloc, used.as_slice())?;
             remember(alloc, nesting, tables, region, &names)
         }
     }

@@ -1,2 +1,3 @@
 pub mod MarkLemmas
+pub mod UnitParts
 pub mod WalkLemmas

@@ -1,5 +1,5 @@
 -- What walks over statements put, one after another.
-use Rattle.std.proofs.Common.{◌≡◌, ℕ, ◌+◌, length, List, [], ◌∷◌, ◌++◌, ap, ◌∙◌, sym, subst, append_assoc, append-nil, arith, length-append}
+use Rattle.std.proofs.Common.{◌≡◌, ℕ, ◌+◌, length, List, [], ◌∷◌, ◌++◌, Some, ap, ◌∙◌, sym, subst, append_assoc, append-nil, arith, length-append}
 use Rattle.std.proofs.lemmas.List.{map-append}
 use Rattle.pli_base.specs.Statements as tree
 use Rattle.pli_base.specs.Syntax.{Expression}
@@ -7,185 +7,277 @@ use Rattle.pli_base.specs.declared.statement.Condition.{Condition}
 use Rattle.pli_base.specs.views.StatementView.{statement_view, statements_view}
 use Rattle.pli_base.specs.declared.statement.Statement.{Statement}
 use Rattle.pli_declare_outline.specs.Outlines as plain
-use Rattle.pli_declare_outline.specs.Outlines.{placed, expression_marks, region_in, regions_in, regions_of, regions_among, regions_else, body_regions, body_marks, statement_regions, statement_marks, statements_regions, statements_marks, alternative_regions, alternative_marks}
-use Rattle.pli_declare_outline.specs.Walks.{Walked, own_marks}
-use Rattle.pli_declare_outline.specs.views.OutlineView.{region_view, regions_view, marks_view}
+use Rattle.pli_declare_outline.specs.Outlines.{placed, expression_marks, regions_in, regions_of, regions_among, regions_else, alternative_regions, alternative_marks}
+use Rattle.pli_declare_outline.specs.StatementPlaces.{alternative_starts, alternative_places, end_place}
+use Rattle.pli_declare_outline.specs.Walks.{Put, Walked, of_statement, of_statements, of_body, begun, until_end, own_marks}
+use Rattle.pli_declare_outline.specs.views.OutlineView.{region_view, regions_view, starts_view, marks_view}
 use Rattle.pli_declare_outline.specs.declared.region.Region.{Region}
 use Rattle.pli_declare_outline.specs.declared.region.PlacedMark.{PlacedMark}
 use Rattle.pli_declare_outline.specs.declared.region.RegionKind.{RegionKind}
 use Rattle.pli_declare_outline.specs.declared.region.RegionKind.TheVariants as kinds
+use Rattle.pli_declare_outline.specs.declared.statement_places.StatementPlace.{StatementPlace}
+
+-- nothing
+abbrev pub nothing : Put
+nothing = record { regions = []; starts = []; marks = []; places = [] }
+
+-- marks of a region before what is put
+abbrev pub marked : (here : ℕ) → List plain.Mark → Put → Put
+marked here own put =
+    record { regions = put.regions; starts = put.starts; marks = placed here own ++ put.marks; places = put.places }
+
+-- a statement before what is put
+abbrev pub after_place : StatementPlace → Put → Put
+after_place p put =
+    record { regions = put.regions; starts = put.starts; marks = put.marks; places = p ∷ put.places }
+
+-- what is put, and then more
+abbrev pub both : Put → Put → Put
+both put more = record {
+  regions = put.regions ++ more.regions;
+  starts = put.starts ++ more.starts;
+  marks = put.marks ++ more.marks;
+  places = put.places ++ more.places;
+}
+
+-- what an ELSE puts
+abbrev pub of_else : (here next : ℕ) → tree.Alternative → Put
+of_else here next other = record {
+  regions = alternative_regions here next other;
+  starts = alternative_starts other;
+  marks = alternative_marks here next other;
+  places = alternative_places here next other;
+}
 
 -- marks, and then a walk
 pub marks_then : (here : ℕ) (own : List plain.Mark) (regions regions' : List Region) (marks given marks' : List PlacedMark)
-    (rs : List plain.Region) (ms : List plain.PlacedMark) (count : ℕ)
+    (places places' : List StatementPlace) (put : Put) (count : ℕ)
     → marks_view given ≡ marks_view marks ++ placed here own
-    → Walked regions regions' given marks' rs ms count
-    → Walked regions regions' marks marks' rs (placed here own ++ ms) count
-marks_then here own regions regions' marks given marks' rs ms count h w = record {
+    → Walked regions regions' given marks' places places' put count
+    → Walked regions regions' marks marks' places places' (marked here own put) count
+marks_then here own regions regions' marks given marks' places places' put count h w = record {
   regions = w.regions;
-  marks = w.marks ∙ ap (λ xs. xs ++ ms) h ∙ append_assoc (marks_view marks) (placed here own) ms;
+  starts = w.starts;
+  marks = w.marks ∙ ap (λ xs. xs ++ put.marks) h ∙ append_assoc (marks_view marks) (placed here own) put.marks;
+  places = w.places;
+  count = w.count;
+}
+
+-- a statement, and then a walk
+pub place_then : (p : StatementPlace) (regions regions' : List Region) (marks marks' : List PlacedMark)
+    (places given places' : List StatementPlace) (put : Put) (count : ℕ)
+    → given ≡ places ++ p ∷ []
+    → Walked regions regions' marks marks' given places' put count
+    → Walked regions regions' marks marks' places places' (after_place p put) count
+place_then p regions regions' marks marks' places given places' put count h w = record {
+  regions = w.regions;
+  starts = w.starts;
+  marks = w.marks;
+  places = w.places ∙ ap (λ xs. xs ++ put.places) h ∙ append_assoc places (p ∷ []) put.places;
+  count = w.count;
+}
+
+-- a walk, and then the END of a region
+pub then_end : (region end : ℕ) (regions regions' : List Region) (marks marks' : List PlacedMark)
+    (places between places' : List StatementPlace) (put : Put) (count : ℕ)
+    → places' ≡ between ++ end_place region end
+    → Walked regions regions' marks marks' places between put count
+    → Walked regions regions' marks marks' places places' (until_end put region end) count
+then_end region end regions regions' marks marks' places between places' put count h w = record {
+  regions = w.regions;
+  starts = w.starts;
+  marks = w.marks;
+  places = h ∙ ap (λ xs. xs ++ end_place region end) w.places ∙ append_assoc places put.places (end_place region end);
   count = w.count;
 }
 
 -- a region, and then a walk in it
 pub region_then : (r : Region) (number count : ℕ) (regions given regions' : List Region) (marks marks' : List PlacedMark)
-    (rs : ℕ → ℕ → List plain.Region) (ms : ℕ → ℕ → List plain.PlacedMark)
+    (places places' : List StatementPlace) (put : ℕ → ℕ → Put)
     → number ≡ length regions
     → given ≡ regions ++ r ∷ []
-    → Walked given regions' marks marks' (rs number (length given)) (ms number (length given)) count
-    → Walked regions regions' marks marks' (region_view r ∷ rs (length regions) (length regions + 1))
-    (ms (length regions) (length regions + 1)) (1 + count)
-region_then r number count regions given regions' marks marks' rs ms n h w =
+    → Walked given regions' marks marks' places places' (put number (length given)) count
+    → Walked regions regions' marks marks' places places' (begun r (put (length regions) (length regions + 1))) (1 + count)
+region_then r number count regions given regions' marks marks' places places' put n h w =
     let l : length given ≡ length regions + 1 = ap length h ∙ length-append regions (r ∷ []) in
     let v : regions_view given ≡ regions_view regions ++ region_view r ∷ [] =
     ap regions_view h ∙ map-append region_view regions (r ∷ []) in
-    record {
+    let s : starts_view given ≡ starts_view regions ++ r.statement ∷ [] =
+    ap starts_view h ∙ map-append (λ (x : Region). x.statement) regions (r ∷ []) in
+    let is : put number (length given) ≡ put (length regions) (length regions + 1) =
+    ap (put number) l ∙ ap (λ m. put m (length regions + 1)) n in
+    subst (λ p. Walked regions regions' marks marks' places places' (begun r p) (1 + count)) is
+    (record {
       regions =
           w.regions
-          ∙ ap (λ xs. xs ++ rs number (length given)) v
-          ∙ append_assoc (regions_view regions) (region_view r ∷ []) (rs number (length given))
-          ∙ ap (λ m. regions_view regions ++ region_view r ∷ rs number m) l
-          ∙ ap (λ m. regions_view regions ++ region_view r ∷ rs m (length regions + 1)) n;
-      marks = w.marks ∙ ap (λ m. marks_view marks ++ ms number m) l ∙ ap (λ m. marks_view marks ++ ms m (length regions + 1)) n;
+          ∙ ap (λ xs. xs ++ (put number (length given)).regions) v
+          ∙ append_assoc (regions_view regions) (region_view r ∷ []) (put number (length given)).regions;
+      starts =
+          w.starts
+          ∙ ap (λ xs. xs ++ (put number (length given)).starts) s
+          ∙ append_assoc (starts_view regions) (r.statement ∷ []) (put number (length given)).starts;
+      marks = w.marks;
+      places = w.places;
       count = omega (arith, w.count, l);
-    }
+    })
 
 -- a walk, and then another
 pub walked_then : (regions given regions' : List Region) (marks between marks' : List PlacedMark)
-    (rs : List plain.Region) (ms : List plain.PlacedMark) (count : ℕ)
-    (rs' : ℕ → List plain.Region) (ms' : ℕ → List plain.PlacedMark) (count' : ℕ)
-    → Walked regions given marks between rs ms count
-    → Walked given regions' between marks' (rs' (length given)) (ms' (length given)) count'
-    → Walked regions regions' marks marks' (rs ++ rs' (length regions + count)) (ms ++ ms' (length regions + count)) (count + count')
-walked_then regions given regions' marks between marks' rs ms count rs' ms' count' v w = record {
-  regions =
-      w.regions
-      ∙ ap (λ xs. xs ++ rs' (length given)) v.regions
-      ∙ append_assoc (regions_view regions) rs (rs' (length given))
-      ∙ ap (λ n. regions_view regions ++ (rs ++ rs' n)) v.count;
-  marks =
-      w.marks
-      ∙ ap (λ xs. xs ++ ms' (length given)) v.marks
-      ∙ append_assoc (marks_view marks) ms (ms' (length given))
-      ∙ ap (λ n. marks_view marks ++ (ms ++ ms' n)) v.count;
-  count = omega (arith, v.count, w.count);
-}
+    (places among places' : List StatementPlace) (put : Put) (count : ℕ) (more : ℕ → Put) (count' : ℕ)
+    → Walked regions given marks between places among put count
+    → Walked given regions' between marks' among places' (more (length given)) count'
+    → Walked regions regions' marks marks' places places' (both put (more (length regions + count))) (count + count')
+walked_then regions given regions' marks between marks' places among places' put count more count' v w =
+    subst (λ n. Walked regions regions' marks marks' places places' (both put (more n)) (count + count')) v.count
+    (record {
+      regions =
+          w.regions
+          ∙ ap (λ xs. xs ++ (more (length given)).regions) v.regions
+          ∙ append_assoc (regions_view regions) put.regions (more (length given)).regions;
+      starts =
+          w.starts
+          ∙ ap (λ xs. xs ++ (more (length given)).starts) v.starts
+          ∙ append_assoc (starts_view regions) put.starts (more (length given)).starts;
+      marks =
+          w.marks
+          ∙ ap (λ xs. xs ++ (more (length given)).marks) v.marks
+          ∙ append_assoc (marks_view marks) put.marks (more (length given)).marks;
+      places =
+          w.places
+          ∙ ap (λ xs. xs ++ (more (length given)).places) v.places
+          ∙ append_assoc places put.places (more (length given)).places;
+      count = omega (arith, v.count, w.count);
+    })
 
 -- nothing is put
-pub nothing_walked : (regions : List Region) (marks : List PlacedMark) → Walked regions regions marks marks [] [] 0
-nothing_walked regions marks =
+pub nothing_walked : (regions : List Region) (marks : List PlacedMark) (places : List StatementPlace)
+    → Walked regions regions marks marks places places nothing 0
+nothing_walked regions marks places =
     record {
       regions = sym (append-nil (regions_view regions));
+      starts = sym (append-nil (starts_view regions));
       marks = sym (append-nil (marks_view marks));
+      places = sym (append-nil places);
       count = omega arith;
     }
 
+-- what is put for a list of statements
+abbrev pub AllWalked : (here : ℕ) → List Statement → (regions regions' : List Region) → (marks marks' : List PlacedMark)
+    → (places places' : List StatementPlace) → Type 0
+AllWalked here ss regions regions' marks marks' places places' =
+    Walked regions regions' marks marks' places places' (of_statements here (length regions) (statements_view ss))
+    (regions_among (statements_view ss))
+
 -- nothing is put where no statements are left
-pub none_walked : (here : ℕ) (regions : List Region) (marks : List PlacedMark) (ss : List Statement) → ss ≡ []
-    → Walked regions regions marks marks (statements_regions here (length regions) (statements_view ss))
-    (statements_marks here (length regions) (statements_view ss)) (regions_among (statements_view ss))
-none_walked here regions marks ss e =
-    subst (λ x. Walked regions regions marks marks (statements_regions here (length regions) (statements_view x))
-    (statements_marks here (length regions) (statements_view x)) (regions_among (statements_view x))) (sym e)
-    (nothing_walked regions marks)
+pub none_walked : (here : ℕ) (regions : List Region) (marks : List PlacedMark) (places : List StatementPlace)
+    (ss : List Statement) → ss ≡ []
+    → AllWalked here ss regions regions marks marks places places
+none_walked here regions marks places ss e =
+    subst (λ x. AllWalked here x regions regions marks marks places places) (sym e) (nothing_walked regions marks places)
 
 -- a statement, and then those after it
 pub statements_then : (here : ℕ) (s : Statement) (all more : List Statement)
     (regions given regions' : List Region) (marks between marks' : List PlacedMark)
+    (places among places' : List StatementPlace)
     → all ≡ s ∷ more
-    → Walked regions given marks between (statement_regions here (length regions) (statement_view s))
-    (statement_marks here (length regions) (statement_view s)) (regions_in (statement_view s))
-    → Walked given regions' between marks' (statements_regions here (length given) (statements_view more))
-    (statements_marks here (length given) (statements_view more)) (regions_among (statements_view more))
-    → Walked regions regions' marks marks' (statements_regions here (length regions) (statements_view all))
-    (statements_marks here (length regions) (statements_view all)) (regions_among (statements_view all))
-statements_then here s all more regions given regions' marks between marks' e v w =
-    subst (λ x. Walked regions regions' marks marks' (statements_regions here (length regions) (statements_view x))
-    (statements_marks here (length regions) (statements_view x)) (regions_among (statements_view x))) (sym e)
-    (walked_then regions given regions' marks between marks' _ _ _ (λ n. statements_regions here n (statements_view more))
-    (λ n. statements_marks here n (statements_view more)) _ v w)
+    → Walked regions given marks between places among (of_statement here (length regions) (statement_view s))
+    (regions_in (statement_view s))
+    → AllWalked here more given regions' between marks' among places'
+    → AllWalked here all regions regions' marks marks' places places'
+statements_then here s all more regions given regions' marks between marks' places among places' e v w =
+    subst (λ x. AllWalked here x regions regions' marks marks' places places') (sym e)
+    (walked_then regions given regions' marks between marks' places among places' _ _
+    (λ n. of_statements here n (statements_view more)) _ v w)
+
+-- what is put for what a statement says
+abbrev pub BodyWalked : (here number : ℕ) → tree.Body → (regions regions' : List Region) → (marks marks' : List PlacedMark)
+    → (places places' : List StatementPlace) → Type 0
+BodyWalked here number b regions regions' marks marks' places places' =
+    Walked regions regions' marks marks' places places' (of_body here number (length regions) b) (regions_of b)
 
 -- what a statement is that is a region of statements
-pub data IsRegion : RegionKind → tree.Statements → tree.Body → Type 0 where
+pub data IsRegion : RegionKind → tree.Statements → ℕ → tree.Body → Type 0 where
   procedure : (heading : tree.Heading) (statements : tree.Statements) (end : ℕ)
-      → IsRegion kinds.Procedure statements (tree.Procedure heading statements end)
-  block : (statements : tree.Statements) (end : ℕ) → IsRegion kinds.Begin statements (tree.Begin statements end)
+      → IsRegion kinds.Procedure statements end (tree.Procedure heading statements end)
+  block : (statements : tree.Statements) (end : ℕ) → IsRegion kinds.Begin statements end (tree.Begin statements end)
   group : (control : _) (statements : tree.Statements) (end : ℕ)
-      → IsRegion kinds.Group statements (tree.Do control statements end)
+      → IsRegion kinds.Group statements end (tree.Do control statements end)
+
+-- such a region in another
+abbrev pub region_inside : RegionKind → (here number : ℕ) → Region
+region_inside kind here number = record { kind = kind; outer = Some here; statement = number }
+
+-- what a region of statements puts
+abbrev pub of_region : Region → (next end : ℕ) → tree.Statements → Put
+of_region r next end ss = begun r (until_end (of_statements next (next + 1) ss) next end)
 
 -- its own marks, and then the walk in it
-region_after : (here : ℕ) (kind : RegionKind) (inner : tree.Statements) (b : tree.Body)
-    (regions regions' : List Region) (marks between marks' : List PlacedMark)
-    → IsRegion kind inner b
+region_after : (here number : ℕ) (kind : RegionKind) (inner : tree.Statements) (end : ℕ) (b : tree.Body)
+    (regions regions' : List Region) (marks between marks' : List PlacedMark) (places places' : List StatementPlace)
+    → IsRegion kind inner end b
     → marks_view between ≡ marks_view marks ++ placed here (own_marks (length regions) b)
-    → Walked regions regions' between marks'
-    (region_in kind here ∷ statements_regions (length regions) (length regions + 1) inner)
-    (statements_marks (length regions) (length regions + 1) inner) (1 + regions_among inner)
-    → Walked regions regions' marks marks' (body_regions here (length regions) b) (body_marks here (length regions) b)
-    (regions_of b)
-region_after here kind inner b regions regions' marks between marks' (procedure heading statements end) own w =
-    marks_then here (own_marks (length regions) (tree.Procedure heading statements end)) regions regions' marks between marks' _ _ _ own w
-region_after here kind inner b regions regions' marks between marks' (block statements end) own w =
-    marks_then here [] regions regions' marks between marks' _ _ _ own w
-region_after here kind inner b regions regions' marks between marks' (group control statements end) own w =
-    marks_then here (own_marks (length regions) (tree.Do control statements end)) regions regions' marks between marks' _ _ _ own w
+    → Walked regions regions' between marks' places places'
+    (of_region (region_inside kind here number) (length regions) end inner) (1 + regions_among inner)
+    → BodyWalked here number b regions regions' marks marks' places places'
+region_after here number kind inner end b regions regions' marks between marks' places places' (procedure heading statements e) own w =
+    marks_then here (own_marks (length regions) (tree.Procedure heading statements e)) regions regions' marks between marks' places places' _ _ own w
+region_after here number kind inner end b regions regions' marks between marks' places places' (block statements e) own w =
+    marks_then here [] regions regions' marks between marks' places places' _ _ own w
+region_after here number kind inner end b regions regions' marks between marks' places places' (group control statements e) own w =
+    marks_then here (own_marks (length regions) (tree.Do control statements e)) regions regions' marks between marks' places places' _ _ own w
 
--- the same of a statement and a list that are known by equations
-pub region_walked : (here number : ℕ) (kind : RegionKind) (inner given : tree.Statements) (b b' : tree.Body)
-    (regions regions' : List Region) (marks between marks' : List PlacedMark)
-    → IsRegion kind inner b
+-- the same of a statement, a list and a region that are known by equations
+pub region_walked : (here number at : ℕ) (kind : RegionKind) (inner given : tree.Statements) (end : ℕ) (b b' : tree.Body)
+    (r : Region) (regions regions' : List Region) (marks between marks' : List PlacedMark)
+    (places places' : List StatementPlace)
+    → IsRegion kind inner end b
     → b' ≡ b
     → given ≡ inner
-    → number ≡ length regions
-    → marks_view between ≡ marks_view marks ++ placed here (own_marks number b')
-    → Walked regions regions' between marks'
-    (region_in kind here ∷ statements_regions (length regions) (length regions + 1) given)
-    (statements_marks (length regions) (length regions + 1) given) (1 + regions_among given)
-    → Walked regions regions' marks marks' (body_regions here (length regions) b')
-    (body_marks here (length regions) b') (regions_of b')
-region_walked here number kind inner given b b' regions regions' marks between marks' i e s n h w =
-    subst (λ x. Walked regions regions' marks marks' (body_regions here (length regions) x)
-    (body_marks here (length regions) x) (regions_of x)) (sym e)
-    (region_after here kind inner b regions regions' marks between marks' i
+    → r ≡ region_inside kind here number
+    → at ≡ length regions
+    → marks_view between ≡ marks_view marks ++ placed here (own_marks at b')
+    → Walked regions regions' between marks' places places' (of_region r (length regions) end given) (1 + regions_among given)
+    → BodyWalked here number b' regions regions' marks marks' places places'
+region_walked here number at kind inner given end b b' r regions regions' marks between marks' places places' i e s q n h w =
+    subst (λ x. BodyWalked here number x regions regions' marks marks' places places') (sym e)
+    (region_after here number kind inner end b regions regions' marks between marks' places places' i
     (h ∙ ap (λ m. marks_view marks ++ placed here (own_marks m b')) n
     ∙ ap (λ x. marks_view marks ++ placed here (own_marks (length regions) x)) e)
-    (subst (λ x. Walked regions regions' between marks'
-    (region_in kind here ∷ statements_regions (length regions) (length regions + 1) x)
-    (statements_marks (length regions) (length regions + 1) x) (1 + regions_among x)) s w))
+    (subst (λ x. Walked regions regions' between marks' places places'
+    (of_region (region_inside kind here number) (length regions) end x) (1 + regions_among x)) s
+    (subst (λ x. Walked regions regions' between marks' places places'
+    (of_region x (length regions) end given) (1 + regions_among given)) q w)))
 
 -- an IF: its own marks, the walk over its first part, and the one over its ELSE
-pub if_walked : (here number : ℕ) (condition : Expression) (part : tree.Statement) (other : tree.Alternative)
+pub if_walked : (here number at : ℕ) (condition : Expression) (part : tree.Statement) (other : tree.Alternative)
     (b : tree.Body) (regions between regions' : List Region) (marks own first marks' : List PlacedMark)
+    (places among places' : List StatementPlace)
     → b ≡ tree.If condition part other
-    → marks_view own ≡ marks_view marks ++ placed here (own_marks number b)
-    → Walked regions between own first (statement_regions here (length regions) part)
-    (statement_marks here (length regions) part) (regions_in part)
-    → Walked between regions' first marks' (alternative_regions here (length between) other)
-    (alternative_marks here (length between) other) (regions_else other)
-    → Walked regions regions' marks marks' (body_regions here (length regions) b)
-    (body_marks here (length regions) b) (regions_of b)
-if_walked here number condition part other b regions between regions' marks own first marks' e h v w =
-    subst (λ x. Walked regions regions' marks marks' (body_regions here (length regions) x)
-    (body_marks here (length regions) x) (regions_of x)) (sym e)
-    (walked_then regions between regions' marks first marks' (statement_regions here (length regions) part)
-    (placed here (expression_marks condition) ++ statement_marks here (length regions) part) (regions_in part)
-    (λ n. alternative_regions here n other) (λ n. alternative_marks here n other) (regions_else other)
-    (marks_then here (expression_marks condition) regions between marks own first _ _ _
-    (h ∙ ap (λ x. marks_view marks ++ placed here (own_marks number x)) e) v)
+    → marks_view own ≡ marks_view marks ++ placed here (own_marks at b)
+    → Walked regions between own first places among (of_statement here (length regions) part) (regions_in part)
+    → Walked between regions' first marks' among places' (of_else here (length between) other) (regions_else other)
+    → BodyWalked here number b regions regions' marks marks' places places'
+if_walked here number at condition part other b regions between regions' marks own first marks' places among places' e h v w =
+    subst (λ x. BodyWalked here number x regions regions' marks marks' places places') (sym e)
+    (walked_then regions between regions' marks first marks' places among places'
+    (marked here (expression_marks condition) (of_statement here (length regions) part)) (regions_in part)
+    (λ n. of_else here n other) (regions_else other)
+    (marks_then here (expression_marks condition) regions between marks own first places among _ _
+    (h ∙ ap (λ x. marks_view marks ++ placed here (own_marks at x)) e) v)
     w)
 
 -- an ON: its region, and the walk over its unit
-pub unit_walked : (here number : ℕ) (condition : Condition) (part : tree.Statement) (b : tree.Body)
-    (regions regions' : List Region) (marks own marks' : List PlacedMark)
+pub unit_walked : (here number at : ℕ) (condition : Condition) (part : tree.Statement) (b : tree.Body) (r : Region)
+    (regions regions' : List Region) (marks own marks' : List PlacedMark) (places places' : List StatementPlace)
     → b ≡ tree.On condition part
-    → marks_view own ≡ marks_view marks ++ placed here (own_marks number b)
-    → Walked regions regions' own marks'
-    (region_in kinds.OnUnit here ∷ statement_regions (length regions) (length regions + 1) part)
-    (statement_marks (length regions) (length regions + 1) part) (1 + regions_in part)
-    → Walked regions regions' marks marks' (body_regions here (length regions) b)
-    (body_marks here (length regions) b) (regions_of b)
-unit_walked here number condition part b regions regions' marks own marks' e h w =
-    subst (λ x. Walked regions regions' marks marks' (body_regions here (length regions) x)
-    (body_marks here (length regions) x) (regions_of x)) (sym e)
-    (marks_then here [] regions regions' marks own marks' _ _ _
-    (h ∙ ap (λ x. marks_view marks ++ placed here (own_marks number x)) e) w)
+    → r ≡ region_inside kinds.OnUnit here number
+    → marks_view own ≡ marks_view marks ++ placed here (own_marks at b)
+    → Walked regions regions' own marks' places places'
+    (begun r (of_statement (length regions) (length regions + 1) part)) (1 + regions_in part)
+    → BodyWalked here number b regions regions' marks marks' places places'
+unit_walked here number at condition part b r regions regions' marks own marks' places places' e q h w =
+    subst (λ x. BodyWalked here number x regions regions' marks marks' places places') (sym e)
+    (marks_then here [] regions regions' marks own marks' places places' _ _
+    (h ∙ ap (λ x. marks_view marks ++ placed here (own_marks at x)) e)
+    (subst (λ x. Walked regions regions' own marks' places places'
+    (begun x (of_statement (length regions) (length regions + 1) part)) (1 + regions_in part)) q w))

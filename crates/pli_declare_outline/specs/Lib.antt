@@ -1,4 +1,5 @@
 pub mod Outlines
+pub mod StatementPlaces
 pub mod Walks
 pub mod examples
 pub mod views

@@ -1,1 +1,2 @@
+pub mod NamesView
 pub mod OutlineView

@@ -4,20 +4,21 @@ ghost use Rattle.pli_base.specs.views.SyntaxView.{expression_view, reference_vie
 ghost use Rattle.pli_base.specs.views.SyntaxView.{joined_view};
 ghost use Rattle.pli_declare_outline.specs.Outlines.{placed, member_names, reference_marks, joined_marks};
 ghost use Rattle.pli_declare_outline.specs.Outlines.{argument_marks, list_marks, expression_marks};
+ghost use Rattle.pli_declare_outline.specs.views.NamesView.{names_view};
 ghost use Rattle.pli_declare_outline.specs.views.OutlineView.{mark_view, marks_view};
 
 use crate::region::{Mark, PlacedMark};
+use crate::used_names::UsedNames;
 use pli_base::syntax::{Expression, Identifier, JoinedPart, Joining, Part, Reference};
 use std::alloc::{AllocError, Global};
 
 /// A name, and those that are joined to it by `.`.
-fn names_of(
-    alloc: Global,
-    name: Identifier,
-    joined: &[JoinedPart],
-) -> Result<Vec<Identifier>, AllocError>
-    ensures { IfOk result (λ names. names.items ≡ name ∷ member_names (joined_view joined.now)) }
+fn names_of(alloc: Global, name: Identifier, joined: &[JoinedPart]) -> Result<UsedNames, AllocError>
+    ensures { IfOk result (λ names. names_view names ≡ name ∷ member_names (joined_view joined.now)) }
 {
+    if joined.is_empty() {
+        return Ok(UsedNames::one(name));
+    }
     let mut names = Vec::with_capacity(alloc, joined.len() + 1)?;
     names.push(name)?;
     for part in joined {
@@ -26,7 +27,7 @@ fn names_of(
             Joining::Located => break,
         }
     }
-    Ok(names)
+    Ok(UsedNames::Several(names))
 }
 
 /// Puts a mark of a region at the end.

@@ -1,5 +1,7 @@
 //! Outlines: what a unit declares and uses, apart from how its statements nest.
 
+use crate::statement_places::StatementPlace;
+use crate::used_names::UsedNames;
 use pli_base::declaration::Item;
 use pli_base::statement::Procedure;
 use pli_base::syntax::Identifier;
@@ -21,6 +23,8 @@ pub enum RegionKind {
 pub struct Region {
     pub kind: RegionKind,
     pub outer: Option<usize>,
+    /// The number of the statement with which it begins: PROCEDURE, BEGIN, DO or ON.
+    pub statement: u32,
 }
 
 /// What the text declares or uses.
@@ -36,7 +40,7 @@ pub enum Mark<'a> {
         region: usize,
     },
     /// The names of a reference between its arrows, as they are joined by `.`; each locator is a reference of its own.
-    Used(Vec<Identifier>),
+    Used(UsedNames),
     /// The label of GOTO.
     Jumped(Identifier),
 }
@@ -48,10 +52,11 @@ pub struct PlacedMark<'a> {
     pub mark: Mark<'a>,
 }
 
-/// The outline of a unit: its regions, numbered from 0 in the order in which they begin, and its marks in the order of
-/// the text.
+/// The outline of a unit: its regions, numbered from 0 in the order in which they begin, its marks in the order of the
+/// text, and its statements in that order, the END of each region among them.
 #[derive(Drop)]
 pub struct Outline<'a> {
     pub regions: Vec<Region>,
     pub marks: Vec<PlacedMark<'a>>,
+    pub places: Vec<StatementPlace>,
 }

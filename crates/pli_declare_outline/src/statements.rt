@@ -14,8 +14,9 @@ ghost use Rattle.pli_declare_outline.specs.Walks.{own_marks};
 ghost use Rattle.pli_declare_outline.specs.views.OutlineView.{regions_view, marks_view, outline_view};
 
 use crate::expressions::{mark, mark_expression, mark_expressions, mark_reference};
-use crate::region::{Mark, Outline, PlacedMark, Region, RegionKind};
-use pli_base::statement::{Allocation, Body, Control, Procedure, Range, Statement};
+use crate::region::{Mark, PlacedMark};
+use crate::used_names::UsedNames;
+use pli_base::statement::{Allocation, Body, Control, Range, Statement};
 use pli_base::syntax::{Expression, Reference};
 use std::alloc::{AllocError, Global};
 
@@ -142,8 +143,7 @@ fn mark_allocation(
     ensures { OnOk result (marks_view marks.new.items
         ≡ marks_view marks.old.items ++ placed here (allocation_marks (allocation_view allocation.now))) }
 {
-    let mut names = Vec::with_capacity(alloc, 1)?;
-    names.push(allocation.name)?;
+    let names = UsedNames::one(allocation.name);
     mark(here, Mark::Used(names), marks)?;
     mark_both(alloc, here, &allocation.area, &allocation.target, marks)
 }
@@ -206,8 +206,7 @@ pub fn mark_head<'a>(
         }
         Body::Free(references) => mark_references(alloc, here, references.as_slice(), marks),
         Body::Call { name, arguments } => {
-            let mut names = Vec::with_capacity(alloc, 1)?;
-            names.push(*name)?;
+            let names = UsedNames::one(*name);
             mark(here, Mark::Used(names), marks)?;
             match arguments {
                 None => Ok(()),

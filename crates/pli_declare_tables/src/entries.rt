@@ -27,6 +27,7 @@ fn add_names<'a>(names: &mut Vec<NamedItem<'a>>, facts: ItemFacts<'a>) -> Result
     ensures { OnOk result (map named_view names.new.items ≡ map named_view names.old.items
         ++ named (item_view facts.entry.item.now)) }
 {
+    names.reserve(facts.item.names.len())?;
     for identifier in facts.item.names.iter() {
         let named = NamedItem {
             identifier: *identifier,
@@ -43,7 +44,7 @@ fn add_names<'a>(names: &mut Vec<NamedItem<'a>>, facts: ItemFacts<'a>) -> Result
 fn names_of<'a>(alloc: Global, items: &'a [Item]) -> Result<Vec<NamedItem<'a>>, AllocError>
     ensures { IfOk result (λ names. map named_view names.items ≡ flat_map named (map item_view items.now)) }
 {
-    let mut names = Vec::new(alloc);
+    let mut names = Vec::with_capacity(alloc, items.len())?;
     for item in items {
         add_names(&mut names, ItemFacts::of(alloc, item)?)?;
     }
@@ -125,6 +126,7 @@ fn declare_items<'a>(
     let names = names_of(alloc, items)?;
     let levels = levels_of(alloc, &names)?;
     let standings = standings(alloc, &levels)?;
+    entries.reserve(names.len())?;
     add_items(entries, &names, &standings)
 }
 

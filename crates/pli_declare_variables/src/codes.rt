@@ -1,5 +1,5 @@
 //! The least fault of each item of a block, apart from names.
-ghost use Rattle.std.specs.Prelude.{◌≡◌, true, map, length, List, IfOk};
+ghost use Rattle.std.specs.Prelude.{◌≡◌, map, length, List, IfOk};
 ghost use Rattle.pli_base.specs.Name.{Name as Characters};
 ghost use Rattle.pli_base.specs.views.DeclarationView.{item_view};
 ghost use Rattle.pli_declare.specs.Faults as fault;
@@ -7,30 +7,25 @@ ghost use Rattle.pli_declare_attributes.specs.answers.Cuts.{cut_place};
 ghost use Rattle.pli_declare.specs.declared.place.ItemPlace.{ItemPlace as SpecPlace};
 ghost use Rattle.pli_declare.specs.Tables.{numbers_from};
 ghost use Rattle.pli_declare_tables.specs.views.TableView.{entry_view, entries_view};
-ghost use Rattle.pli_declare.specs.answers.Owners.{AreAfterOwners};
 ghost use Rattle.pli_declare.specs.Places.{no_item, item_in};
 ghost use Rattle.pli_declare.specs.Places as place;
-ghost use Rattle.pli_declare.specs.Declarations.{AreGood};
-ghost use Rattle.pli_declare_variables.specs.answers.Declaring.{IsFaultless};
 ghost use Rattle.pli_declare_variables.specs.answers.Walks.{cut_place_in};
 
-use crate::places;
+use pli_base::Code;
 use pli_base::declaration::Item;
-use pli_base::{Code, Name};
 use pli_declare::ItemPlace;
 use pli_declare_attributes::{ItemFacts, item_fault};
 use pli_declare_tables::{Entity, Entry};
 use std::alloc::{AllocError, Global};
 
 /// The fault of an entry at its place, whose number of elements above may be cut at the limit, where a label and a
-/// procedure are as an item without anything. An item that is known to be good has none.
-fn own_code(place: ItemPlace, entry: &Entry, nothing: &ItemFacts, is_good: bool) -> Option<Code>
+/// procedure are as an item without anything.
+fn own_code(place: ItemPlace, entry: &Entry, nothing: &ItemFacts) -> Option<Code>
     requires { item_view nothing.now.item.now ≡ no_item }
-    ensures { (p : SpecPlace) → place ≡ cut_place p → (is_good ≡ true → IsFaultless p (entry_view entry.now).entity)
+    ensures { (p : SpecPlace) → place ≡ cut_place p
         → result ≡ fault.item_fault p (item_in (entry_view entry.now).entity) }
 {
     match &entry.entity {
-        Entity::Item { .. } if is_good => None,
         Entity::Item {
             facts,
             is_bad_level: _,
@@ -51,18 +46,15 @@ fn no_item(alloc: Global) -> Item
     }
 }
 
-/// The least of A3 to A7, A9 and A13 to A15 of entries, each at its place, but for the sizes of whole variables. Where
-/// no item has a fault, only labels and procedures are looked at.
-pub(crate) fn codes_at(
+/// The least of A3 to A7, A9 and A13 to A15 of entries, each at its place, but for the sizes of whole variables.
+pub(crate) fn own_codes(
     alloc: Global,
     entries: &[Entry],
     places: &[ItemPlace],
-    are_good: bool,
 ) -> Result<Vec<Option<Code>>, AllocError>
     requires { length places.now ≡ length entries.now }
     ensures { IfOk result (λ codes. (parameters : List Characters) →
-        (are_good ≡ true → AreGood (entries_view entries.now) parameters)
-        → places.now ≡ map (cut_place_in (entries_view entries.now) parameters) (numbers_from 0 (length entries.now))
+        places.now ≡ map (cut_place_in (entries_view entries.now) parameters) (numbers_from 0 (length entries.now))
         → codes.items ≡ map (place.own_code (entries_view entries.now) parameters)
         (numbers_from 0 (length entries.now))) }
 {
@@ -70,22 +62,7 @@ pub(crate) fn codes_at(
     let nothing = ItemFacts::of(alloc, &nothing)?;
     let mut codes = Vec::with_capacity(alloc, entries.len())?;
     for number in 0..entries.len() {
-        let code = own_code(places[number], &entries[number], &nothing, are_good);
-        codes.push(code)?;
+        codes.push(own_code(places[number], &entries[number], &nothing))?;
     }
     Ok(codes)
-}
-
-/// The same of each entry, where the parameters are those of the procedure that is the block.
-pub(crate) fn own_codes(
-    alloc: Global,
-    entries: &[Entry],
-    parameters: &[Name],
-) -> Result<Vec<Option<Code>>, AllocError>
-    requires { AreAfterOwners (entries_view entries.now) }
-    ensures { IfOk result (λ codes. codes.items ≡ map (place.own_code (entries_view entries.now) parameters.now)
-        (numbers_from 0 (length entries.now))) }
-{
-    let places = places::places(alloc, entries, parameters)?;
-    codes_at(alloc, entries, &places, false)
 }

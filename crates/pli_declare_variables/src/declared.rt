@@ -1,10 +1,6 @@
 //! What the names of a block are declared as, where none of them has a fault of its own.
-ghost use Rattle.std.specs.Prelude.{◌≡◌, ◌<◌, None, map, option_map, length, IfOk};
-ghost use Rattle.pli_base.specs.views.DeclarationView.{item_view};
+ghost use Rattle.std.specs.Prelude.{◌≡◌, ◌<◌, map, option_map, length, IfOk};
 ghost use Rattle.pli_map.specs.views.DescriptionView.{description_view};
-ghost use Rattle.pli_declare.specs.Completed.{completed_of};
-ghost use Rattle.pli_declare.specs.views.CompletedView.{completed_view};
-ghost use Rattle.pli_declare.specs.Faults.{item_fault};
 ghost use Rattle.pli_declare.specs.Tables.{numbers_from};
 ghost use Rattle.pli_declare_tables.specs.views.TableView.{entry_view, entries_view};
 ghost use Rattle.pli_declare.specs.answers.Owners.{AreAfterOwners};
@@ -12,36 +8,20 @@ ghost use Rattle.pli_declare.specs.Places.{members_of};
 ghost use Rattle.pli_declare.specs.Descriptions.{ShapesAreSound};
 ghost use Rattle.pli_declare.specs.Declarations.{AreGood, declared_in};
 ghost use Rattle.pli_declare.specs.views.DeclarationView.{kind_view, declaration_view};
+ghost use Rattle.pli_declare_variables.specs.Judging.{all_judged};
 ghost use Rattle.pli_declare_variables.specs.answers.Declaring.{kind_with, whole_at, IsFaultlessCut};
 
-use crate::codes::codes_at;
 use crate::descriptions::describe;
 use crate::items::is_variable;
-use crate::places;
+use crate::judged::Judged;
 use crate::returned::returned;
 use crate::sizes::members_by_owner;
 use pli_base::{Code, Name};
-use pli_declare::{Completed, Declaration, DeclaredKind, ItemPlace};
-use pli_declare_attributes::{AttributeError, ItemFacts, completed_item};
+use pli_declare::{Declaration, DeclaredKind, ItemPlace};
+use pli_declare_attributes::completed_item;
 use pli_declare_tables::{Entity, Entry};
 use pli_map::Description;
 use std::alloc::{AllocError, Global};
-
-/// What the attributes of an item are completed to, where it has no fault.
-fn completed<'a>(
-    alloc: Global,
-    place: ItemPlace,
-    facts: &ItemFacts<'a>,
-) -> Result<Completed<'a>, AllocError>
-    requires { item_fault place (item_view facts.now.item.now) ≡ None }
-    ensures { IfOk result (λ completed. completed_view completed ≡ completed_of place (item_view facts.now.item.now)) }
-{
-    match completed_item(alloc, place, facts) {
-        Ok(completed) => Ok(completed),
-        Err(AttributeError::OutOfMemory) => Err(AllocError),
-        Err(AttributeError::Fault(_)) => unreachable!(),
-    }
-}
 
 /// The description of an entry that is a variable of its own.
 fn whole_description(
@@ -84,7 +64,7 @@ fn kind<'a>(
             facts,
             is_bad_level: _,
         } => Ok(DeclaredKind::Item {
-            completed: completed(alloc, place, &facts)?,
+            completed: completed_item(alloc, place, &facts)?,
             description,
         }),
         Entity::Label { region } => Ok(DeclaredKind::Label { region }),
@@ -95,29 +75,44 @@ fn kind<'a>(
     }
 }
 
-/// What each name of a block is declared as, where the parameters are those of the procedure that is the block. It
-/// recurs as deep as structures nest, which is no deeper than levels go: at most 255, since no level is a fault.
+/// The least code of each name of which this is known.
+fn codes_of(alloc: Global, judged: &[Judged]) -> Result<Vec<Option<Code>>, AllocError>
+    ensures { IfOk result (λ codes. codes.items ≡ map (λ j. j.code) judged.now) }
+{
+    let mut codes = Vec::with_capacity(alloc, judged.len())?;
+    for one in judged {
+        codes.push(one.code)?;
+    }
+    Ok(codes)
+}
+
+/// What each name of a block is declared as, of which this is known, where the parameters are those of the procedure
+/// that is the block. It recurs as deep as structures nest, which is no deeper than levels go: at most 255, since no
+/// level is a fault.
 pub fn declare<'a>(
     alloc: Global,
     entries: &[Entry<'a>],
     parameters: &[Name],
+    judged: &[Judged],
 ) -> Result<Vec<Declaration<'a>>, AllocError>
     requires owners { AreAfterOwners (entries_view entries.now) }
     requires good { AreGood (entries_view entries.now) parameters.now }
+    requires judged { judged.now ≡ all_judged (entries_view entries.now) parameters.now }
     ensures { IfOk result (λ declarations. map declaration_view declarations.items
         ≡ declared_in (entries_view entries.now) parameters.now) }
 {
-    let places = places::places(alloc, entries, parameters)?;
-    let codes = codes_at(alloc, entries, &places, true)?;
+    let _ = parameters;
+    let codes = codes_of(alloc, judged)?;
     let members = members_by_owner(alloc, entries)?;
     let mut declarations = Vec::with_capacity(alloc, entries.len())?;
     for number in 0..entries.len() {
         let entry = &entries[number];
         let description = whole_description(alloc, entries, &members, &codes, number)?;
+        let known = judged[number];
         declarations.push(Declaration {
             identifier: entry.identifier,
             owner: entry.owner,
-            kind: kind(alloc, places[number], entry, description)?,
+            kind: kind(alloc, known.place, entry, description)?,
         })?;
     }
     Ok(declarations)

@@ -7,10 +7,10 @@ ghost use Rattle.pli_declare.specs.answers.Owners.{AreAfterOwners};
 ghost use Rattle.pli_declare.specs.Places.{members_of};
 ghost use Rattle.pli_declare.specs.Descriptions.{described, members_made, ShapesAreSound};
 
-use crate::items::{attributes, dimensions};
+use crate::items::{dimensions, scalar};
 use crate::sizes::has_bad_shape;
 use pli_base::Code;
-use pli_declare_attributes::{array_description, scalar_description};
+use pli_declare_attributes::array_description;
 use pli_declare_tables::Entry;
 use pli_map::Description;
 use std::alloc::{AllocError, Global};
@@ -38,7 +38,7 @@ pub(crate) fn describe(
     }
     let entry = &entries[number];
     let element = if members[number].is_empty() {
-        scalar_description(attributes(entry))
+        scalar(entry)
     } else {
         match describe_members(alloc, entries, members, codes, number)? {
             Some(inside) => Description::Structure(inside),

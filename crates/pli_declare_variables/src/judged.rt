@@ -6,14 +6,18 @@ ghost use Rattle.pli_declare_variables.specs.Judging.{all_judged};
 
 use crate::codes::own_codes;
 use crate::locators::nameables;
+use crate::places::places;
 use crate::sizes::too_large;
 use pli_base::{Code, Name};
+use pli_declare::ItemPlace;
 use pli_declare_tables::Entry;
 use std::alloc::{AllocError, Global};
 
 /// What is known of a declared name, apart from the names that its attributes have in parentheses.
 #[derive(Clone, Copy)]
 pub struct Judged {
+    /// Where it stands, its elements above counted up to a limit.
+    pub place: ItemPlace,
     /// The least of A3 to A7, A9, A13 to A15, but for the size of the whole variable.
     pub code: Option<Code>,
     /// Whether it is a variable over 1,000,000 bytes.
@@ -33,15 +37,20 @@ pub fn judge(
     requires { AreAfterOwners (entries_view entries.now) }
     ensures { IfOk result (λ judged. judged.items ≡ all_judged (entries_view entries.now) parameters.now) }
 {
-    let codes = own_codes(alloc, entries, parameters)?;
+    let places = places(alloc, entries, parameters)?;
+    let codes = own_codes(alloc, entries, &places)?;
     let large = too_large(alloc, entries, codes.as_slice())?;
     let named = nameables(alloc, entries)?;
     let mut judged = Vec::with_capacity(alloc, entries.len())?;
     for number in 0..entries.len() {
+        let place = places[number];
+        let code = codes[number];
+        let is_too_large = large[number];
         let nameable = named[number];
         judged.push(Judged {
-            code: codes[number],
-            is_too_large: large[number],
+            place,
+            code,
+            is_too_large,
             is_locator: nameable.is_locator,
             is_area: nameable.is_area,
         })?;

@@ -3,7 +3,6 @@
 ghost use Rattle.std.specs.Prelude.{◌≡◌, ◌<◌, ◌+◌, ◌++◌, ◌∷◌, [], ◌&&◌, not, false, map, length, get_or, set, Some};
 ghost use Rattle.std.specs.Prelude.{Option, option_map, OnOk, IfOk, ℕ};
 ghost use Rattle.std.specs.Option.{is_none};
-ghost use Rattle.pli_base.specs.views.DeclarationView.{attribute_view};
 ghost use Rattle.pli_map.specs.Description.{Description, Structure, Members};
 ghost use Rattle.pli_declare.specs.Extents.{all_bounds, are_bad_bounds};
 ghost use Rattle.pli_declare.specs.Faults.{with_bounds, described_scalar};
@@ -18,10 +17,10 @@ ghost use Rattle.pli_declare.specs.Places as places;
 ghost use Rattle.pli_declare.specs.Places.{item_in, members_of};
 ghost use Rattle.pli_declare_variables.specs.declared.sizes.Measured.TheVariants as variants;
 
-use crate::items::{attributes, dimensions, is_starred, is_variable};
+use crate::items::{dimensions, is_starred, is_variable, layout};
 use pli_base::Code;
 use pli_base::declaration::WrittenBounds;
-use pli_declare_attributes::{array_layout, scalar_layout};
+use pli_declare_attributes::array_layout;
 use pli_declare_tables::Entry;
 use pli_map::Layout;
 use std::alloc::{AllocError, Global};
@@ -114,7 +113,7 @@ fn measure(entry: &Entry, members: &[usize], measured: &[Measured]) -> Measured
         (inside describe (described_scalar (map outermost item.attributes)) members.now)) }
 {
     let inside = if members.is_empty() {
-        Measured::of(scalar_layout(attributes(entry)))
+        Measured::of(layout(entry))
     } else {
         structure(members, measured)
     };

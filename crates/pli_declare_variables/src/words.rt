@@ -28,11 +28,11 @@ const BUILT_IN: [&[u8]; 17] = [
     b"OFFSET",
 ];
 
-/// Whether the name is this word.
+/// Whether the name is this word. Most names differ in their lengths, which are compared first.
 fn is_word(name: &Name, word: &[u8]) -> bool
     ensures { result ≡ same_name name.now word.now }
 {
-    name.is(word)
+    name.bytes().len() == word.len() && name.is(word)
 }
 
 /// Whether the name is one of these words.

@@ -1,13 +1,15 @@
--- One more origin: those before it stay, whatever runs begin.
-use Rattle.std.proofs.Common.{◌≡◌, List, [], ◌∷◌, ◌++◌, map, slice_get, Some, refl, ap, ◌∙◌, arith}
+-- Origins of more tokens: those before them stay, whatever runs begin.
+use Rattle.std.proofs.Common.{◌≡◌, ℕ, List, [], ◌∷◌, ◌++◌, length, map, slice_get, Some, refl, sym, ap, subst, ◌∙◌, arith}
+use Rattle.std.proofs.Common.{length-append}
 use Rattle.std.specs.List.{All}
-use Rattle.std.proofs.lemmas.List.{get_or_append_left, map_push}
-use Rattle.std.proofs.lemmas.List.Elements.{All-tail}
-use Rattle.std.proofs.lemmas.Option.{get_or_from_slice_get}
+use Rattle.std.proofs.lemmas.List.{get_or_append_left, map-append}
+use Rattle.std.proofs.lemmas.List.Elements.{All-tail, All-append, All-map}
+use Rattle.std.proofs.lemmas.Option.{get_or_from_slice_get, slice_get_within}
 use Rattle.pli_base.specs.Name.{Name}
-use Rattle.pli_base.specs.declared.token.Origin.{Origin}
+use Rattle.pli_base.specs.declared.token.Token.{Token}
 use Rattle.pli_include.specs.declared.origins.Place.{Place}
-use Rattle.pli_include.specs.views.OriginsView.{IsOfRun, origin_at}
+use Rattle.pli_include.specs.Expansion.{origin_of}
+use Rattle.pli_include.specs.views.OriginsView.{IsOfRun, origin_at, place_in}
 
 -- the origins at places stay
 stay : (members more : List Name) (ps : List Place) → All (IsOfRun members) ps → map (origin_at (members ++ more)) ps ≡ map (origin_at members) ps
@@ -17,13 +19,32 @@ stay members more (p ∷ ps) of_runs =
     ap (λ m. record { member = m; line = p.line } ∷ map (origin_at (members ++ more)) ps) (get_or_append_left members more none p.run (of_runs 0 p (omega arith)))
     ∙ ap (λ os. origin_at members p ∷ os) (stay members more ps (All-tail (IsOfRun members) p ps of_runs))
 
--- a place whose run is of the origin's member has that origin, after those that were
-pub appended : (before after more : List Name) (ps qs : List Place) (p : Place) (o : Origin) → All (IsOfRun before) ps → after ≡ before ++ more → qs ≡ ps ++ p ∷ [] → slice_get after p.run ≡ Some o.member → p.line ≡ o.line
-    → map (origin_at after) qs ≡ map (origin_at before) ps ++ o ∷ []
-appended before after more ps qs p o of_runs longer pushed run line =
+-- the tokens of a run have their origins, where the run is of this member
+tokens_at : (members : List Name) (run : ℕ) (m : Name) (ts : List Token) → slice_get members run ≡ Some m
+    → map (origin_at members) (map (place_in run) ts) ≡ map (origin_of m) ts
+tokens_at members run m [] is = refl
+tokens_at members run m (t ∷ ts) is =
     let none : Name = [] in
-    let same : origin_at after p ≡ o = ap (λ m. record { member = m; line = p.line }) (get_or_from_slice_get after p.run o.member none run) ∙ ap (λ l. record { member = o.member; line = l }) line in
-    ap (map (origin_at after)) pushed ∙ map_push (origin_at after) ps p
-    ∙ ap (λ x. map (origin_at after) ps ++ x ∷ []) same
-    ∙ ap (λ ms. map (origin_at ms) ps ++ o ∷ []) longer
-    ∙ ap (λ os. os ++ o ∷ []) (stay before more ps of_runs)
+    ap (λ x. record { member = x; line = t.line } ∷ map (origin_at members) (map (place_in run) ts))
+    (get_or_from_slice_get members run m none is)
+    ∙ ap (λ os. origin_of m t ∷ os) (tokens_at members run m ts is)
+
+module _ (before after more : List Name) (ps qs : List Place) (run : ℕ) (m : Name) (ts : List Token)
+    (of_runs : All (IsOfRun before) ps) (longer : after ≡ before ++ more) (noted : qs ≡ ps ++ map (place_in run) ts)
+    (is : slice_get after run ≡ Some m) where
+  -- tokens of a run have their origins, after those that were
+  pub appended : map (origin_at after) qs ≡ map (origin_at before) ps ++ map (origin_of m) ts
+  appended =
+      ap (map (origin_at after)) noted ∙ map-append (origin_at after) ps (map (place_in run) ts)
+      ∙ ap (λ os. map (origin_at after) ps ++ os) (tokens_at after run m ts is)
+      ∙ ap (λ ms. map (origin_at ms) ps ++ map (origin_of m) ts) longer
+      ∙ ap (λ os. os ++ map (origin_of m) ts) (stay before more ps of_runs)
+
+  -- and each place is of one of the runs
+  pub of_runs_then : All (IsOfRun after) qs
+  of_runs_then =
+      let within = slice_get_within after run m is in
+      subst (All (IsOfRun after)) (sym noted)
+      (All-append (IsOfRun after) ps (map (place_in run) ts)
+      (λ k d lt. omega (arith, of_runs k d lt, ap length longer, length-append before more))
+      (All-map (IsOfRun after) (place_in run) ts (λ k d lt. within)))

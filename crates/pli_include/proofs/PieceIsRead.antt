@@ -1,7 +1,10 @@
 -- Reading a piece at a place of a member's tokens.
-use Rattle.std.specs.Prelude.{◌≡◌, ℕ, zero, suc, ◌+◌, ◌-◌, ◌<◌, ◌≤◌, true, false, List, [], ◌∷◌, length, take, drop, get_or, slice_get, None, Some, Ok, if◌then◌else◌, refl}
-use Rattle.std.proofs.Common.{arith, sym, ap, subst, ◌∙◌, take_all, length-drop}
-use Rattle.std.proofs.lemmas.List.{drop-drop}
+use Rattle.std.specs.Prelude.{◌≡◌, ℕ, zero, suc, ◌+◌, ◌-◌, ◌<◌, ◌≤◌, true, false, List, [], ◌∷◌, ◌++◌, length, take, drop, get_or, slice_get, None, Some, Ok, if◌then◌else◌, refl}
+use Rattle.std.proofs.Common.{arith, map, sym, ap, subst, ◌∙◌, take_all, length-drop}
+use Rattle.std.specs.List.{All}
+use Rattle.std.proofs.Math.Nat.{add-zero}
+use Rattle.std.proofs.lemmas.List.{append-nil, append_assoc, drop-drop, take-append-drop}
+use Rattle.std.proofs.lemmas.List.Elements.{All-tail}
 use Rattle.std.proofs.Math.ListN.{drop_of_length-le}
 use Rattle.std.proofs.Math.Seq.{drop-cons}
 use Rattle.std.proofs.lemmas.Option.{slice_get_past, slice_get_within, get_or_from_slice_get}
@@ -11,8 +14,8 @@ use Rattle.pli_base.specs.declared.code.Code.TheVariants.{TooManyTokens, BadIncl
 use Rattle.pli_base.specs.declared.token.Token.{Token}
 use Rattle.pli_include.specs.declared.reading.Pause.{Pause}
 use Rattle.pli_include.specs.declared.reading.Pause.TheVariants as at
-use Rattle.pli_include.specs.Pieces.{Piece, Plain, Directive, Misplaced, pieces_after, pieces_of, piece_at, is_percent, begun, directive, named_by, further}
-use Rattle.pli_include.specs.Expansion.{Progress, Include, stopped, read_piece, read_pieces, unless, kept, directed, origin_of, ◌then◌}
+use Rattle.pli_include.specs.Pieces.{IsPlain, Piece, Plain, Directive, Misplaced, pieces_after, pieces_of, piece_at, is_percent, begun, directive, named_by, further}
+use Rattle.pli_include.specs.Expansion.{Progress, Include, stopped, read_piece, read_pieces, unless, kept, all_kept, text_of, directed, origin_of, ◌then◌}
 use Rattle.pli_include.specs.answers.Pausing.{Reads}
 use Rattle.pli_include.proofs.LevelNeverMet.{past_end}
 
@@ -59,15 +62,69 @@ from_place tokens place t lt e =
 pub rest_is : (tokens : List Token) (place : ℕ) → place ≤ length tokens → take (length tokens - place) (drop place tokens) ≡ drop place tokens
 rest_is tokens place le = take_all (length tokens - place) (drop place tokens) (simp length-drop (omega arith))
 
--- a token that stays
-pub keeps : (limit : ℕ) (include : Include) (m : Name) (tokens : List Token) (place : ℕ) (t : Token) (s : Progress)
-    → place < length tokens → t ≡ get_or tokens place t → is_percent t.text ≡ false → s.read < limit
-    → read_pieces limit include m (pieces_of (drop place tokens)) s ≡ read_pieces limit include m (pieces_of (drop (place + 1) tokens)) (kept m t s)
-keeps limit include m tokens place t s lt is plain room =
-    let fits : slice_get (t ∷ []) (limit - s.read) ≡ None = slice_get_past (t ∷ []) (limit - s.read) (omega arith) in
-    ap (λ ts. read_pieces limit include m (pieces_of ts) s) (from_place tokens place t lt is)
-    ∙ reads_at limit include m t (drop (place + 1) tokens) (Plain t) s (plain_piece t (drop (place + 1) tokens) plain)
-    ∙ ap (λ r. unless m r s (λ s. Ok (kept m t s)) then read_pieces limit include m (pieces_of (drop (place + 1) tokens))) fits
+none_kept : (m : Name) (s : Progress) → s ≡ all_kept m [] s
+none_kept m s =
+    ap (λ n. record { read = n; texts = s.texts; origins = s.origins; looked = s.looked }) (sym (add-zero s.read))
+    ∙ ap (λ xs. record { read = s.read + 0; texts = xs; origins = s.origins; looked = s.looked }) (sym (append-nil s.texts))
+    ∙ ap (λ os. record { read = s.read + 0; texts = s.texts ++ []; origins = os; looked = s.looked })
+    (sym (append-nil s.origins))
+
+more_kept : (m : Name) (t : Token) (ts : List Token) (s : Progress) → all_kept m ts (kept m t s) ≡ all_kept m (t ∷ ts) s
+more_kept m t ts s =
+    let count : s.read + 1 + length ts ≡ s.read + length (t ∷ ts) = omega arith in
+    ap (λ n. record {
+      read = n;
+      texts = s.texts ++ t.text ∷ [] ++ map text_of ts;
+      origins = s.origins ++ origin_of m t ∷ [] ++ map (origin_of m) ts;
+      looked = s.looked;
+    }) count
+    ∙ ap (λ xs. record {
+      read = s.read + length (t ∷ ts);
+      texts = xs;
+      origins = s.origins ++ origin_of m t ∷ [] ++ map (origin_of m) ts;
+      looked = s.looked;
+    }) (append_assoc s.texts (t.text ∷ []) (map text_of ts))
+    ∙ ap (λ os. record {
+      read = s.read + length (t ∷ ts);
+      texts = s.texts ++ map text_of (t ∷ ts);
+      origins = os;
+      looked = s.looked;
+    }) (append_assoc s.origins (origin_of m t ∷ []) (map (origin_of m) ts))
+
+-- tokens that stay
+all_stay : (limit : ℕ) (include : Include) (m : Name) (ts rest : List Token) (s : Progress) → All IsPlain ts
+    → s.read + length ts ≤ limit
+    → read_pieces limit include m (pieces_of (ts ++ rest)) s ≡ read_pieces limit include m (pieces_of rest) (all_kept m ts s)
+all_stay limit include m [] rest s plain room = ap (read_pieces limit include m (pieces_of rest)) (none_kept m s)
+all_stay limit include m (t ∷ ts) rest s plain room =
+    let fits : slice_get (t ∷ []) (limit - s.read) ≡ None = slice_get_past (t ∷ []) (limit - s.read) (omega (arith, room)) in
+    let stays : is_percent t.text ≡ false = plain 0 t (omega arith) in
+    let later : s.read + 1 + length ts ≤ limit = omega (arith, room) in
+    reads_at limit include m t (ts ++ rest) (Plain t) s (plain_piece t (ts ++ rest) stays)
+    ∙ ap (λ r. unless m r s (λ s. Ok (kept m t s)) then read_pieces limit include m (pieces_of (ts ++ rest))) fits
+    ∙ all_stay limit include m ts rest (kept m t s) (All-tail IsPlain t ts plain) later
+    ∙ ap (read_pieces limit include m (pieces_of rest)) (more_kept m t ts s)
+
+module _ (limit : ℕ) (m : Name) (tokens : List Token) (start count : ℕ) (s : Progress)
+    (plain : All IsPlain (take count (drop start tokens))) (room : s.read + length (take count (drop start tokens)) ≤ limit) where
+  -- so many tokens from a place on stay
+  keeps : (include : Include) → read_pieces limit include m (pieces_of (drop start tokens)) s
+      ≡ read_pieces limit include m (pieces_of (drop (start + count) tokens)) (all_kept m (take count (drop start tokens)) s)
+  keeps include =
+      ap (λ ts. read_pieces limit include m (pieces_of ts) s) (sym (take-append-drop count (drop start tokens)))
+      ∙ all_stay limit include m (take count (drop start tokens)) (drop count (drop start tokens)) s plain room
+      ∙ ap (λ ts. read_pieces limit include m (pieces_of ts) (all_kept m (take count (drop start tokens)) s))
+      (drop-drop count start tokens)
+
+  -- they stay, and then reading goes on
+  pub reads_after : (pause : Pause) (later new : Progress) → later ≡ all_kept m (take count (drop start tokens)) s
+      → Reads limit m tokens (start + count) later pause new → Reads limit m tokens start s pause new
+  reads_after pause later new is h = record {
+    same = λ include. keeps include ∙ ap (read_pieces limit include m (pieces_of (drop (start + count) tokens))) (sym is) ∙ h.same include;
+    looked = h.looked ∙ ap (λ (p : Progress). p.looked) is;
+    left = let more : later.read ≡ s.read + length (take count (drop start tokens)) = ap (λ (p : Progress). p.read) is in
+        omega (arith, h.left, more);
+  }
 
 -- a token that is one too many
 pub too_many_plain : (limit : ℕ) (include : Include) (m : Name) (tokens : List Token) (place : ℕ) (t : Token) (s : Progress)
@@ -148,16 +205,6 @@ reads_directive limit m tokens place p w n c name s from percent named fits =
       looked = refl;
       left = omega (arith, past_end (p ∷ w ∷ n ∷ c ∷ []) (limit - s.read) fits);
     }
-
--- what was read before, and what is read then
-pub reads_then : (limit : ℕ) (m : Name) (tokens : List Token) (start place : ℕ) (old s : Progress) (pause : Pause) (new : Progress)
-    → ((include : Include) → read_pieces limit include m (pieces_of (drop start tokens)) old ≡ read_pieces limit include m (pieces_of (drop place tokens)) s)
-    → s.looked ≡ old.looked → limit - s.read ≤ limit - old.read → Reads limit m tokens place s pause new → Reads limit m tokens start old pause new
-reads_then limit m tokens start place old s pause new before looked left h = record {
-  same = λ include. before include ∙ h.same include;
-  looked = h.looked ∙ looked;
-  left = omega (arith, h.left);
-}
 
 -- a token too many ends what was read
 pub reads_too_many : (limit : ℕ) (m : Name) (tokens : List Token) (place : ℕ) (t : Token) (s : Progress)

@@ -1,7 +1,7 @@
 -- The expansion of a member: its tokens with each directive replaced by the expansion of the member that it
 -- names, or the first fault.
-use Rattle.std.specs.Prelude.{ℕ, zero, suc, ◌+◌, ◌-◌, List, [], ◌∷◌, ◌++◌, slice_get, Option, None}
-use Rattle.std.specs.Prelude.{Some, Result, Ok, Err, if◌then◌else◌}
+use Rattle.std.specs.Prelude.{ℕ, zero, suc, ◌+◌, ◌-◌, List, [], ◌∷◌, ◌++◌, length, map, slice_get, Option}
+use Rattle.std.specs.Prelude.{None, Some, Result, Ok, Err, if◌then◌else◌}
 use Rattle.pli_base.specs.Name.{Name}
 use Rattle.pli_base.specs.Words.{is_among}
 use Rattle.pli_base.specs.declared.code.Code.{Code}
@@ -61,6 +61,20 @@ kept m t s =
       read = s.read + 1;
       texts = s.texts ++ t.text ∷ [];
       origins = s.origins ++ origin_of m t ∷ [];
+      looked = s.looked;
+    }
+
+-- the text of a token
+abbrev pub text_of : Token → TokenText
+text_of t = t.text
+
+-- the tokens stay, one after another
+abbrev pub all_kept : Name → List Token → Progress → Progress
+all_kept m ts s =
+    record {
+      read = s.read + length ts;
+      texts = s.texts ++ map text_of ts;
+      origins = s.origins ++ map (origin_of m) ts;
       looked = s.looked;
     }
 

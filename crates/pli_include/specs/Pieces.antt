@@ -1,6 +1,6 @@
 -- Directives: what a member's tokens are, before any member is included (own; the form is that of X3.74's
 -- preprocessor).
-use Rattle.std.specs.Prelude.{ℕ, zero, suc, Bool, true, false, ◌&&◌, List, [], ◌∷◌, Option, None, Some, codes}
+use Rattle.std.specs.Prelude.{◌≡◌, ℕ, zero, suc, Bool, true, false, ◌&&◌, List, [], ◌∷◌, Option, None, Some, codes}
 use Rattle.std.specs.Prelude.{if◌then◌else◌}
 use Rattle.pli_base.specs.Name.{Name, name_of}
 use Rattle.pli_base.specs.Words.{is_word, is_semicolon}
@@ -20,6 +20,10 @@ pub data Piece : Type 0 where
 abbrev pub is_percent : TokenText → Bool
 is_percent (Sign Percent) = true
 is_percent _ = false
+
+-- the token is another one
+abbrev pub IsPlain : Token → Type 0
+IsPlain t = is_percent t.text ≡ false
 
 -- the token is the word INCLUDE, which is not reserved
 abbrev pub is_include : TokenText → Bool

@@ -1,8 +1,10 @@
 //! Where the tokens of an expansion stand.
-ghost use Rattle.std.specs.Prelude.{◌≡◌, List, [], ◌∷◌, ◌++◌, slice_get, Some, IfOk, OnOk};
+ghost use Rattle.std.specs.Prelude.{◌≡◌, ◌≤◌, ◌+◌, List, [], ◌++◌, length, map, slice_get, Some, vec_len, vec_capacity, IfOk, OnOk};
 ghost use Rattle.pli_base.specs.Name as base;
+ghost use Rattle.pli_include.specs.Expansion.{origin_of};
+ghost use Rattle.pli_include.specs.views.OriginsView.{place_in};
 
-use pli_base::{Name, Origin};
+use pli_base::{Name, Origin, Token};
 use std::alloc::{AllocError, Global};
 use std::marker::Model;
 
@@ -53,6 +55,19 @@ fn run_of(members: &mut Vec<Name>, member: Name) -> Result<u32, AllocError>
     Ok(count)
 }
 
+/// Appends the places of tokens of a run, for which there is room.
+fn note_lines(places: &mut Vec<Place>, run: u32, tokens: &[Token])
+    requires { vec_len places.old + length tokens.now ≤ vec_capacity places.old }
+    ensures { places.new.items ≡ places.old.items ++ map (place_in run) tokens.now }
+{
+    for token in tokens {
+        places.push_reserved(Place {
+            run,
+            line: token.line,
+        });
+    }
+}
+
 impl Origins {
     /// No token.
     pub(crate) fn new(alloc: Global) -> Origins
@@ -64,15 +79,13 @@ impl Origins {
         }
     }
 
-    /// Appends the origin of a token. An error comes where memory runs out, as it does at 2^32 runs.
-    pub(crate) fn push(&mut self, origin: Origin) -> Result<(), AllocError>
-        ensures { OnOk result (self.new ≡ self.old ++ origin ∷ []) }
+    /// Appends the origins of tokens of a member. An error comes where memory runs out, as it does at 2^32 runs.
+    pub(crate) fn extend(&mut self, member: Name, tokens: &[Token]) -> Result<(), AllocError>
+        ensures { OnOk result (self.new ≡ self.old ++ map (origin_of member) tokens.now) }
     {
-        let run = run_of(&mut self.members, origin.member)?;
-        self.places.push(Place {
-            run,
-            line: origin.line,
-        })?;
+        let run = run_of(&mut self.members, member)?;
+        self.places.reserve(tokens.len())?;
+        note_lines(&mut self.places, run, tokens);
         Ok(())
     }
 

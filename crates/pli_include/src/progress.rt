@@ -1,7 +1,7 @@
 //! How far an expansion has come.
-ghost use Rattle.std.specs.Prelude.{◌≡◌, ◌<◌, ◌≤◌, ◌-◌, ◌+◌, OnOk, IfOk, Some, slice_get, not};
+ghost use Rattle.std.specs.Prelude.{◌≡◌, ◌≤◌, ◌-◌, ◌+◌, ◌++◌, OnOk, IfOk, Some, length, map, slice_get, not};
 ghost use Rattle.pli_base.specs.Words.{is_among};
-ghost use Rattle.pli_include.specs.Expansion.{started, kept, directed, looking};
+ghost use Rattle.pli_include.specs.Expansion.{started, all_kept, text_of, directed, looking};
 
 use crate::origins::Origins;
 use indexmap::IndexSet;
@@ -33,6 +33,17 @@ impl Model for Progress {
     ghost invariant = { λ p. p.read ≤ 200000 };
 }
 
+/// Appends the texts of tokens.
+fn copy_texts(alloc: Global, texts: &mut Vec<TokenText>, tokens: &[Token]) -> Result<(), AllocError>
+    ensures { OnOk result (texts.new.items ≡ texts.old.items ++ map text_of tokens.now) }
+{
+    texts.reserve(tokens.len())?;
+    for token in tokens {
+        texts.push(token.text.copy(alloc)?)?;
+    }
+    Ok(())
+}
+
 /// The texts of an expansion and their origins.
 #[derive(Drop)]
 pub struct Texts {
@@ -61,17 +72,14 @@ impl Progress {
         TOKEN_LIMIT - self.read
     }
 
-    /// Reads a token of a member, which stays.
-    pub fn keep(&mut self, alloc: Global, member: Name, token: &Token) -> Result<(), AllocError>
-        requires { self.old.read < 200000 }
-        ensures { OnOk result (self.new ≡ kept member token.now self.old) }
+    /// Reads tokens of a member, which stay.
+    pub fn keep(&mut self, alloc: Global, member: Name, tokens: &[Token]) -> Result<(), AllocError>
+        requires { self.old.read + length tokens.now ≤ 200000 }
+        ensures { OnOk result (self.new ≡ all_kept member tokens.now self.old) }
     {
-        self.texts.push(token.text.copy(alloc)?)?;
-        self.origins.push(Origin {
-            member,
-            line: token.line,
-        })?;
-        self.read += 1;
+        copy_texts(alloc, &mut self.texts, tokens)?;
+        self.origins.extend(member, tokens)?;
+        self.read += tokens.len();
         Ok(())
     }
 

@@ -1,6 +1,8 @@
 //! The reading of one member's tokens, up to the next directive.
-ghost use Rattle.std.specs.Prelude.{◌≡◌, ◌<◌, length, slice_get, Some, true, IfOk};
-ghost use Rattle.pli_include.specs.Pieces.{is_percent};
+ghost use Rattle.std.specs.Prelude.{◌≡◌, ◌<◌, ◌≤◌, length, take, slice_get, Some, true, false, IfOk};
+ghost use Rattle.std.specs.List.{All};
+ghost use Rattle.pli_base.specs.declared.token.Token.{Token};
+ghost use Rattle.pli_include.specs.Pieces.{is_percent, IsPlain};
 ghost use Rattle.pli_include.specs.answers.Pausing.{Reads};
 
 use crate::directive::{is_percent, named_by};
@@ -76,6 +78,21 @@ fn read_directive(progress: &mut Progress, member: Name, tokens: &[Token], place
     }
 }
 
+/// How many tokens stay that stand at the front: those before the first `%`, but no more than there is room for.
+fn staying(tokens: &[Token], room: usize) -> usize
+    ensures within { result ≤ length tokens.now }
+    ensures room { result ≤ room }
+    ensures plain { All IsPlain (take result tokens.now) }
+    ensures over { (t : Token) → slice_get tokens.now result ≡ Some t → is_percent t.text ≡ false → result ≡ room }
+{
+    for count in 0..tokens.len() {
+        if count == room || is_percent(&tokens[count].text) {
+            return count;
+        }
+    }
+    tokens.len()
+}
+
 /// Reads a member's tokens from a place on, up to their end, a fault or the next directive.
 pub fn read_tokens(
     alloc: Global,
@@ -86,15 +103,16 @@ pub fn read_tokens(
 ) -> Result<Pause, AllocError>
     ensures { IfOk result (λ pause. Reads 200000 member tokens.now start progress.old pause progress.new) }
 {
-    for place in start..tokens.len() {
-        let token = &tokens[place];
-        if is_percent(&token.text) {
-            return Ok(read_directive(progress, member, tokens, place));
-        }
-        if progress.room() == 0 {
-            return Ok(fault_at(Code::TooManyTokens, member, token));
-        }
-        progress.keep(alloc, member, token)?;
+    let Some(rest) = tokens.get(start..) else {
+        return Ok(Pause::End);
+    };
+    let count = staying(rest, progress.room());
+    progress.keep(alloc, member, &rest[..count])?;
+    let Some(next) = rest.get(count) else {
+        return Ok(Pause::End);
+    };
+    if is_percent(&next.text) {
+        return Ok(read_directive(progress, member, tokens, start + count));
     }
-    Ok(Pause::End)
+    Ok(fault_at(Code::TooManyTokens, member, next))
 }

@@ -12,7 +12,7 @@ use Rattle.pli_declare.specs.Resolution.{headed}
 use Rattle.pli_declare.proofs.ListsByNumber.{made_at, made_length}
 use Rattle.pli_declare.proofs.ParametersOfBlocks.{gathered, headed_here, headed_elsewhere}
 use Rattle.pli_declare.specs.BlockNumbers.{block_begun, block_kind, blocks_after, numbers_after}
-use Rattle.pli_declare.specs.StatementPlaces.{statement_starts, body_starts, statements_starts, alternative_starts, unit_starts}
+use Rattle.pli_declare_outline.specs.StatementPlaces.{statement_starts, body_starts, statements_starts, alternative_starts, unit_starts}
 use Rattle.pli_declare.specs.Symbols.{number_declared}
 use Rattle.pli_declare.specs.ResolvedUnits.{block_of, block_regions_of, numbers_of, region_block, no_block}
 use Rattle.pli_declare.specs.TreeBlocks.{TreeBlock, inner_block, blocks_in, blocks_of, blocks_among, blocks_in_else, statement_blocks, body_blocks, statements_blocks, alternative_blocks}

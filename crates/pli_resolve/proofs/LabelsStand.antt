@@ -6,11 +6,11 @@ use Rattle.pli_base.specs.Statements.{ExternalProcedure}
 use Rattle.pli_base.specs.declared.syntax.Identifier.{Identifier}
 use Rattle.pli_declare_outline.specs.Outlines.{Mark, Declared, Labelled, Entered, Used, Jumped, PlacedMark, outline_of}
 use Rattle.pli_declare.specs.Tables.{AsLabel, Entry, no_entry, entries_of, heading_entries, unit_entries}
-use Rattle.pli_declare.specs.StatementPlaces.{unit_places}
+use Rattle.pli_declare_outline.specs.StatementPlaces.{unit_places}
 use Rattle.pli_declare.specs.Symbols.{found_after}
 use Rattle.pli_declare.specs.ResolvedUnits.{label_statement}
 use Rattle.pli_resolve.specs.laws.UseLaws.{IsLabelledAt}
-use Rattle.pli_declare.specs.declared.statement_places.StatementPlace.{StatementPlace}
+use Rattle.pli_declare_outline.specs.declared.statement_places.StatementPlace.{StatementPlace}
 use Rattle.pli_resolve.proofs.LookUps.{found_then}
 use Rattle.pli_resolve.proofs.MarksStand.{IsLabelOf, marks_stand}
 use Rattle.pli_resolve.proofs.MeantNames.{entries_at}

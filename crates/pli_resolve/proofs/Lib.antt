@@ -1,7 +1,7 @@
 pub mod LookUps
-pub mod CopiedMaps
 pub mod TablesAt
 pub mod SymbolsAt
+pub mod SymbolsMade
 pub mod RegionWalks
 pub mod EnteredRegions
 pub mod BlocksOfTrees

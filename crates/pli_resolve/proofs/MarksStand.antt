@@ -9,8 +9,8 @@ use Rattle.pli_base.specs.Statements as tree
 use Rattle.pli_base.specs.Statements.{Range, To, By, Repeat, Control, While, Iterate, Allocation, Statement, Numbered, Body, Procedure, Begin, Do, If, On, Statements, Ended, Before, Alternative, NoElse, Else, ExternalProcedure}
 use Rattle.pli_declare_outline.specs.Outlines.{Mark, Declared, Labelled, Entered, Used, Jumped, PlacedMark, outline_of, regions_in, regions_of, regions_among, regions_else, reference_marks, joined_marks, argument_marks, list_marks, expression_marks, optional_marks, range_marks, control_marks, both_marks, allocation_marks, head_marks, label_marks, placed, statement_marks, body_marks, statements_marks, alternative_marks}
 use Rattle.pli_declare.specs.Tables.{inner_marks}
-use Rattle.pli_declare.specs.StatementPlaces.{statement_places, body_places, statements_places, alternative_places, end_place, unit_places}
-use Rattle.pli_declare.specs.declared.statement_places.StatementPlace.{StatementPlace}
+use Rattle.pli_declare_outline.specs.StatementPlaces.{statement_places, body_places, statements_places, alternative_places, end_place, unit_places}
+use Rattle.pli_declare_outline.specs.declared.statement_places.StatementPlace.{StatementPlace}
 
 -- all of a list
 abbrev pub Each : {A : Type 0} → (P : A → Type 0) → List A → Type 0

@@ -4,7 +4,7 @@ use Rattle.std.proofs.lemmas.List.{get_or_append_left, get_or_push, length_push}
 use Rattle.pli_base.specs.Statements.{Heading, Statement, Numbered, Body, Procedure, Begin, Do, If, On, Statements, Ended, Before, Alternative, NoElse, Else}
 use Rattle.pli_declare_outline.specs.Outlines.{Region, regions_in, regions_of, regions_among, regions_else, statement_regions, body_regions, statements_regions, alternative_regions}
 use Rattle.pli_declare.specs.BlockNumbers.{numbers_after}
-use Rattle.pli_declare.specs.StatementPlaces.{statement_starts, body_starts, statements_starts, alternative_starts}
+use Rattle.pli_declare_outline.specs.StatementPlaces.{statement_starts, body_starts, statements_starts, alternative_starts}
 use Rattle.pli_declare.specs.TreeBlocks.{blocks_in, blocks_of, blocks_among, blocks_in_else}
 
 -- the number of the block that each region is or stands in

@@ -35,10 +35,11 @@ at_end : {A B : Type 0} (f : A → List B) (xs : List A) (o : List B) → get_or
 at_end f [] o = refl
 at_end f (x ∷ xs) o = at_end f xs o
 
-abbrev symbols_in : (u : ExternalProcedure) → BlockRegion → List Symbol
+abbrev pub symbols_in : (u : ExternalProcedure) → BlockRegion → List Symbol
 symbols_in u b = (block_of u b).symbols
 
-twice : (u : ExternalProcedure) (bs : List BlockRegion) → map (λ (b : ResolvedBlock). b.symbols) (map (block_of u) bs) ≡ map (symbols_in u) bs
+-- the symbols of blocks
+pub twice : (u : ExternalProcedure) (bs : List BlockRegion) → map (λ (b : ResolvedBlock). b.symbols) (map (block_of u) bs) ≡ map (symbols_in u) bs
 twice u [] = refl
 twice u (b ∷ bs) = ap (λ xs. (block_of u b).symbols ∷ xs) (twice u bs)
 

@@ -28,12 +28,12 @@ use Rattle.pli_declare.specs.declared.block.Use.{Use}
 use Rattle.pli_declare.specs.declared.block.Target.{Target}
 use Rattle.pli_declare.specs.declared.block.Target.TheVariants.{Name as AName, Function as AFunction}
 use Rattle.pli_declare.proofs.FaultsAreExact.{faults_are_least_codes}
-use Rattle.pli_declare.specs.StatementPlaces.{unit_places}
+use Rattle.pli_declare_outline.specs.StatementPlaces.{unit_places}
 use Rattle.pli_declare.specs.ResolvedUnits.{resolved_unit_of, symbol_at, functions_at, function_at, functions_in, kind_meaning, declared_meaning, target_meaning, facts_of}
 use Rattle.pli_declare.specs.Symbols.{Symbol, Label, SymbolFacts, Way, symbol_kind, symbol_of, found_after, found_in}
 use Rattle.pli_resolve.specs.laws.UseLaws.{IsThere, MeansSomething, HasMeaning, UsesHaveMeanings, IsUsedAt, IsLabelledAt, MeansLabel, JumpsMeanLabels}
 use Rattle.pli_declare.specs.declared.built_in.BuiltInFunction.{BuiltInFunction}
-use Rattle.pli_declare.specs.declared.statement_places.StatementPlace.{StatementPlace}
+use Rattle.pli_declare_outline.specs.declared.statement_places.StatementPlace.{StatementPlace}
 use Rattle.pli_declare.specs.declared.symbol.NameMeaning.{NameMeaning}
 use Rattle.pli_declare.specs.declared.symbol.NameMeaning.TheVariants as meanings
 use Rattle.pli_declare.specs.declared.symbol.SymbolKey.{SymbolKey}

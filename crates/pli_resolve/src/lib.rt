@@ -1,7 +1,6 @@
 //! The resolved unit, as the later passes see it: its blocks, the symbols of its names, and what each name means.
 #![tactic(auto)]
 
-mod copies;
 mod laws;
 mod tables;
 mod unit;

@@ -1,5 +1,6 @@
 //! What is found once for each block.
-ghost use Rattle.std.specs.Prelude.{◌≡◌, map, option_map, slice_get};
+ghost use Rattle.std.specs.Prelude.{◌≡◌, get_or, map, option_map, slice_get};
+ghost use Rattle.pli_declare_outline.specs.views.OutlineView.{starts_view};
 ghost use Rattle.pli_declare.specs.views.DeclarationView.{declaration_view};
 ghost use Rattle.pli_declare.specs.Symbols as spec;
 ghost use Rattle.pli_resolve.specs.views.TableView.{way_view, block_table_view, parameters_in, ways_in};
@@ -7,6 +8,7 @@ ghost use Rattle.pli_resolve.specs.views.TableView.{way_view, block_table_view, 
 use crate::ways::Way;
 use pli_base::Name;
 use pli_declare::Declaration;
+use pli_declare_outline::Region;
 
 /// What is found once for what a region declares.
 #[derive(Drop)]
@@ -35,6 +37,16 @@ pub(crate) fn parameters_at(tables: &[BlockTable], region: usize) -> &[usize]
     match tables.get(region) {
         Some(table) => table.parameters.as_slice(),
         None => &[],
+    }
+}
+
+/// The statement with which the region of this number begins; 0 where there is none.
+pub(crate) fn start_at(regions: &[Region], region: usize) -> u32
+    ensures { result ≡ get_or (starts_view regions.now) region 0 }
+{
+    match regions.get(region) {
+        Some(region) => region.statement,
+        None => 0,
     }
 }
 

@@ -1,7 +1,9 @@
 //! Resolved units as the later passes see them.
-ghost use Rattle.std.specs.Prelude.{◌≡◌, ℕ, None, [], get_or, length, map, option_map, slice_get, IfOk};
+ghost use Rattle.std.specs.Prelude.{◌≡◌, ◌++◌, ℕ, [], get_or, length, map, option_map, slice_get, IfOk, OnOk};
 ghost use Rattle.pli_base.specs.views.StatementView.{unit_view};
 ghost use Rattle.pli_map.specs.views.DescriptionView.{description_view};
+ghost use Rattle.pli_declare_outline.specs.Outlines.{outline_of};
+ghost use Rattle.pli_declare_outline.specs.views.OutlineView.{outline_view};
 ghost use Rattle.pli_declare.specs.Completed.{OfVariable};
 ghost use Rattle.pli_declare.specs.views.CompletedView.{variable_view};
 ghost use Rattle.pli_declare.specs.Declarations.{OfItem};
@@ -14,9 +16,10 @@ ghost use Rattle.pli_declare.specs.ResolvedUnits.{facts_of, numbers_of, declared
 ghost use Rattle.pli_declare.specs.ResolvedUnits.{outermost_number, region_block, block_of, block_regions_of};
 ghost use Rattle.pli_declare.specs.views.SymbolView.{symbol_view, symbol_kind_view};
 ghost use Rattle.pli_resolve.specs.views.TableView.{way_view};
-ghost use Rattle.pli_resolve.specs.views.UnitView.{AreTablesOf, resolved_block_view, without_symbols};
+ghost use Rattle.pli_resolve.specs.views.UnitView.{AreSymbolsOf, AreTablesOf, IsOutlineOf, resolved_block_view};
+ghost use Rattle.pli_resolve.specs.views.UnitView.{rows_view, without_symbols};
 
-use crate::tables::{BlockTable, declaration_at, parameters_at, place_among, way_at, ways_at};
+use crate::tables::{declaration_at, parameters_at, place_among, start_at, way_at, ways_at};
 use crate::unit_tables::UnitTables;
 use crate::ways::Way;
 use pli_base::Name;
@@ -27,6 +30,7 @@ use pli_declare::{
     NameMeaning, Resolved, ResolvedBlockKind, StorageClass, Symbol, SymbolKey, SymbolKind, Target,
     Variable, function_named,
 };
+use pli_declare_outline::Outline;
 use pli_map::Description;
 use std::alloc::{AllocError, Global};
 use std::marker::Model;
@@ -36,6 +40,7 @@ use std::marker::Model;
 #[derive(Drop)]
 pub struct ResolvedUnit<'a> {
     declared: Resolved<'a>,
+    outline: Outline<'a>,
     tables: UnitTables,
     /// What stands for the description of a variable without one; a unit without faults has none such.
     undescribed: Description,
@@ -53,7 +58,7 @@ impl<'a> Model for ResolvedUnit<'a> {
 
     ghost view = { λ r. r.declared };
 
-    ghost invariant = { λ r. IsUnitOf (unit_view r.declared) r.tables r.undescribed };
+    ghost invariant = { λ r. IsUnitOf (unit_view r.declared) r.outline r.tables r.undescribed };
 }
 
 /// A block: a procedure, a BEGIN block or an ON-unit.
@@ -71,13 +76,16 @@ pub struct ResolvedBlock<'a> {
 }
 
 impl<'a> ResolvedUnit<'a> {
-    /// The resolved unit of what a unit declares, with the tables that the pass that resolves it has made of that.
-    pub fn new(declared: Resolved<'a>, tables: UnitTables) -> ResolvedUnit<'a>
-        requires { AreTablesOf tables (unit_view declared) }
+    /// The resolved unit of what a unit declares, with its outline, and the tables that the pass that resolves it has
+    /// made of both.
+    pub fn new(declared: Resolved<'a>, outline: Outline<'a>, tables: UnitTables) -> ResolvedUnit<'a>
+        requires outline { IsOutlineOf outline (unit_view declared) }
+        requires tables { AreTablesOf tables (unit_view declared) }
         ensures { result ≡ declared.entry }
     {
         ResolvedUnit {
             declared,
+            outline,
             tables,
             undescribed: Description::Pointer,
         }
@@ -88,6 +96,13 @@ impl<'a> ResolvedUnit<'a> {
         ensures { result.now ≡ self.now }
     {
         self.declared.unit()
+    }
+
+    /// Its outline, which is kept from the walk that resolving it began with.
+    pub fn outline(&self) -> &Outline<'a>
+        ensures { outline_view result.now ≡ outline_of (unit_view self.now) }
+    {
+        &self.outline
     }
 
     /// How many blocks it has, the outermost one apart.
@@ -316,6 +331,22 @@ impl<'a> ResolvedUnit<'a> {
         }
     }
 
+    /// What a name is, by the item that it is a member of.
+    fn symbol_of<'s>(
+        &'s self,
+        parameters: &[Name],
+        way: &'s Way,
+        declaration: &'s Declaration<'s>,
+    ) -> Symbol<'s>
+        ensures { symbol_view result ≡ symbols.symbol_of (facts_of (unit_view self.now)) parameters.now
+            (way_view way.now) (declaration_view declaration.now) }
+    {
+        Symbol {
+            identifier: declaration.identifier,
+            kind: self.kind_of(parameters, way, declaration),
+        }
+    }
+
     /// The symbol of this number among names with their ways.
     #[tactic(auto, using(crate::proofs::SymbolsAt::symbols_at))]
     fn symbol_among<'s>(
@@ -335,10 +366,31 @@ impl<'a> ResolvedUnit<'a> {
         let Some(declaration) = declaration_at(declarations, number) else {
             return None;
         };
-        Some(Symbol {
-            identifier: declaration.identifier,
-            kind: self.kind_of(parameters, way, declaration),
-        })
+        Some(self.symbol_of(parameters, way, declaration))
+    }
+
+    /// The symbols of names with their ways.
+    fn symbols_among<'s>(
+        &'s self,
+        alloc: Global,
+        parameters: &[Name],
+        ways: &'s [Way],
+        declarations: &'s [Declaration<'s>],
+    ) -> Result<Vec<Symbol<'s>>, AllocError>
+        ensures { IfOk result (λ made. map symbol_view made.items ≡ symbols.symbols_with
+            (facts_of (unit_view self.now)) parameters.now (map way_view ways.now)
+            (map declaration_view declarations.now)) }
+    {
+        let mut made = Vec::with_capacity(alloc, declarations.len())?;
+        for (way, declaration) in ways.iter().zip(declarations) {
+            if made
+                .push(self.symbol_of(parameters, way, declaration))
+                .is_err()
+            {
+                return Err(AllocError);
+            }
+        }
+        Ok(made)
     }
 
     /// The numbers of the parameters of a region among its symbols.
@@ -369,7 +421,7 @@ impl<'a> ResolvedUnit<'a> {
         ResolvedBlock {
             kind: block.kind,
             outer,
-            statement: self.tables.starts.get(block.region).copied().unwrap_or(0),
+            statement: start_at(&self.outline.regions, block.region),
             name: self
                 .tables
                 .maps
@@ -401,6 +453,57 @@ impl<'a> ResolvedUnit<'a> {
         self.symbol_among(&block.parameters, ways, &block.declarations, number)
     }
 
+    /// The symbols of a region that is a block.
+    #[tactic(auto, using(crate::proofs::TablesAt::declared_there, crate::proofs::TablesAt::declared_nowhere))]
+    fn symbols_in(&self, alloc: Global, region: usize) -> Result<Vec<Symbol<'_>>, AllocError>
+        ensures { IfOk result (λ made. map symbol_view made.items ≡ symbols.symbols_of
+            (facts_of (unit_view self.now)) (region_block (unit_view self.now) region).parameters
+            (region_block (unit_view self.now) region).declarations) }
+    {
+        let Some(block) = self.region_block(region) else {
+            return Ok(Vec::new(alloc));
+        };
+        let ways = self.ways_of(region);
+        self.symbols_among(alloc, &block.parameters, ways, &block.declarations)
+    }
+
+    /// Puts the symbols of blocks.
+    fn put_symbols<'s>(
+        &'s self,
+        alloc: Global,
+        blocks: &[BlockRegion],
+        made: &mut Vec<Vec<Symbol<'s>>>,
+    ) -> Result<(), AllocError>
+        ensures { OnOk result (rows_view made.new.items ≡ rows_view made.old.items
+            ++ map (λ b. (block_of (unit_view self.now) b).symbols) blocks.now) }
+    {
+        for block in blocks {
+            made.push(self.symbols_in(alloc, block.region)?)?;
+        }
+        Ok(())
+    }
+
+    /// The symbols of the outermost block.
+    fn outermost_symbols(&self, alloc: Global) -> Result<Vec<Symbol<'_>>, AllocError>
+        ensures { IfOk result (λ made. map symbol_view made.items
+            ≡ (resolved_unit_of (unit_view self.now)).outermost) }
+    {
+        let declarations = self.declared.outermost();
+        self.symbols_among(alloc, &[], &self.tables.ways, declarations)
+    }
+
+    /// The symbols of each block, under its number, and after them those of the outermost one, each in the order of the
+    /// text. Takes time for all of them.
+    pub fn symbols(&self, alloc: Global) -> Result<Vec<Vec<Symbol<'_>>>, AllocError>
+        ensures { IfOk result (λ made. AreSymbolsOf made.items (unit_view self.now)) }
+    {
+        let blocks = self.tables.regions.blocks.as_slice();
+        let mut made = Vec::with_capacity(alloc, blocks.len() + 1)?;
+        self.put_symbols(alloc, blocks, &mut made)?;
+        made.push(self.outermost_symbols(alloc)?)?;
+        Ok(made)
+    }
+
     /// The region that is the block of this number.
     fn region_at(&self, number: usize) -> Option<&BlockRegion>
         ensures { option_map (λ b. b.now) result ≡ slice_get (block_regions_of (unit_view self.now)) number }
@@ -430,21 +533,5 @@ impl<'a> ResolvedUnit<'a> {
     {
         let block = self.tables.regions.blocks.get(number)?;
         Some(self.block_of(*block))
-    }
-
-    /// A resolved unit of the same tree.
-    pub fn copy(&self, alloc: Global) -> Result<ResolvedUnit<'a>, AllocError>
-        ensures { IfOk result (λ copied. copied ≡ self.now) }
-    {
-        let tables = self.tables.copy(alloc)?;
-        let Ok(declared) = self.declared.copy(alloc) else {
-            drop(tables);
-            return Err(AllocError);
-        };
-        Ok(ResolvedUnit {
-            declared,
-            tables,
-            undescribed: Description::Pointer,
-        })
     }
 }

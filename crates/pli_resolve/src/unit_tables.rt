@@ -1,18 +1,9 @@
 //! What is found once for a unit.
-ghost use Rattle.std.specs.Prelude.{◌≡◌, ℕ, nat_eq, IfOk};
-ghost use Rattle.indexmap.specs.IndexMap.{get};
-ghost use Rattle.pli_base.specs.Statements.{ExternalProcedure};
-ghost use Rattle.pli_resolve.specs.views.UnitView.{AreTablesOf, AreMapsOf, AreNumbersOf};
 
-use crate::copies::{
-    copied_functions, copied_labels, copied_procedures, copied_statements, copied_tables,
-    copied_ways,
-};
 use crate::tables::BlockTable;
 use crate::ways::Way;
 use indexmap::IndexMap;
 use pli_declare::{BlockRegion, BuiltInFunction, SymbolKey};
-use std::alloc::{AllocError, Global};
 
 /// Which regions are blocks.
 #[derive(Drop)]
@@ -51,79 +42,8 @@ pub struct UnitMaps {
 #[derive(Drop)]
 pub struct UnitTables {
     pub regions: RegionNumbers,
-    /// For each region the statement with which it begins.
-    pub starts: Vec<u32>,
     pub tables: Vec<BlockTable>,
     /// The ways of the names of the outermost block.
     pub ways: Vec<Way>,
     pub maps: UnitMaps,
-}
-
-impl RegionNumbers {
-    /// The same numbers.
-    fn copy(&self, alloc: Global) -> Result<RegionNumbers, AllocError>
-        ensures { IfOk result (λ copied. (u : ExternalProcedure) → AreNumbersOf self.now u → AreNumbersOf copied u) }
-    {
-        Ok(RegionNumbers {
-            numbers: Vec::from_slice(alloc, &self.numbers)?,
-            blocks: Vec::from_slice(alloc, &self.blocks)?,
-        })
-    }
-}
-
-impl Callables {
-    /// The same functions and procedures.
-    fn copy(&self) -> Result<Callables, AllocError>
-        ensures functions { IfOk result (λ copied. (at : ℕ) →
-            get nat_eq copied.functions at ≡ get nat_eq self.now.functions at) }
-        ensures procedures { IfOk result (λ copied. (region : ℕ) →
-            get nat_eq copied.procedures region ≡ get nat_eq self.now.procedures region) }
-    {
-        Ok(Callables {
-            functions: copied_functions(&self.functions)?,
-            procedures: copied_procedures(&self.procedures)?,
-        })
-    }
-}
-
-impl StatementMaps {
-    /// The same statements and labels.
-    fn copy(&self) -> Result<StatementMaps, AllocError>
-        ensures regions { IfOk result (λ copied. (number : ℕ) →
-            get nat_eq copied.regions number ≡ get nat_eq self.now.regions number) }
-        ensures labels { IfOk result (λ copied. (at : ℕ) → get nat_eq copied.labels at
-            ≡ get nat_eq self.now.labels at) }
-    {
-        Ok(StatementMaps {
-            regions: copied_statements(&self.regions)?,
-            labels: copied_labels(&self.labels)?,
-        })
-    }
-}
-
-impl UnitMaps {
-    /// The same maps.
-    fn copy(&self) -> Result<UnitMaps, AllocError>
-        ensures { IfOk result (λ copied. (u : ExternalProcedure) → AreMapsOf self.now u → AreMapsOf copied u) }
-    {
-        Ok(UnitMaps {
-            callables: self.callables.copy()?,
-            statements: self.statements.copy()?,
-        })
-    }
-}
-
-impl UnitTables {
-    /// The same tables.
-    pub(crate) fn copy(&self, alloc: Global) -> Result<UnitTables, AllocError>
-        ensures { IfOk result (λ copied. (u : ExternalProcedure) → AreTablesOf self.now u → AreTablesOf copied u) }
-    {
-        Ok(UnitTables {
-            regions: self.regions.copy(alloc)?,
-            starts: Vec::from_slice(alloc, &self.starts)?,
-            tables: copied_tables(alloc, &self.tables)?,
-            ways: copied_ways(alloc, &self.ways)?,
-            maps: self.maps.copy()?,
-        })
-    }
 }

@@ -1,5 +1,3 @@
-mod UnitParts
-mod PlacesPut
 mod WaysMade
 mod BlockPassed
 mod BlocksNumbered

@@ -1,11 +1,9 @@
-//! The pass from a tree to the resolved unit: which regions are blocks, where statements stand, and what is found by
-//! tokens.
+//! The pass from a tree to the resolved unit: which regions are blocks, and what is found by tokens.
 #![tactic(auto)]
 
 mod block_numbers;
 mod look_ups;
 mod resolving;
-mod statement_places;
 mod tables;
 mod ways;
 

@@ -10,10 +10,9 @@ ghost use Rattle.pli_declare.specs.ResolvedUnits as spec;
 
 use indexmap::IndexMap;
 use pli_declare::{
-    BlockDeclarations, BuiltInFunction, Declaration, DeclaredKind, StatementPlace, SymbolKey,
-    function_named,
+    BlockDeclarations, BuiltInFunction, Declaration, DeclaredKind, SymbolKey, function_named,
 };
-use pli_declare_outline::{Mark, PlacedMark};
+use pli_declare_outline::{Mark, PlacedMark, StatementPlace};
 use pli_resolve::StatementMaps;
 use std::alloc::{AllocError, Global};
 

@@ -6,20 +6,19 @@ ghost use Rattle.pli_declare_outline.specs.Outlines.{outline_of};
 ghost use Rattle.pli_declare_outline.specs.views.OutlineView.{outline_view, marks_view};
 ghost use Rattle.pli_declare.specs.Tables.{inner_marks};
 ghost use Rattle.pli_declare.specs.Symbols.{found_in};
-ghost use Rattle.pli_declare.specs.StatementPlaces.{unit_places};
+ghost use Rattle.pli_declare_outline.specs.StatementPlaces.{unit_places};
 ghost use Rattle.pli_declare.specs.ResolvedUnits.{functions_in, procedures_in};
 ghost use Rattle.pli_resolve.specs.views.UnitView.{IsResolvedUnit, AreTablesOf, AreMapsOf, AreNumbersOf};
 
 use crate::block_numbers::{block_numbers, block_regions};
 use crate::look_ups::{functions, procedures, statement_maps};
-use crate::statement_places::statement_list;
 use crate::tables::block_tables;
 use crate::ways::ways;
 use indexmap::IndexMap;
 use pli_base::statement::Procedure;
-use pli_declare::{BuiltInFunction, Resolved, StatementPlace, SymbolKey};
+use pli_declare::{BuiltInFunction, Resolved, SymbolKey};
 use pli_declare_faults::{ResolveError, resolve};
-use pli_declare_outline::{Outline, PlacedMark};
+use pli_declare_outline::{Outline, PlacedMark, StatementPlace};
 use pli_resolve::{Callables, RegionNumbers, ResolvedUnit, UnitMaps, UnitTables};
 use std::alloc::{AllocError, Global};
 
@@ -107,19 +106,19 @@ fn unit_maps(
 fn unit_tables(
     alloc: Global,
     declared: &Resolved,
-    marks: &[PlacedMark],
+    outline: &Outline<'_>,
 ) -> Result<UnitTables, AllocError>
-    requires are_marks { marks_view marks.now ≡ inner_marks (outline_of (unit_view declared.now)).marks }
+    requires outline { outline_view outline.now ≡ outline_of (unit_view declared.now) }
+    requires places { outline.now.places.items ≡ unit_places (unit_view declared.now) }
     ensures { IfOk result (λ tables. AreTablesOf tables (unit_view declared.now)) }
 {
-    let list = statement_list(alloc, declared.unit())?;
+    let marks = marks_after(outline);
     let regions = region_numbers(alloc, declared)?;
     let tables = block_tables(alloc, declared.blocks())?;
     let ways = ways(alloc, declared.outermost())?;
-    let maps = unit_maps(alloc, declared, &regions, &list.places, marks)?;
+    let maps = unit_maps(alloc, declared, &regions, &outline.places, marks)?;
     Ok(UnitTables {
         regions,
-        starts: list.starts,
         tables,
         ways,
         maps,
@@ -133,9 +132,9 @@ pub fn resolve_unit(alloc: Global, unit: &Procedure) -> Result<ResolvedUnit<'_>,
 {
     let outline = pli_declare_outline::outline(alloc, unit)?;
     let declared = resolve(alloc, unit, &outline)?;
-    let Ok(tables) = unit_tables(alloc, &declared, marks_after(&outline)) else {
+    let Ok(tables) = unit_tables(alloc, &declared, &outline) else {
         drop(declared);
         return Err(ResolveError::OutOfMemory);
     };
-    Ok(ResolvedUnit::new(declared, tables))
+    Ok(ResolvedUnit::new(declared, outline, tables))
 }

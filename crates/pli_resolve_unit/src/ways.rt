@@ -29,7 +29,8 @@ fn way_with(
         path.push(place)?;
         return Ok(Way { root: 0, path });
     };
-    let mut path = Vec::from_slice(alloc, &above.path)?;
+    let mut path = Vec::with_capacity(alloc, above.path.len() + 1)?;
+    path.extend_from_slice(&above.path)?;
     path.push(place)?;
     Ok(Way {
         root: above.root,

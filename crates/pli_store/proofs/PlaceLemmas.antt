@@ -1,11 +1,13 @@
 -- Where places lead.
-use Rattle.std.proofs.Common.{◌≡◌, ℕ, ◌<◌, true, false, List, length, map, Option, Some, None, slice_get, refl, sym, ◌∙◌, arith}
+use Rattle.std.proofs.Common.{◌≡◌, ◌≢◌, ℕ, ◌<◌, true, false, List, length, map, Option, Some, None, slice_get, refl, sym, ap, ◌∙◌, arith}
 use Rattle.std.specs.Option.{is_some}
 use Rattle.std.proofs.lemmas.Option.{slice_get_within}
 use Rattle.std.proofs.lemmas.List.{length-map}
+use Rattle.pli_map.specs.Description.{Description, FixedBinary, Character, Varying, Bit, Pointer, Offset, Area, Array, Structure}
 use Rattle.pli_map.specs.Scalars.{first_scalar}
 use Rattle.pli_world.specs.Storage.{Place, generation_in}
 use Rattle.pli_store.specs.answers.Found.{StandsAt, LeadsTo, LeadsNowhere}
+use Rattle.pli_store.specs.answers.Kinds.{digits_in}
 use Rattle.pli_store.specs.declared.generation.Generation.{Generation}
 use Rattle.pli_store.specs.views.GenerationView.{generation_view}
 use Rattle.pli_store.proofs.Searches.{stands_in_view}
@@ -51,3 +53,15 @@ module _ (items : List Generation) (p : Place) (at : ℕ) (s : StandsAt (map gen
     nowhere = nothing_found (first_scalar (generation_view g).description p.offset p.description) e;
     outside = whole;
   }
+
+-- a description with binary digits is of a number of as many
+pub is_number : (d : Description) (digits : ℕ) → digits ≢ 0 → digits ≡ digits_in d → d ≡ FixedBinary digits
+is_number (FixedBinary precision) digits some is = ap FixedBinary (sym is)
+is_number (Character n) digits some is = absurd (some is)
+is_number (Varying n) digits some is = absurd (some is)
+is_number (Bit n) digits some is = absurd (some is)
+is_number Pointer digits some is = absurd (some is)
+is_number Offset digits some is = absurd (some is)
+is_number (Area n) digits some is = absurd (some is)
+is_number (Array bs d) digits some is = absurd (some is)
+is_number (Structure ds) digits some is = absurd (some is)

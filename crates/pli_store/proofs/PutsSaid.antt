@@ -15,6 +15,7 @@ use Rattle.pli_world.specs.Storage as plain
 use Rattle.pli_world.specs.Storage.{values_from, with_values_at}
 use Rattle.pli_store.specs.answers.Found.{PartStands}
 use Rattle.pli_store.specs.answers.Inhabited.{capacity_in}
+use Rattle.pli_store.specs.answers.Kinds.{digits_in}
 use Rattle.pli_store.specs.answers.Puts.{BytesCopied, BytesPut, ValuesPut, ValuesPutOrSame, LengthenedOrSame}
 use Rattle.pli_store.specs.declared.generation.Generation.{Generation}
 use Rattle.pli_store.specs.declared.part.GenerationPart.{GenerationPart}
@@ -85,9 +86,9 @@ varying_short greatest bytes text size held = omega (arith, some_taken _ (drop 2
 module _ (items : List Generation) (part : GenerationPart) (d : Description) (s : PartStands (map generation_view items) part d)
     (g : Generation) (read : g ≡ get_or items part.at g) (was new : List ℕ) (value : was ≡ g.bytes.items) (len : length new ≡ length was)
     (sized : length (with_items g.bytes new).items ≡ size_of (description_view g.description.now)) (inhabited : is_some g.area ≡ is_area (description_view g.description.now))
-    (roomy : is_area (description_view g.description.now) ≡ true → capacity_in g.area ≡ size_of (description_view g.description.now)) where
+    (alone : g.digits ≡ digits_in (description_view g.description.now)) (roomy : is_area (description_view g.description.now) ≡ true → capacity_in g.area ≡ size_of (description_view g.description.now)) where
   abbrev changed : Generation
-  changed = record g { bytes = with_items g.bytes new; sized = sized; inhabited = inhabited; roomy = roomy }
+  changed = record g { bytes = with_items g.bytes new; sized = sized; inhabited = inhabited; alone = alone; roomy = roomy }
 
   here : slice_get items part.at ≡ Some g
   here = read_there items part d s g read
@@ -118,12 +119,12 @@ module _ (items : List Generation) (part : GenerationPart) (d : Description) (s 
 module _ (items : List Generation) (part : GenerationPart) (greatest : ℕ) (s : PartStands (map generation_view items) part (Varying greatest))
     (g : Generation) (read : g ≡ get_or items part.at g) (was new : List ℕ) (value : was ≡ g.bytes.items) (len : length new ≡ length was)
     (sized : length (with_items g.bytes new).items ≡ size_of (description_view g.description.now)) (inhabited : is_some g.area ≡ is_area (description_view g.description.now))
-    (roomy : is_area (description_view g.description.now) ≡ true → capacity_in g.area ≡ size_of (description_view g.description.now)) where
+    (alone : g.digits ≡ digits_in (description_view g.description.now)) (roomy : is_area (description_view g.description.now) ≡ true → capacity_in g.area ≡ size_of (description_view g.description.now)) where
   pub lengthened_or_same : (b : Bool) (more : List ℕ) (room : ℕ) → AppendedOrSame b greatest part.offset more room was new
-      → LengthenedOrSame b (map generation_view items) (map generation_view (set items part.at (record g { bytes = with_items g.bytes new; sized = sized; inhabited = inhabited; roomy = roomy }))) part greatest more room
+      → LengthenedOrSame b (map generation_view items) (map generation_view (set items part.at (record g { bytes = with_items g.bytes new; sized = sized; inhabited = inhabited; alone = alone; roomy = roomy }))) part greatest more room
   lengthened_or_same true more room a = record {
     text = a.text;
-    puts = scalar_is_put items part (Varying greatest) s g read was new value len sized inhabited roomy (Characters (a.text ++ more)) refl a.put;
+    puts = scalar_is_put items part (Varying greatest) s g read was new value len sized inhabited alone roomy (Characters (a.text ++ more)) refl a.put;
     was = λ there.
         held_there items part (Varying greatest) there g (read_there items part (Varying greatest) s g read) refl
         ∙ ap (λ l. value_in l (record { offset = part.offset; description = Varying greatest }) ∷ []) (sym value)
@@ -131,4 +132,4 @@ module _ (items : List Generation) (part : GenerationPart) (greatest : ℕ) (s :
     short = varying_short greatest a.put.bytes (a.text ++ more) a.put.size a.put.hold;
     fits = a.fits;
   }
-  lengthened_or_same false more room a = same_is_left items part (Varying greatest) s g read was new value len sized inhabited roomy a
+  lengthened_or_same false more room a = same_is_left items part (Varying greatest) s g read was new value len sized inhabited alone roomy a

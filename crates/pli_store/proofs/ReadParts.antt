@@ -1,5 +1,6 @@
 -- What is read in the bytes of the store is what places hold.
-use Rattle.std.proofs.Common.{◌≡◌, ◌≢◌, ℕ, ◌+◌, ◌≤◌, true, List, [], ◌∷◌, length, get_or, Option, None, Some, MatchOption, Bor, refl, sym, ap, ◌∙◌, arith}
+use Rattle.std.specs.Prelude.{⊤}
+use Rattle.std.proofs.Common.{◌≡◌, ◌≢◌, ℕ, ◌+◌, ◌≤◌, true, List, [], ◌∷◌, length, get_or, Option, None, Some, IfSome, MatchOption, Bor, refl, sym, ap, ◌∙◌, arith}
 use Rattle.pli_bytes.specs.Contents.{bytes_from, value_in}
 use Rattle.pli_map.specs.Description.{Description}
 use Rattle.pli_map.specs.Scalars.{is_scalar}
@@ -21,6 +22,11 @@ use Rattle.pli_store.proofs.StandingParts.{bytes_within, read_there, held_there}
 pub otherwise : {X : Type 0} (r : Option X) (Found : X → Type 0) {P Q : Type 0} → (P → Q) → MatchOption r P Found → MatchOption r Q Found
 otherwise None Found f h = f h
 otherwise (Some x) Found f h = h
+
+-- what is known of what is found, where nothing is known of the rest
+pub if_found : {X : Type 0} (r : Option X) (Found : X → Type 0) → MatchOption r ⊤ Found → IfSome r Found
+if_found None Found h = tt
+if_found (Some x) Found h = h
 
 module _ (s : Storage) (p : plain.Place) (part : GenerationPart) (l : LeadsTo (storage_view s) p part)
     (g : Generation) (read : g ≡ get_or s.generations.items part.at g) (bytes : List ℕ) (same : bytes ≡ g.bytes.items) where

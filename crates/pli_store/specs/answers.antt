@@ -7,6 +7,7 @@ pub mod Kept
 pub mod Kinds
 pub mod Known
 pub mod LedOn
+pub mod Lone
 pub mod Puts
 pub mod StringLists
 pub mod Strings

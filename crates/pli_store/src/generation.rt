@@ -6,6 +6,7 @@ ghost use Rattle.pli_map.specs.Scalars.{is_area};
 ghost use Rattle.pli_map.specs.Sizes.{size_of};
 ghost use Rattle.pli_map.specs.views.DescriptionView.{description_view};
 ghost use Rattle.pli_store.specs.answers.Inhabited.{capacity_in};
+ghost use Rattle.pli_store.specs.answers.Kinds.{digits_in};
 
 use pli_area_blocks::AreaBlocks;
 use pli_map::Description;
@@ -30,6 +31,8 @@ pub enum Made {
 #[derive(Drop)]
 pub struct Generation<'m> {
     pub number: u32,
+    /// How many binary digits it has, where it is a number; 0 where it is none.
+    pub digits: u8,
     pub description: &'m Description,
     pub made: Made,
     /// As many as the size of the description.
@@ -38,6 +41,7 @@ pub struct Generation<'m> {
     pub area: Option<Box<AreaBlocks<'m>>>,
     ghost sized: { length bytes.items ≡ size_of (description_view description.now) },
     ghost inhabited: { is_some area ≡ is_area (description_view description.now) },
+    ghost alone: { digits ≡ digits_in (description_view description.now) },
     ghost roomy: { is_area (description_view description.now) ≡ true →
         capacity_in area ≡ size_of (description_view description.now) },
 }

@@ -1,8 +1,9 @@
 //! Places: where references lead.
-ghost use Rattle.std.specs.Prelude.{◌≡◌, ◌*◌, ◌≤ℤ◌, ◌-ℤ◌, unsigned_abs};
+ghost use Rattle.std.specs.Prelude.{◌≡◌, ◌≢◌, ◌*◌, ◌≤ℤ◌, ◌-ℤ◌, unsigned_abs};
 ghost use Rattle.pli_map.specs.views.DescriptionView.{description_view};
 ghost use Rattle.pli_world.specs.Storage.{whole_at};
 ghost use Rattle.pli_world.specs.World.{led_on};
+ghost use Rattle.pli_store.specs.answers.Kinds.{digits_in};
 
 use pli_map::{Description, Dimension};
 
@@ -19,8 +20,24 @@ pub struct Place<'m> {
     pub offset: u32,
     /// Where the generation stood among those that lived when it was made.
     pub(crate) hint: u32,
+    /// How many binary digits the number has that the generation is; 0 where this leads to no such number, or where that
+    /// is not known.
+    pub(crate) digits: u8,
     pub description: &'m Description,
     pub whole: &'m Description,
+    ghost alone: { digits ≢ 0 →
+        (position ≡ 0) × (offset ≡ 0) × (digits ≡ digits_in (description_view description.now)) },
+}
+
+/// How many binary digits a number has, where a description is of FIXED BINARY; else 0.
+#[inline(always)]
+pub(crate) fn digits_of(description: &Description) -> u8
+    ensures { result ≡ digits_in (description_view description.now) }
+{
+    match description {
+        Description::FixedBinary(precision) => *precision,
+        _ => 0,
+    }
 }
 
 impl<'m> Place<'m> {
@@ -37,11 +54,13 @@ impl<'m> Place<'m> {
     ) -> Place<'m>
         ensures { place_view result ≡ whole_at generation position (description_view whole.now) }
     {
+        let digits = if position == 0 { digits_of(whole) } else { 0 };
         Place {
             generation,
             position,
             offset: 0,
             hint,
+            digits,
             description: whole,
             whole,
         }
@@ -63,6 +82,7 @@ impl<'m> Place<'m> {
             position: self.position,
             offset: sum as u32,
             hint: self.hint,
+            digits: 0,
             description,
             whole: self.whole,
         })

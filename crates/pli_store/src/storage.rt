@@ -32,7 +32,7 @@ use crate::part::{
     GenerationPart, greatest_length, is_number_at, is_of_bits, is_one_bit, is_part_of, is_pointer,
     number_precision, short_length,
 };
-use crate::place::Place;
+use crate::place::{Place, digits_of};
 use crate::pointers::pointer_at;
 use crate::putting::{
     holds_number, lengthen, put_bit, put_number, put_pointer, put_short, put_value,
@@ -190,7 +190,7 @@ impl<'m> Storage<'m> {
 
     /// The number of so many binary digits to which a place leads, if its generation stands where it was made and is
     /// that number or an array of such numbers: no search and no walk is needed then.
-    #[inline]
+    #[inline(always)]
     fn number_part(&self, place: Place<'_>, precision: u8) -> Option<GenerationPart>
         requires { description_view place.description.now ≡ FixedBinary precision }
         ensures { IfSome result (λ part. LeadsTo (storage_view self.now) (place_view place.entry) part) }
@@ -276,7 +276,8 @@ impl<'m> Storage<'m> {
         }
     }
 
-    /// The same, where the place mostly leads to an element of an array: that is found at once.
+    /// The number that the place of a scalar holds, as `number_at` finds it, where the place mostly leads to an element
+    /// of an array: that is found at once.
     #[inline(always)]
     pub fn element_number(&self, place: Place<'_>) -> Option<i64>
         ensures { (w : World) → MatchOption result ((precision : ℕ)
@@ -286,7 +287,10 @@ impl<'m> Storage<'m> {
             ≡ Yields (Number x) (with_storage self.now w)) }
     {
         let precision = number_precision(place.description)?;
-        self.far_number(place, precision)
+        match self.number_part(place, precision) {
+            Some(part) => number_at(&self.generations[part.at].bytes, part.offset, precision),
+            None => self.walked_number(place, precision),
+        }
     }
 
     /// The bit that the place of a scalar of BIT of one bit holds; `None` where it holds none, or nothing, and for a
@@ -430,7 +434,7 @@ impl<'m> Storage<'m> {
 
     /// A number put at the number of so many binary digits to which a place leads.
     #[inline(always)]
-    fn put_number_in(
+    pub(crate) fn put_number_in(
         &mut self,
         place: Place<'_>,
         part: GenerationPart,
@@ -490,6 +494,22 @@ impl<'m> Storage<'m> {
                 self.put_number_in(place, GenerationPart { at, offset: 0 }, precision, number)
             }
             None => self.put_far_number(place, precision, number),
+        }
+    }
+
+    /// A number put at the place of a scalar as `put_number` puts it, where the place mostly leads to an element of an
+    /// array: that is found at once.
+    #[inline(always)]
+    pub fn put_element_number(&mut self, place: Place<'_>, number: i64) -> bool
+        ensures put { NumberPut result self.old self.new (place_view place.entry) number }
+        ensures refused { IsFalse result → CannotPutNumber self.old (place_view place.entry) number }
+    {
+        let Some(precision) = number_precision(place.description) else {
+            return false;
+        };
+        match self.number_part(place, precision) {
+            Some(part) => self.put_number_in(place, part, precision, number),
+            None => self.put_walked_number(place, precision, number),
         }
     }
 
@@ -724,6 +744,7 @@ impl<'m> Storage<'m> {
         let place = Place::of_whole(self.made, 0, self.generations.len() as u32, description);
         self.generations.push_reserved(Generation {
             number: self.made,
+            digits: digits_of(description),
             description,
             made,
             bytes,

@@ -9,6 +9,7 @@ ghost use Rattle.pli_type_operands.specs.views.TypingView.{denoted_view, role_vi
 ghost use Rattle.pli_type_expression.specs.views.SegmentView.{locator_view, of_name, segment_view};
 ghost use Rattle.pli_type.specs.views.ValueView.{value_view};
 ghost use Rattle.pli_type_expression.specs.Segments.{is_empty_function, is_null_function, means_one};
+ghost use Rattle.pli_type_names.specs.SymbolMeaning.{IsMeantAs};
 ghost use Rattle.pli_type_names.specs.UnitNaming.{naming_in};
 ghost use Rattle.pli_type_tree.specs.views.TypedView.{expression_view};
 
@@ -51,24 +52,24 @@ pub(crate) fn is_call(role: Role, joined: &[JoinedPart]) -> bool
     }
 }
 
-/// Whether the name at a token means NULL.
+/// Whether a name that means this means NULL.
 #[tactic(auto, using(crate::proofs::MeaningLemmas::function_is_such, crate::proofs::MeaningLemmas::variable_is_none_such, crate::proofs::MeaningLemmas::procedure_is_none_such, crate::proofs::MeaningLemmas::label_is_none_such, crate::proofs::MeaningLemmas::untyped_is_none_such))]
-fn is_null(naming: &Naming<'_>, at: u32) -> bool
-    ensures { result ≡ means_one is_null_function ((naming_in naming.now).meaning at) }
+fn is_null(meant: NamedAs<'_, '_>) -> bool
+    ensures { (m : names.NamedAs) → IsMeantAs meant.entry m → result ≡ means_one is_null_function m }
 {
-    match naming.meaning(at) {
+    match meant {
         NamedAs::Function(function) => function == BuiltInFunction::Null,
         NamedAs::Variable(_) | NamedAs::Procedure(_) | NamedAs::Label(_) | NamedAs::Untyped =>
             false,
     }
 }
 
-/// Whether the name at a token means EMPTY.
+/// Whether a name that means this means EMPTY.
 #[tactic(auto, using(crate::proofs::MeaningLemmas::function_is_such, crate::proofs::MeaningLemmas::variable_is_none_such, crate::proofs::MeaningLemmas::procedure_is_none_such, crate::proofs::MeaningLemmas::label_is_none_such, crate::proofs::MeaningLemmas::untyped_is_none_such))]
-fn is_empty(naming: &Naming<'_>, at: u32) -> bool
-    ensures { result ≡ means_one is_empty_function ((naming_in naming.now).meaning at) }
+fn is_empty(meant: NamedAs<'_, '_>) -> bool
+    ensures { (m : names.NamedAs) → IsMeantAs meant.entry m → result ≡ means_one is_empty_function m }
 {
-    match naming.meaning(at) {
+    match meant {
         NamedAs::Function(function) => function == BuiltInFunction::Empty,
         NamedAs::Variable(_) | NamedAs::Procedure(_) | NamedAs::Label(_) | NamedAs::Untyped =>
             false,
@@ -91,11 +92,12 @@ pub(crate) fn begun_alone(
     if !call {
         return Segment::named(alloc, locator, at);
     }
-    if is_null(naming, at) {
+    let meant = naming.meaning(at);
+    if is_null(meant) {
         drop(locator);
         return Segment::Function(null_value());
     }
-    if is_empty(naming, at) {
+    if is_empty(meant) {
         drop(locator);
         Segment::Empty
     } else {

@@ -1,10 +1,8 @@
 -- What is found block by block.
 use Rattle.std.proofs.Common.{◌≡◌, ℕ, zero, suc, ◌+◌, ◌<◌, ◌≤◌, Option, Some, None, List, [], ◌∷◌, ◌++◌, take, length, map, replicate, option_map, slice_get, get_or}
 use Rattle.std.proofs.Common.{refl, ap, sym, ◌∙◌, arith}
-use Rattle.std.specs.List.{flat_map}
 use Rattle.std.specs.Option.{unwrap_or}
-use Rattle.std.proofs.lemmas.Grind.{flat_map-append}
-use Rattle.std.proofs.lemmas.List.{append-nil, length-append, length-map, length-replicate, take_all}
+use Rattle.std.proofs.lemmas.List.{length-append, length-map, length-replicate, take_all}
 use Rattle.std.proofs.lemmas.Option.{slice_get-get_or, unwrap_or-slice_get}
 use Rattle.pli_declare.specs.ResolvedUnits.{ResolvedUnit, ResolvedBlock, all_symbols}
 use Rattle.pli_declare.specs.Symbols.{Symbol}
@@ -116,18 +114,3 @@ globals_placed xss n =
       length-map (numbers_from 0 (length tokens)) (λ number. place_from 0 number (text_order tokens)),
       numbers_counted 0 (length tokens),
     )
-
--- what is gathered from one block more, and from all
-pub gathered_more : {A : Type 0} (f : List Symbol → List A) (r : ResolvedUnit) (n : ℕ) → n < length r.blocks + 1
-    → flat_map f (take n (all_symbols r)) ++ f (block_symbols r n) ≡ flat_map f (take (n + 1) (all_symbols r))
-gathered_more f r n h =
-    let own = block_symbols r n in
-    sym (ap (flat_map f) (take_one_more (all_symbols r) n own (symbols_there r n h))
-    ∙ flat_map-append f (take n (all_symbols r)) (own ∷ [])
-    ∙ ap (λ ts. flat_map f (take n (all_symbols r)) ++ ts) (append-nil (f own)))
-
-pub all_gathered : {A : Type 0} (f : List Symbol → List A) (r : ResolvedUnit) (n : ℕ) → length r.blocks + 1 ≤ n
-    → flat_map f (take n (all_symbols r)) ≡ flat_map f (all_symbols r)
-all_gathered f r n h =
-    let long : length (all_symbols r) ≤ n = omega (arith, h, all_counted r) in
-    ap (flat_map f) (take_all n (all_symbols r) long)

@@ -45,7 +45,7 @@ take_one_more xs n x e =
     ap (λ k. take k xs) next ∙ take_next xs n x e
 
 -- one item more
-pub made_more : {A B : Type 0} (view : B → A) (all : List A) (n : ℕ) (made : List B) (x : B) → map view made ≡ take n all
+made_more : {A B : Type 0} (view : B → A) (all : List A) (n : ℕ) (made : List B) (x : B) → map view made ≡ take n all
     → slice_get all n ≡ Some (view x) → map view (made ++ x ∷ []) ≡ take (n + 1) all
 made_more view all n made x e found =
     map-append view made (x ∷ []) ∙ ap (λ xs. xs ++ view x ∷ []) e ∙ sym (take_one_more all n (view x) found)
@@ -96,17 +96,6 @@ number_more f ss n d made x all h is e =
     append_assoc made (x ∷ []) rest
     ∙ ap (λ y. made ++ (y ∷ rest)) is
     ∙ ap (λ ys. made ++ ys) (sym (at_drop_more (λ xs. each_from f n (map symbol_view xs)) ss n d h))
-    ∙ e
-
--- the same of what numbers give
-pub mapped_more : {A B C : Type 0} (view : B → A) (f : C → A) (cs : List C) (n : ℕ) (d : C) (made : List B) (x : B) (all : List A)
-    → n < length cs → view x ≡ f (get_or cs n d) → map view made ++ map f (drop n cs) ≡ all
-    → map view (made ++ x ∷ []) ++ map f (drop (n + 1) cs) ≡ all
-mapped_more view f cs n d made x all h is e =
-    let rest = map f (drop (n + 1) cs) in
-    one_more view made x rest
-    ∙ ap (λ y. map view made ++ (y ∷ rest)) is
-    ∙ ap (λ ys. map view made ++ ys) (sym (at_drop_more (map f) cs n d h))
     ∙ e
 
 pub none_mapped : {A B : Type 0} (f : A → B) (xs : List A) → length xs ≡ 0 → map f xs ≡ []

@@ -1,12 +1,11 @@
--- What the names of a unit mean, its procedures and its symbols, by its tree.
+-- What the names of a unit mean, and its procedures, by its tree.
 use Rattle.std.specs.Prelude.{ℕ, Bool, List, ◌∷◌, drop, refl}
 use Rattle.std.specs.Coded.{Coded, code_by, coded×, coded_list, coded_ℕ}
 use Rattle.pli_base.specs.contracts.statement.Body.TheKnot.{coded-Procedure}
 use Rattle.pli_base.specs.declared.statement.Procedure.{Procedure}
 use Rattle.pli_base.specs.views.StatementView.{unit_view}
 use Rattle.pli_declare.specs.ResolvedUnits.{resolved_unit_of}
-use Rattle.pli_declare.specs.Symbols.{Symbol}
-use Rattle.pli_type_rules.specs.NamedUnits.{block_symbols, named_procedure, named_unit}
+use Rattle.pli_type_rules.specs.NamedUnits.{named_procedure, named_unit}
 use Rattle.pli_type_rules.specs.Names.{Naming, NamedProcedure}
 
 -- a unit, and the blocks around, the innermost first
@@ -39,7 +38,3 @@ based_in n = (named_unit 63 (resolved_unit_of (unit_view n.unit))).is_based
 -- a block as a procedure: what its parameters are, what it gives, and the area that its RETURNS names
 unfoldable pub procedure_in : Names → (block : ℕ) → NamedProcedure
 procedure_in n block = named_procedure 63 (resolved_unit_of (unit_view n.unit)) n.blocks block
-
--- the symbols of a block
-unfoldable pub symbols_in : Procedure → (block : ℕ) → List Symbol
-symbols_in u block = block_symbols (resolved_unit_of (unit_view u)) block

@@ -17,10 +17,8 @@ mod passed_members;
 mod place;
 mod seen;
 mod storage;
-mod unit_symbols;
 
 pub use descriptions::{GREATEST, is_plain, is_stored, is_valued};
 pub use naming::{NamedAs, NamedProcedure, NamedVariable, Naming, name_unit};
 pub use part::StridedPart;
 pub use storage::{NamedLocator, NamedStorage};
-pub use unit_symbols::symbols;

@@ -6,6 +6,7 @@ ghost use Rattle.pli_map.specs.views.DescriptionView.{description_view};
 ghost use Rattle.pli_map.specs.views.ParameterView.{type_seen, type_view};
 ghost use Rattle.pli_declare.specs.ResolvedUnits.{resolved_unit_of};
 ghost use Rattle.pli_declare.specs.views.SymbolView.{symbol_view, symbol_kind_view};
+ghost use Rattle.pli_resolve.specs.views.UnitView.{AreSymbolsOf};
 ghost use Rattle.pli_type_rules.specs.NamedUnits.{block_symbols, globals_before, parameter_numbers};
 ghost use Rattle.pli_type_names.specs.OnWays.{IsLevel};
 ghost use Rattle.pli_type_names.specs.Seen.{entry_kept, kept_symbols, kind_kept, on_way, open_kept};
@@ -22,7 +23,6 @@ use crate::own_variables::{is_parameter, own_variables};
 use crate::parameters::parameter_numbers;
 use crate::part::StridedPart;
 use crate::place::Location;
-use crate::unit_symbols::symbols;
 use pli_declare::{Symbol, SymbolKey, SymbolKind};
 use pli_map::{Description, ParameterType, TypeRef};
 use pli_resolve::ResolvedUnit;
@@ -192,10 +192,10 @@ fn symbol_meanings<'a>(
     ensures counted { IfOk result (λ _. globals.new
         ≡ globals.old + globals_before 63 (map symbol_view symbols.now) (length symbols.now)) }
 {
-    let mut numbers = Vec::new(alloc);
+    let mut numbers = Vec::with_capacity(alloc, symbols.len())?;
     let variables = own_variables(alloc, symbols, parameters, places, globals, &mut numbers)?;
     let mut levels = Vec::new(alloc);
-    let mut meanings = Vec::new(alloc);
+    let mut meanings = Vec::with_capacity(alloc, symbols.len())?;
     for (number, symbol) in symbols.iter().enumerate() {
         let global = numbers[number];
         let meaning = symbol_meaning(
@@ -216,12 +216,15 @@ fn symbol_meanings<'a>(
 fn put_meanings<'r>(
     alloc: Global,
     resolved: &'r ResolvedUnit<'r>,
+    symbols: &[Symbol<'r>],
     places: &[usize],
     block: usize,
     globals: &mut usize,
     made: &mut Vec<Vec<SymbolMeaning<'r>>>,
 ) -> Result<(), AllocError>
-    requires { globals.old ≤ length places.now }
+    requires placed { globals.old ≤ length places.now }
+    requires symbols { map symbol_view symbols.now
+        ≡ block_symbols (resolved_unit_of (unit_view resolved.now)) block }
     ensures meanings { OnOk result (map row_view made.new.items ≡ map row_view made.old.items
         ++ kept_symbols (record {
           parameters = parameter_numbers (resolved_unit_of (unit_view resolved.now)) block;
@@ -233,9 +236,8 @@ fn put_meanings<'r>(
         + globals_before 63 (block_symbols (resolved_unit_of (unit_view resolved.now)) block)
         (length (block_symbols (resolved_unit_of (unit_view resolved.now)) block))) }
 {
-    let symbols = symbols(alloc, resolved, block)?;
     let parameters = parameter_numbers(resolved, block);
-    let row = symbol_meanings(alloc, &symbols, parameters, places, globals)?;
+    let row = symbol_meanings(alloc, symbols, parameters, places, globals)?;
     made.push(row)?;
     Ok(())
 }
@@ -244,16 +246,24 @@ fn put_meanings<'r>(
 pub(crate) fn unit_meanings<'r>(
     alloc: Global,
     resolved: &'r ResolvedUnit<'r>,
+    symbols: &[Vec<Symbol<'r>>],
 ) -> Result<Vec<Vec<SymbolMeaning<'r>>>, AllocError>
+    requires { AreSymbolsOf symbols.now (unit_view resolved.now) }
     ensures { IfOk result (λ made. AreMeanings made.items resolved.now) }
 {
-    let outermost = resolved.block_count();
-    let places = global_places(alloc, resolved)?;
-    let mut made = Vec::new(alloc);
+    let places = global_places(alloc, symbols)?;
+    let mut made = Vec::with_capacity(alloc, symbols.len())?;
     let mut globals = 0;
-    for block in 0..outermost {
-        put_meanings(alloc, resolved, &places, block, &mut globals, &mut made)?;
+    for (block, row) in symbols.iter().enumerate() {
+        put_meanings(
+            alloc,
+            resolved,
+            row,
+            &places,
+            block,
+            &mut globals,
+            &mut made,
+        )?;
     }
-    put_meanings(alloc, resolved, &places, outermost, &mut globals, &mut made)?;
     Ok(made)
 }

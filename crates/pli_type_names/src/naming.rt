@@ -1,5 +1,6 @@
 //! What names mean where types are asked for.
 ghost use Rattle.std.specs.Prelude.{◌≡◌, [], slice_get, IfOk, OnErr, OnOk};
+ghost use Rattle.pli_resolve.specs.views.UnitView.{AreSymbolsOf};
 ghost use Rattle.pli_type_rules.specs.NamedUnits.{declared_as, names_based};
 ghost use Rattle.pli_type_rules.specs.Names as plain;
 ghost use Rattle.pli_base.specs.views.StatementView.{unit_view};
@@ -19,7 +20,7 @@ use crate::part::StridedPart;
 use crate::seen::{area_under, symbol_seen};
 use crate::storage::NamedStorage;
 use pli_base::statement::Procedure;
-use pli_declare::{BuiltInFunction, NameMeaning, SymbolKey};
+use pli_declare::{BuiltInFunction, NameMeaning, Symbol, SymbolKey};
 use pli_map::{Description, TypeRef};
 use pli_resolve::ResolvedUnit;
 use pli_type_rules::Beginning;
@@ -99,17 +100,19 @@ impl<'a> Model for Naming<'a> {
         × (length n.no_parameters.items ≡ 0) };
 }
 
-/// What the names of a resolved unit mean, outside of all its blocks. What is undescribed, a pointer, stands for a
-/// parameter that is no variable, of which a unit without faults has none. Takes time for the unit's symbols.
+/// What the names of a resolved unit with these symbols mean, outside of all its blocks. What is undescribed, a pointer,
+/// stands for a parameter that is no variable, of which a unit without faults has none. Takes time for the symbols.
 pub fn name_unit<'a>(
     alloc: Global,
     resolved: &'a ResolvedUnit<'a>,
+    symbols: &[Vec<Symbol<'a>>],
     undescribed: &'a Description,
 ) -> Result<Naming<'a>, AllocError>
-    requires { description_view undescribed.now ≡ described.Pointer }
+    requires symbols { AreSymbolsOf symbols.now (unit_view resolved.now) }
+    requires undescribed { description_view undescribed.now ≡ described.Pointer }
     ensures { IfOk result (λ naming. naming ≡ record { unit = resolved.now; blocks = [] }) }
 {
-    let meanings = unit_meanings(alloc, resolved)?;
+    let meanings = unit_meanings(alloc, resolved, symbols)?;
     let entries = block_entries(alloc, resolved, undescribed)?;
     Ok(Naming {
         resolved,

@@ -1,19 +1,16 @@
 //! The globals of a unit in the order of the text.
 ghost use Rattle.std.specs.Prelude.{◌≡◌, ◌<◌, ◌++◌, IfOk, OnOk, get_or, length, map, if◌then◌else◌};
 ghost use Rattle.std.specs.List.{All};
-ghost use Rattle.pli_base.specs.views.StatementView.{unit_view};
 ghost use Rattle.pli_map.specs.views.DescriptionView.{description_view};
-ghost use Rattle.pli_declare.specs.ResolvedUnits.{all_symbols, resolved_unit_of};
 ghost use Rattle.pli_declare.specs.views.SymbolView.{symbol_view, symbol_kind_view};
+ghost use Rattle.pli_resolve.specs.views.UnitView.{rows_view};
 ghost use Rattle.pli_type_rules.specs.NamedUnits as units;
-ghost use Rattle.pli_type_rules.specs.NamedUnits.{all_tokens, block_symbols, global_tokens, one_global};
+ghost use Rattle.pli_type_rules.specs.NamedUnits.{all_tokens, global_tokens, one_global};
 ghost use Rattle.pli_type_rules.specs.TextOrder.{numbers_from, place_from, text_order, text_places};
 
 use crate::descriptions::is_stored;
-use crate::unit_symbols::symbols;
 use pli_declare::{StorageClass, Symbol, SymbolKind};
 use pli_map::Description;
-use pli_resolve::ResolvedUnit;
 use std::alloc::{AllocError, Global};
 
 /// Whether a variable is STATIC or CONTROLLED, and compiled.
@@ -53,32 +50,14 @@ fn put_tokens(symbols: &[Symbol<'_>], tokens: &mut Vec<usize>) -> Result<(), All
     Ok(())
 }
 
-/// Puts the tokens of the names of globals in the block of this number.
-#[tactic(auto, unfolding(crate::specs::UnitNaming::symbols_in))]
-fn put_block_tokens<'r>(
-    alloc: Global,
-    resolved: &'r ResolvedUnit<'r>,
-    block: usize,
-    tokens: &mut Vec<usize>,
-) -> Result<(), AllocError>
-    ensures { OnOk result (tokens.new.items ≡ tokens.old.items
-        ++ global_tokens 63 (block_symbols (resolved_unit_of (unit_view resolved.now)) block)) }
-{
-    let symbols = symbols(alloc, resolved, block)?;
-    put_tokens(&symbols, tokens)
-}
-
 /// The tokens of the names of a unit's globals, block after block.
-fn unit_tokens<'r>(alloc: Global, resolved: &'r ResolvedUnit<'r>) -> Result<Vec<usize>, AllocError>
-    ensures { IfOk result (λ tokens. tokens.items ≡ all_tokens 63
-        (all_symbols (resolved_unit_of (unit_view resolved.now)))) }
+fn unit_tokens(alloc: Global, symbols: &[Vec<Symbol<'_>>]) -> Result<Vec<usize>, AllocError>
+    ensures { IfOk result (λ tokens. tokens.items ≡ all_tokens 63 (rows_view symbols.now)) }
 {
-    let outermost = resolved.block_count();
     let mut tokens = Vec::new(alloc);
-    for block in 0..outermost {
-        put_block_tokens(alloc, resolved, block, &mut tokens)?;
+    for row in symbols {
+        put_tokens(row, &mut tokens)?;
     }
-    put_block_tokens(alloc, resolved, outermost, &mut tokens)?;
     Ok(tokens)
 }
 
@@ -126,16 +105,15 @@ fn places_among(alloc: Global, numbers: &[usize]) -> Result<Vec<usize>, AllocErr
     Ok(places)
 }
 
-/// For each global of a unit, block after block, its number in the order of the names in the text. Takes time for the
-/// unit's symbols, and for sorting its globals.
-pub(crate) fn global_places<'r>(
+/// For each global of a unit with these symbols, block after block, its number in the order of the names in the text.
+/// Takes time for the symbols, and for sorting the globals.
+pub(crate) fn global_places(
     alloc: Global,
-    resolved: &'r ResolvedUnit<'r>,
+    symbols: &[Vec<Symbol<'_>>],
 ) -> Result<Vec<usize>, AllocError>
-    ensures { IfOk result (λ places. places.items
-        ≡ text_places (all_tokens 63 (all_symbols (resolved_unit_of (unit_view resolved.now))))) }
+    ensures { IfOk result (λ places. places.items ≡ text_places (all_tokens 63 (rows_view symbols.now))) }
 {
-    let tokens = unit_tokens(alloc, resolved)?;
+    let tokens = unit_tokens(alloc, symbols)?;
     let numbers = sorted_numbers(alloc, &tokens)?;
     places_among(alloc, &numbers)
 }

@@ -181,7 +181,7 @@ pub(crate) fn own_variables<'a>(
         globals: *globals,
         based: 0,
     };
-    let mut variables = Vec::new(alloc);
+    let mut variables = Vec::with_capacity(alloc, symbols.len())?;
     for (number, symbol) in symbols.iter().enumerate() {
         numbers.push(under(places, free.globals))?;
         let variable = own_variable(symbol.kind, number, parameters, places, &mut free);

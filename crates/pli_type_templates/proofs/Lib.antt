@@ -3,6 +3,7 @@ pub mod GroupsMade
 pub mod ItemsShared
 pub mod MembersFound
 pub mod NamesNoted
+pub mod NoValues
 pub mod OffsetsMade
 pub mod PlansMade
 pub mod RunsMade

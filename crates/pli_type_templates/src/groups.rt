@@ -1,5 +1,6 @@
 //! What variables are made from.
-ghost use Rattle.std.specs.Prelude.{◌≡◌, ◌≤◌, ◌++◌, List, IfOk, OnOk, length, map, option_map, replicate, take, true};
+ghost use Rattle.std.specs.Prelude.{◌≡◌, ◌≤◌, ◌++◌, [], List, IfOk, OnOk, false, length, map, option_map, replicate};
+ghost use Rattle.std.specs.Prelude.{take, true};
 ghost use Rattle.std.specs.List.{All};
 ghost use Rattle.pli_declare_outline.specs.Outlines.{PlacedMark};
 ghost use Rattle.pli_map.specs.views.DescriptionView.{description_view};
@@ -67,6 +68,35 @@ pub(crate) fn made_in<'a>(
     }
 }
 
+/// Whether a variable or a member of it has initial values.
+fn has_values(made: &MadeVariable<'_>) -> bool
+    ensures { result ≡ false → (made_template made.now).initial ≡ [] }
+{
+    if !made.values.is_empty() {
+        return true;
+    }
+    let members = made.members;
+    for member in members {
+        if !member.values.is_empty() {
+            return true;
+        }
+    }
+    false
+}
+
+/// What one variable is made from that has no initial values.
+fn plain_template(alloc: Global, made: &MadeVariable<'_>) -> Result<Template, AllocError>
+    requires { (made_template made.now).initial ≡ [] }
+    ensures { IfOk result (λ template. template_view template ≡ made_template made.now) }
+{
+    let description = made.description.copy(alloc)?;
+    let initial = Vec::new(alloc);
+    Ok(Template {
+        description,
+        initial,
+    })
+}
+
 /// What one variable is made from, by its own INITIAL and by those of its members.
 pub(crate) fn variable_template(
     alloc: Global,
@@ -74,6 +104,9 @@ pub(crate) fn variable_template(
 ) -> Result<Template, AllocError>
     ensures { IfOk result (λ template. template_view template ≡ made_template made.now) }
 {
+    if !has_values(made) {
+        return plain_template(alloc, made);
+    }
     let plan = variable_plan(alloc, made.description)?;
     let mut scalars = Vec::new(alloc);
     let own = ValuedItem {
@@ -126,7 +159,7 @@ fn made_variables<'a>(
         All (AreOfItems marks) (map symbol_view symbols.now)
         → All (HasMadeItem marks) made.items) }
 {
-    let mut made = Vec::new(alloc);
+    let mut made = Vec::with_capacity(alloc, symbols.len())?;
     for number in 0..symbols.len() {
         put_made(wanted, &symbols[number], &members[number], &mut made)?;
     }

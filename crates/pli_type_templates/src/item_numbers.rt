@@ -1,11 +1,11 @@
 //! Which item of DECLARE each declared name is of, by the token of the name.
-ghost use Rattle.std.specs.Prelude.{◌≡◌, ℕ, nat_eq, true, OnOk, IfOk, map};
+ghost use Rattle.std.specs.Prelude.{◌≡◌, ◌≤◌, ℕ, nat_eq, None, true, OnOk, IfOk, length, map};
 ghost use Rattle.indexmap.specs.IndexMap.{get};
 ghost use Rattle.pli_base.specs.Declarations as tree;
 ghost use Rattle.pli_base.specs.views.DeclarationView.{item_view};
 ghost use Rattle.pli_base.specs.views.StatementView.{unit_view};
 ghost use Rattle.pli_declare_outline.specs.Outlines.{outline_of};
-ghost use Rattle.pli_declare_outline.specs.views.OutlineView.{mark_view, marks_view};
+ghost use Rattle.pli_declare_outline.specs.views.OutlineView.{mark_view, marks_view, outline_view};
 ghost use Rattle.pli_type_templates.specs.ItemNames.{HasFewMarks, HasFewRegions, IsNameOf, items_of};
 ghost use Rattle.pli_type_templates.specs.NotedNames.{AreOfOne, IsNoted, IsOnly, KeepNotes, NoteItems, NoteMarks};
 ghost use Rattle.pli_type_templates.specs.NotedNames.{NoteNames, TellItems};
@@ -16,7 +16,7 @@ use indexmap::IndexMap;
 use pli_base::declaration::Item;
 use pli_base::statement::Procedure;
 use pli_base::syntax::Identifier;
-use pli_declare_outline::{Mark, PlacedMark, outline};
+use pli_declare_outline::{Mark, Outline, PlacedMark};
 use std::alloc::{AllocError, Global};
 
 /// The items of the names of a unit.
@@ -104,14 +104,48 @@ fn note_marks(
     Ok(numbers)
 }
 
+/// A look at an outline. Its regions and marks are no more than vectors hold.
+fn look_at(outline: &Outline<'_>)
+    ensures regions { length outline.now.regions.items ≤ 1152921504606846976 }
+    ensures marks { length outline.now.marks.items ≤ 1152921504606846976 }
+{
+    let _regions = outline.regions.as_slice();
+    let _marks = outline.marks.as_slice();
+}
+
+/// No notes.
+fn no_notes(alloc: Global) -> IndexMap<u32, Option<ItemNumber>>
+    ensures { (at : ℕ) → get nat_eq result at ≡ None }
+{
+    IndexMap::new(alloc)
+}
+
 impl<'a> ItemNumbers<'a> {
-    /// The items of the names of a unit. Takes time for its text.
-    pub(crate) fn of(alloc: Global, unit: &'a Procedure) -> Result<ItemNumbers<'a>, AllocError>
+    /// The items of the names of a unit, none of which is known.
+    fn unknown(alloc: Global, unit: &'a Procedure) -> ItemNumbers<'a>
+        ensures { result.unit.now ≡ unit.now }
+    {
+        let numbers = no_notes(alloc);
+        ItemNumbers { unit, numbers }
+    }
+
+    /// The items of the names of a unit of this outline, where they are asked for; else none is known. Takes time for
+    /// its marks then.
+    pub(crate) fn of(
+        alloc: Global,
+        unit: &'a Procedure,
+        outline: &Outline<'_>,
+        are_asked_for: bool,
+    ) -> Result<ItemNumbers<'a>, AllocError>
+        requires { outline_view outline.now ≡ outline_of (unit_view unit.now) }
         ensures unit { IfOk result (λ made. made.unit.now ≡ unit.now) }
         ensures regions { IfOk result (λ _. HasFewRegions (unit_view unit.now)) }
         ensures marks { IfOk result (λ _. HasFewMarks (unit_view unit.now)) }
     {
-        let outline = outline(alloc, unit)?;
+        look_at(outline);
+        if !are_asked_for {
+            return Ok(ItemNumbers::unknown(alloc, unit));
+        }
         let numbers = note_marks(alloc, &outline.marks)?;
         Ok(ItemNumbers { unit, numbers })
     }

@@ -89,7 +89,8 @@ fn put_values(
     Ok(())
 }
 
-/// Puts the initial values of an item. No more bytes of scalars are told than values are written.
+/// Puts the initial values of an item. No more bytes of scalars are told than values are written, and without values
+/// nothing is looked for.
 pub(crate) fn put_item(
     alloc: Global,
     plan: &Plan<'_>,
@@ -100,6 +101,9 @@ pub(crate) fn put_item(
     ensures { IfOk result (λ _. map initial_view scalars.new.items
         ≡ map initial_view scalars.old.items ++ item_scalars (plan_view plan.now) (item_view item.entry)) }
 {
+    if item.values.is_empty() {
+        return Ok(());
+    }
     let wanted = elements_written(item.values);
     let mut levels = Vec::new(alloc);
     let Some(found) = find_leaf(plan, item.path, &mut levels)? else {

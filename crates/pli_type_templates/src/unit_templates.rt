@@ -4,6 +4,7 @@ ghost use Rattle.std.specs.List.{All};
 ghost use Rattle.pli_base.specs.views.StatementView.{unit_view};
 ghost use Rattle.pli_declare_outline.specs.Outlines.{PlacedMark};
 ghost use Rattle.pli_declare.specs.ResolvedUnits.{resolved_unit_of};
+ghost use Rattle.pli_resolve.specs.views.UnitView.{AreSymbolsOf};
 ghost use Rattle.pli_type_rules.specs.NamedUnits as units;
 ghost use Rattle.pli_type_rules.specs.NamedUnits.{all_globals, block_globals, is_based, named_unit, templates_of};
 ghost use Rattle.pli_type_templates.specs.Groups.{is_such};
@@ -22,6 +23,7 @@ use crate::groups::lifetime_groups;
 use crate::item_numbers::ItemNumbers;
 use crate::lifetime::Lifetime;
 use crate::placed_globals::{PlacedGlobal, sort};
+use pli_declare::{Symbol, SymbolKind};
 use pli_resolve::ResolvedUnit;
 use pli_type_tree::{GlobalGroup, InitialScalar, Template, VariableGroup};
 use std::alloc::{AllocError, Global};
@@ -119,7 +121,7 @@ fn lifetime_rows<'a>(
 {
     let mut made = Vec::new(alloc);
     for block in blocks {
-        made.push(lifetime_groups(alloc, items, wanted, &block.symbols, &block.members)?)?;
+        made.push(lifetime_groups(alloc, items, wanted, block.symbols, &block.members)?)?;
     }
     Ok(made)
 }
@@ -138,7 +140,7 @@ fn unit_globals<'a>(
 {
     let mut globals = Vec::new(alloc);
     for block in blocks {
-        put_globals(&block.symbols, &block.members, &mut globals)?;
+        put_globals(block.symbols, &block.members, &mut globals)?;
     }
     Ok(globals)
 }
@@ -158,11 +160,39 @@ fn sorted_groups<'a>(
     groups(alloc, items, &globals)
 }
 
-/// What the AUTOMATIC and BASED variables of each block of a unit are made from, and its globals (X3.74; the limits
-/// own): variables of numbers, strings and locators alone and areas, of at most 1,000,000 bytes each. Initial values
-/// stand in the order of the text, fitted to their scalars. Those of an item of DECLARE are made once for its names
-/// that stand in a row. Takes time for the text, for the values that are kept, and for sorting the globals.
-pub fn templates(alloc: Global, resolved: &ResolvedUnit<'_>) -> Result<UnitTemplates, AllocError>
+/// Whether it may be asked which item of DECLARE a symbol is of.
+fn asks_for_item(symbol: &Symbol<'_>) -> bool {
+    match symbol.kind {
+        SymbolKind::Variable { initial, .. } => !initial.is_empty(),
+        SymbolKind::Entry { .. } => true,
+        _ => false,
+    }
+}
+
+/// Whether it may be asked which item of DECLARE a symbol of these blocks is of: of variables with initial values, and
+/// of entries.
+fn ask_for_items(blocks: &[BlockNames<'_>]) -> bool {
+    for block in blocks {
+        for symbol in block.symbols {
+            if asks_for_item(symbol) {
+                return true;
+            }
+        }
+    }
+    false
+}
+
+/// What the AUTOMATIC and BASED variables of each block of a unit with these symbols are made from, and its globals
+/// (X3.74; the limits own): variables of numbers, strings and locators alone and areas, of at most 1,000,000 bytes
+/// each. Initial values stand in the order of the text, fitted to their scalars. Those of an item of DECLARE are made
+/// once for its names that stand in a row. Takes time for the symbols, for the marks where an item is asked for, for
+/// the values that are kept, and for sorting the globals.
+pub fn templates<'a>(
+    alloc: Global,
+    resolved: &'a ResolvedUnit<'a>,
+    symbols: &'a [Vec<Symbol<'a>>],
+) -> Result<UnitTemplates, AllocError>
+    requires { AreSymbolsOf symbols.now (unit_view resolved.now) }
     ensures automatic { IfOk result (λ made. (block : ℕ) → automatic_at made block
         ≡ (named_unit 63 (resolved_unit_of (unit_view resolved.now))).automatic block) }
     ensures based { IfOk result (λ made. (block : ℕ) → based_at made block
@@ -172,8 +202,9 @@ pub fn templates(alloc: Global, resolved: &ResolvedUnit<'_>) -> Result<UnitTempl
     ensures regions { IfOk result (λ _. HasFewRegions (unit_view resolved.now)) }
     ensures marks { IfOk result (λ _. HasFewMarks (unit_view resolved.now)) }
 {
-    let blocks = block_names(alloc, resolved)?;
-    let items = ItemNumbers::of(alloc, resolved.unit())?;
+    let blocks = block_names(alloc, symbols)?;
+    let are_asked_for = ask_for_items(&blocks);
+    let items = ItemNumbers::of(alloc, resolved.unit(), resolved.outline(), are_asked_for)?;
     let automatic = lifetime_rows(alloc, &items, Lifetime::Activation, &blocks)?;
     let based = lifetime_rows(alloc, &items, Lifetime::Allocation, &blocks)?;
     let globals = sorted_groups(alloc, &items, &blocks)?;

@@ -7,10 +7,7 @@ use Rattle.pli_map.specs.views.DescriptionView.{description_view}
 use Rattle.pli_map.specs.views.ParameterView.{type_view}
 use Rattle.pli_map.specs.declared.description.Description.{Description}
 use Rattle.pli_declare.specs.Completed as complete
-use Rattle.pli_declare.specs.Faults.{item_fault, result_fault, described_scalar}
-use Rattle.pli_declare.specs.declared.place.ItemPlace.{ItemPlace}
-use Rattle.pli_base.specs.declared.failure.Failure.{Failure}
-use Rattle.pli_base.specs.declared.failure.Failure.TheVariants as errors
+use Rattle.pli_declare.specs.Faults.{result_fault, described_scalar}
 use Rattle.pli_declare.specs.declared.completed.Completed.{Completed}
 use Rattle.pli_declare.specs.declared.completed.Completed.TheVariants as variants
 use Rattle.pli_declare.specs.declared.completed.Variable.{Variable}
@@ -33,13 +30,6 @@ completed_view (variants.Variable v) = complete.OfVariable (variable_view v)
 completed_view (variants.Entry parameters result) =
     complete.OfEntry (map type_view parameters.items) (option_map description_view result)
 completed_view variants.BuiltIn = complete.OfBuiltIn
-
--- the completed item, or its least fault; memory may be refused anywhere
-abbrev pub IsCompleted : Result Completed (Failure Code) → ItemPlace → tree.Item → Type 0
-IsCompleted (Ok completed) p i =
-    (item_fault p i ≡ None) × (completed_view completed ≡ complete.completed_of p i)
-IsCompleted (Err (errors.Fault code)) p i = item_fault p i ≡ Some code
-IsCompleted (Err errors.OutOfMemory) p i = Unit {0}
 
 -- the type of a result, or its least fault
 abbrev pub IsResult : Result Description Code → List tree.DescribedAttribute → Type 0

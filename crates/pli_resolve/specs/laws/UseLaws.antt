@@ -7,9 +7,9 @@ use Rattle.pli_declare_outline.specs.Outlines.{Mark, Used, Jumped, PlacedMark, o
 use Rattle.pli_declare_constructs.specs.Reach.{reaches}
 use Rattle.pli_declare.specs.Tables.{inner_marks}
 use Rattle.pli_declare.specs.ResolvedUnits.{ResolvedUnit, resolved_unit_of, meaning_at, symbol_at}
-use Rattle.pli_declare.specs.StatementPlaces.{unit_places}
+use Rattle.pli_declare_outline.specs.StatementPlaces.{unit_places}
 use Rattle.pli_declare.specs.Symbols.{Symbol, Label}
-use Rattle.pli_declare.specs.declared.statement_places.StatementPlace.{StatementPlace}
+use Rattle.pli_declare_outline.specs.declared.statement_places.StatementPlace.{StatementPlace}
 use Rattle.pli_declare.specs.declared.symbol.NameMeaning.{NameMeaning}
 use Rattle.pli_declare.specs.declared.symbol.NameMeaning.TheVariants as meanings
 use Rattle.pli_declare.specs.declared.symbol.SymbolKey.{SymbolKey}

@@ -5,8 +5,8 @@ use pli_base::declaration::Item;
 use pli_base::{Code, TokenText};
 use pli_declare::{Completed, ItemPlace, Position};
 use pli_declare_attributes::{
-    ItemFacts, Named, array_layout, completed_item, completed_result, elements_within, has_star,
-    item_fault, lesser, result_fault, scalar_layout,
+    ItemFacts, Named, array_layout, completed_item, completed_result, elements_within, item_fault,
+    lesser, result_fault, scalar_layout,
 };
 use pli_map::{Description, ParameterType, StringForm};
 use pli_parse_declaration::{declaration_at, returned_at};
@@ -23,12 +23,12 @@ const ALONE: ItemPlace = ItemPlace {
     built_in_name: false,
 };
 
-/// Whether an item is an array of numbers, and so is a copy of what it is.
+/// Whether an item is an array of numbers.
 fn is_array(rt: &impl Abort, alloc: Global, facts: &ItemFacts<'_>) -> bool {
-    let completed = completed_item(alloc, ALONE, facts)
-        .ok()
-        .expect(rt, "an item");
-    match completed.copy(alloc).expect(rt, "memory") {
+    if item_fault(ALONE, facts).is_some() {
+        return false;
+    }
+    match completed_item(alloc, ALONE, facts).expect(rt, "memory") {
         Completed::Variable(variable) => variable.bounds.len() == 1 && variable.initial.len() == 2,
         _ => false,
     }
@@ -100,9 +100,10 @@ fn is_any_row(taken: &ParameterType) -> bool {
 /// Whether a parameter is of such a type, and what is no parameter may not be.
 fn is_open(rt: &impl Abort, alloc: Global, item: &Item) -> bool {
     let facts = ItemFacts::of(alloc, item).expect(rt, "memory");
-    let completed = completed_item(alloc, PASSED, &facts)
-        .ok()
-        .expect(rt, "an item");
+    if item_fault(PASSED, &facts).is_some() {
+        return false;
+    }
+    let completed = completed_item(alloc, PASSED, &facts).expect(rt, "memory");
     let is_taken = match &completed {
         Completed::Variable(variable) => match &variable.taken {
             Some(taken) => is_any_row(taken),
@@ -110,9 +111,7 @@ fn is_open(rt: &impl Abort, alloc: Global, item: &Item) -> bool {
         },
         _ => false,
     };
-    is_taken
-        && has_star(&item.attributes, &item.dimensions)
-        && item_fault(ALONE, &facts) == Some(Code::BadLength)
+    is_taken && facts.has_star() && item_fault(ALONE, &facts) == Some(Code::BadLength)
 }
 
 /// Whether the one item of a declaration is open.

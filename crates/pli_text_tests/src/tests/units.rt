@@ -39,7 +39,7 @@ fn finds_member(rt: &impl Abort, alloc: Global, outline: &Outline<'_>) -> bool {
 /// Whether the outline of a unit has three regions, and its first block that member.
 fn is_outlined(rt: &impl Abort, alloc: Global, unit: &Procedure) -> bool {
     let outline = outline(alloc, unit).expect(rt, "memory");
-    outline.regions.len() == 3 && finds_member(rt, alloc, &outline)
+    outline.regions.len() == 3 && !outline.places.is_empty() && finds_member(rt, alloc, &outline)
 }
 
 #[test]
@@ -58,20 +58,19 @@ fn is_member(meaning: Option<Target>) -> bool {
     )
 }
 
-/// Whether a copy of what the names of a unit mean says so.
-fn are_told(rt: &impl Abort, alloc: Global, resolved: &Resolved<'_>) -> bool {
-    let copy = resolved.copy(alloc).expect(rt, "memory");
-    copy.blocks().len() == 3
-        && is_member(copy.meaning_at(20))
-        && copy.outermost().len() == 1
-        && copy.area_at(20).is_none()
+/// Whether what the names of a unit mean is told so.
+fn are_told(resolved: &Resolved<'_>) -> bool {
+    resolved.blocks().len() == 3
+        && is_member(resolved.meaning_at(20))
+        && resolved.outermost().len() == 1
+        && resolved.area_at(20).is_none()
 }
 
 /// Whether the names of a unit mean what they should.
 fn are_named(rt: &impl Abort, alloc: Global, unit: &Procedure) -> bool {
     let outline = outline(alloc, unit).expect(rt, "memory");
     let resolved = resolve(alloc, unit, &outline).ok().expect(rt, "no faults");
-    are_told(rt, alloc, &resolved)
+    are_told(&resolved)
 }
 
 #[test]
@@ -95,10 +94,11 @@ fn is_resolved(unit: &ResolvedUnit<'_>) -> bool {
         && unit.block_of_statement(5) == Some(2)
 }
 
-/// Whether a unit is, and so is a copy of it.
+/// Whether a unit is, with its outline, and the symbols of its blocks and of the outermost one.
 fn are_resolved(rt: &impl Abort, alloc: Global, unit: &Procedure) -> bool {
     let resolved = resolve_unit(alloc, unit).ok().expect(rt, "no faults");
-    is_resolved(&resolved) && is_resolved(&resolved.copy(alloc).expect(rt, "memory"))
+    let rows = resolved.symbols(alloc).expect(rt, "memory");
+    is_resolved(&resolved) && resolved.outline().regions.len() == 3 && rows.len() == 4
 }
 
 #[test]

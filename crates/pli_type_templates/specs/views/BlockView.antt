@@ -8,7 +8,7 @@ use Rattle.pli_type_templates.specs.views.ItemView.{rows_view}
 
 -- the symbols of a block
 abbrev pub block_symbols : BlockNames → List Symbol
-block_symbols b = map symbol_view b.symbols.items
+block_symbols b = map symbol_view b.symbols.now.items
 
 -- under the number of each symbol its members
 abbrev pub AreKnown : BlockNames → Type 0

@@ -106,18 +106,22 @@ static REGIONS: [Region; 4] = [
     Region {
         kind: RegionKind::Procedure,
         outer: None,
+        statement: 1,
     },
     Region {
         kind: RegionKind::Group,
         outer: Some(0),
+        statement: 2,
     },
     Region {
         kind: RegionKind::OnUnit,
         outer: Some(1),
+        statement: 3,
     },
     Region {
         kind: RegionKind::Begin,
         outer: Some(2),
+        statement: 4,
     },
 ];
 

@@ -10,7 +10,7 @@ use Rattle.pli_declare_constructs.proofs.nesting.blocks_of.Goals.{then-is_block,
 
 -- what is read where there is no region
 abbrev no_region : Written
-no_region = record { kind = kinds.Procedure; outer = None }
+no_region = record { kind = kinds.Procedure; outer = None; statement = 0 }
 
 pub loop-region-preserved : goal.loop-region-preserved
 loop-region-preserved c =

@@ -9,8 +9,8 @@ use Rattle.pli_declare_tables.specs.views.TableView.{entity_view}
 use Rattle.pli_declare_variables.specs.answers.Declaring.{IsFaultlessCut}
 use Rattle.pli_declare_variables.proofs.declared.kind.Goals as goal
 
-pub completed-requires : goal.completed-requires
-completed-requires c =
+pub completed_item-requires : goal.completed_item-requires
+completed_item-requires c =
     let facts = c.in-Item.facts in
     let item = item_view facts.item.now in
     let good = subst (λ (e : Entity). IsFaultlessCut c.args.place e) (ap entity_view c.in-Item.is) c.requires in

@@ -52,7 +52,7 @@ describe-returns t c =
       | describe-then-is_empty w ↦
           let none = sym found ∙ no_members v c.is_empty.result c.is_empty.ensures w.if-is_empty.true in
           ap (λ x. Some (description_view x)) w.element-is
-          ∙ ap Some (w.scalar_description-element.ensures ∙ ap (λ as'. described_scalar (map outermost as')) (w.attributes.ensures ∙ ap (λ (x : tables.Entry). (item_in x.entity).attributes) read))
+          ∙ ap Some (w.scalar-element.ensures ∙ ap (λ (x : tables.Entry). described_scalar (map outermost (item_in x.entity).attributes)) read)
           ∙ ap (inside (described size entries codes) scalar) (sym none)
       | describe-else-is_empty+in_ok-inside+in-Some w ↦
           let some : members_of entries n ≡ [] → ⊥ = λ none. some_members v c.is_empty.result c.is_empty.ensures w.if-is_empty.false (found ∙ none) in

@@ -1,8 +1,6 @@
 use Rattle.std.proofs.Common.{◌≡◌, [], map, length, ap, sym, ◌∙◌, subst, true≢false}
 use Rattle.std.proofs.lemmas.List.{nil_from_length}
 use Rattle.std.proofs.lemmas.Bool.{eqb-true, eq-eqb}
-use Rattle.pli_map.specs.Layouts.{IsLayout}
-use Rattle.pli_map.specs.Sizes.{size_of, alignment_of}
 use Rattle.pli_declare.specs.Extents.{all_bounds}
 use Rattle.pli_declare.specs.Faults.{with_bounds, described_scalar}
 use Rattle.pli_declare.specs.Sets.{outermost}
@@ -24,9 +22,8 @@ returns c = λ describe known.
     let here : IsMeasured c.if-is_empty.inside whole = elim c.if-is_empty.branch [
       | then-is_empty w ↦
           let none : members ≡ [] = nil_from_length members (eqb-true (length members) 0 (sym c.is_empty.ensures ∙ w.if-is_empty.true)) in
-          let takes = subst (λ as'. IsLayout w.scalar_layout.result (size_of (described_scalar (map outermost as'))) (alignment_of (described_scalar (map outermost as')))) w.attributes.ensures w.scalar_layout.ensures in
           subst (λ m. IsMeasured m whole) (sym (w.inside-is ∙ w.of-inside.ensures))
-          (subst (λ ks. IsMeasured (of_layout w.scalar_layout.result) (inside describe scalar ks)) (sym none) (of_scalar w.scalar_layout.result scalar takes))
+          (subst (λ ks. IsMeasured (of_layout w.layout.result) (inside describe scalar ks)) (sym none) (of_scalar w.layout.result scalar w.layout.ensures))
       | else-is_empty w ↦
           subst (λ m. IsMeasured m whole) (sym w.inside-is)
           (subst (IsMeasured w.structure-inside.result)

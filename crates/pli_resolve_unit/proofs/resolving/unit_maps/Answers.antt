@@ -2,7 +2,7 @@ use Rattle.std.proofs.Common.{List, map, ap, ◌∙◌}
 use Rattle.std.specs.List.{flat_map}
 use Rattle.pli_declare.specs.Symbols.{found_in}
 use Rattle.pli_declare.specs.ResolvedUnits.{label_statement}
-use Rattle.pli_declare.specs.declared.statement_places.StatementPlace.{StatementPlace}
+use Rattle.pli_declare_outline.specs.declared.statement_places.StatementPlace.{StatementPlace}
 use Rattle.pli_resolve_unit.proofs.resolving.unit_maps.Goals as goal
 
 pub returns : goal.returns

@@ -6,20 +6,18 @@ use Rattle.pli_declare.specs.Symbols.{Symbol}
 use Rattle.pli_declare.specs.views.SymbolView.{symbol_view}
 use Rattle.pli_type_rules.specs.NamedUnits.{block_symbols, globals_before, parameter_numbers}
 use Rattle.pli_type_names.specs.Seen.{Kept, kept_symbols}
-use Rattle.pli_type_names.specs.UnitNaming.{symbols_in}
 use Rattle.pli_type_names.specs.views.MeaningView.{row_view}
 use Rattle.pli_type_names.proofs.meanings.put_meanings.Goals as goal
 
 pub returns : goal.returns
-unfolding symbols_in
 returns c =
     let r = resolved_unit_of (unit_view c.args.resolved.now) in
     let n = c.args.block in
     let old = c.args.made.now.items in
     let first = c.args.globals.now in
     let places = c.args.places.now in
-    let ss = c.deref.result.now in
-    let same : map symbol_view ss ≡ block_symbols r n = ap (map symbol_view) c.deref.ensures.value ∙ c.in_ok-symbols.ensures in
+    let ss = c.args.symbols.now in
+    let same : map symbol_view ss ≡ block_symbols r n = c.requires.symbols in
     let kept : List ℕ → List Symbol → List Kept = λ p xs. kept_symbols (record { parameters = p; places = places; globals = first; symbols = xs }) in
     let row : row_view c.in_ok-row.row ≡ kept (parameter_numbers r n) (block_symbols r n) =
     c.in_ok-row.ensures.meanings

@@ -22,7 +22,7 @@ index-global-requires c =
     let g : ℕ → plain.Symbol → ℕ = λ number x. global_at facts number in
     omega (
       arith,
-      ap length (c.in_ok-variables.ensures.numbers ∙ ap (λ xs. xs ++ each_from g 0 all) c.new-numbers.ensures.items),
+      ap length (c.in_ok-variables.ensures.numbers ∙ ap (λ xs. xs ++ each_from g 0 all) c.in_ok-numbers.ensures.items),
       each_counted g 0 all,
       length-map ss symbol_view,
       c.loop-number-test.true,
@@ -44,7 +44,7 @@ loop-number-preserved c =
     let counted : global ≡ global_at facts n =
     c.index-global.ensures
     ∙ ap (λ xs. get_or xs n global)
-    (c.in_ok-variables.ensures.numbers ∙ ap (λ xs. xs ++ each_from g 0 all) c.new-numbers.ensures.items)
+    (c.in_ok-variables.ensures.numbers ∙ ap (λ xs. xs ++ each_from g 0 all) c.in_ok-numbers.ensures.items)
     ∙ number_there g ss n global s c.loop-number-test.true in
     let is =
     c.in_ok-meaning.ensures.meaning

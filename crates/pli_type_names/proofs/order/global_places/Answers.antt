@@ -2,8 +2,7 @@ use Rattle.std.proofs.Common.{◌≡◌, ℕ, ◌<◌, List, Vec, length, map, a
 use Rattle.std.specs.Global.{Global}
 use Rattle.std.specs.List.{All}
 use Rattle.std.specs.Prelude.{IfOk}
-use Rattle.pli_base.specs.views.StatementView.{unit_view}
-use Rattle.pli_declare.specs.ResolvedUnits.{all_symbols, resolved_unit_of}
+use Rattle.pli_resolve.specs.views.UnitView.{rows_view}
 use Rattle.pli_type_rules.specs.NamedUnits.{all_tokens}
 use Rattle.pli_type_rules.specs.TextOrder.{numbers_from, place_from, text_order}
 use Rattle.pli_type_rules.proofs.TextNumbers.{order_below, order_counted}
@@ -11,7 +10,7 @@ use Rattle.pli_type_names.proofs.order.global_places.Goals as goal
 
 pub places_among-requires : goal.places_among-requires
 places_among-requires c =
-    let tokens : List ℕ = all_tokens 63 (all_symbols (resolved_unit_of (unit_view c.args.resolved.now))) in
+    let tokens : List ℕ = all_tokens 63 (rows_view c.args.symbols.now) in
     let sorted : c.deref-2.result.now ≡ text_order tokens =
     c.deref-2.ensures.value ∙ c.in_ok-numbers.ensures ∙ ap text_order (c.deref.ensures.value ∙ c.in_ok-tokens.ensures) in
     subst (λ ns. All (λ number. number < length ns) ns) (sym sorted)
@@ -19,7 +18,7 @@ places_among-requires c =
 
 pub returns : goal.returns
 returns c =
-    let tokens : List ℕ = all_tokens 63 (all_symbols (resolved_unit_of (unit_view c.args.resolved.now))) in
+    let tokens : List ℕ = all_tokens 63 (rows_view c.args.symbols.now) in
     let sorted : c.deref-2.result.now ≡ text_order tokens =
     c.deref-2.ensures.value ∙ c.in_ok-numbers.ensures ∙ ap text_order (c.deref.ensures.value ∙ c.in_ok-tokens.ensures) in
     subst

@@ -19,7 +19,7 @@ loop-number-init c =
       globals = omega (arith, no_global_before all);
       based = omega (arith, none_before (is_based 63) all);
       numbers = refl;
-      variables = ap (λ xs. map (option_map own_view) xs ++ spec.own_variables f) c.new-variables.ensures.items;
+      variables = ap (λ xs. map (option_map own_view) xs ++ spec.own_variables f) c.in_ok-variables.ensures.items;
     }
 
 pub own_variable-variable-requires-clause-slot : goal.own_variable-variable-requires-clause-slot

@@ -11,7 +11,7 @@ use Rattle.pli_type_tree.specs.views.TypedView.{procedure_view, statements_view}
 use Rattle.pli_type_rules.specs.Checked.{outer_signature}
 use Rattle.pli_type_parts.specs.Parts.{told, Adds, unit_named}
 use Rattle.pli_type_walk.specs.Walking.{finished, unit_with}
-use Rattle.pli_type_walk.proofs.WalkEndLemmas.{all_of, first_entered, placed_first}
+use Rattle.pli_type_walk.proofs.WalkEndLemmas.{all_of, placed_first}
 use Rattle.pli_type_walk.proofs.WalkEndLemmas.{globals_first, templates_first, whole_walked}
 use Rattle.pli_type_walk.proofs.RoomLeft.{room_at_first}
 use Rattle.pli_type_walk.proofs.Units.{faulty, returned_found, typed, typed_list}
@@ -20,28 +20,26 @@ use Rattle.pli_type_statement.proofs.checking.check.Goals as goal
 pub type_statements-requires : goal.type_statements-requires
 type_statements-requires c =
     let u = c.args.unit.now in
-    let named =
-    first_entered u c.in_ok-naming.naming c.enter.new.self c.in_ok-naming.ensures c.in_ok-enter.ensures.entered in
+    let named = c.in_ok-made.ensures.naming in
     let same =
     c.as_slice-statements.ensures.value ∙ ap (λ p. (out-Procedure p).statements.items) c.unit-tree.ensures in
     record {
       placed =
-          placed_first u _ _ _ c.in_ok-templates.templates named c.in_ok-surroundings.ensures refl
-          c.in_ok-templates.ensures.automatic c.take-variables.ensures.others
-          c.in_ok-templates.ensures.based c.take-variables.ensures.based;
-      room = room_at_first u c.as_slice-statements.result.now same c.in_ok-templates.ensures.regions c.in_ok-templates.ensures.marks;
+          placed_first u _ _ _ c.in_ok-made.made.templates named c.in_ok-surroundings.ensures refl
+          c.in_ok-made.ensures.automatic c.take-variables.ensures.others
+          c.in_ok-made.ensures.based c.take-variables.ensures.based;
+      room = room_at_first u c.as_slice-statements.result.now same c.in_ok-made.ensures.regions c.in_ok-made.ensures.marks;
     }
 
 pub returns-in-Some : goal.returns-in-Some
 returns-in-Some c =
     let u = c.args.unit.now in
-    let named =
-    first_entered u c.in_ok-naming.naming c.enter.new.self c.in_ok-naming.ensures c.in_ok-enter.ensures.entered in
+    let named = c.in_ok-made.ensures.naming in
     let same =
     c.as_slice-statements.ensures.value ∙ ap (λ p. (out-Procedure p).statements.items) c.unit-tree.ensures in
     let gives =
     c.procedure.ensures.returned
-    ∙ returned_found c.enter.new.self ∙ ap (λ (n : Names). (unit_named n.unit).returned 0) named in
+    ∙ returned_found c.in_ok-made.made.naming ∙ ap (λ (n : Names). (unit_named n.unit).returned 0) named in
     let new = c.type_statements.new.walk in
     let w =
     whole_walked u _ new c.as_slice-statements.result.now _ _ named c.in_ok-surroundings.ensures gives refl same
@@ -58,9 +56,9 @@ returns-in-Some c =
     (c.in_ok-signature-in-Some.ensures
     ∙ ap (λ (n : Names). outer_signature (unit_named n.unit)) (w.back.naming ∙ named))
     (globals_first u _ (ap (λ (groups : Vec GlobalGroup Global). globals_view groups.items)
-    (w.back.globals ∙ c.take-variables.ensures.globals) ∙ c.in_ok-templates.ensures.globals))
+    (w.back.globals ∙ c.take-variables.ensures.globals) ∙ c.in_ok-made.ensures.globals))
     (c.take-variables.ensures.taken
-    ∙ templates_first u c.in_ok-templates.templates c.in_ok-templates.ensures.automatic 0)
+    ∙ templates_first u c.in_ok-made.made.templates c.in_ok-made.ensures.automatic 0)
     (ap (λ (n : Next). n.temporary) w.next ∙ omega arith)
     ∙ ap (λ p. Ok (unit_with (unit_view p) signature globals variables new.next.temporary list (finished new)))
     (sym c.unit-tree.ensures)
@@ -69,13 +67,12 @@ returns-in-Some c =
 pub returns : goal.returns
 returns c =
     let u = c.args.unit.now in
-    let named =
-    first_entered u c.in_ok-naming.naming c.enter.new.self c.in_ok-naming.ensures c.in_ok-enter.ensures.entered in
+    let named = c.in_ok-made.ensures.naming in
     let same =
     c.as_slice-statements.ensures.value ∙ ap (λ p. (out-Procedure p).statements.items) c.unit-tree.ensures in
     let gives =
     c.procedure.ensures.returned
-    ∙ returned_found c.enter.new.self ∙ ap (λ (n : Names). (unit_named n.unit).returned 0) named in
+    ∙ returned_found c.in_ok-made.made.naming ∙ ap (λ (n : Names). (unit_named n.unit).returned 0) named in
     let new = c.type_statements.new.walk in
     let w =
     whole_walked u _ new c.as_slice-statements.result.now _ _ named c.in_ok-surroundings.ensures gives refl same

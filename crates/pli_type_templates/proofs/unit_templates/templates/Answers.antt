@@ -21,27 +21,30 @@ all_said u unit blocks same symbols =
     subst (λ (p : Procedure). All (All (AreOfItems (outline_of (unit_view p)).marks)) (map block_symbols blocks)) (sym same)
     (All-same (All (AreOfItems (outline_of (unit_view u)).marks)) (map block_symbols blocks) (all_symbols (resolved_unit_of (unit_view u))) symbols (symbols_of_items (unit_view u)))
 
+pub of-requires : goal.of-requires
+of-requires c = c.outline.ensures ∙ ap (λ (p : Procedure). outline_of (unit_view p)) (sym c.unit.ensures)
+
 pub lifetime_rows-requires-clause-items : goal.lifetime_rows-requires-clause-items
 lifetime_rows-requires-clause-items c =
-    all_said c.args.resolved.now c.in_ok-items.items.unit.now c.deref.result.now (c.in_ok-items.ensures.unit ∙ c.unit.ensures)
-    (ap (map block_symbols) c.deref.ensures.value ∙ c.in_ok-blocks.ensures.symbols)
+    all_said c.args.resolved.now c.in_ok-items.items.unit.now c.deref-2.result.now (c.in_ok-items.ensures.unit ∙ c.unit.ensures)
+    (ap (map block_symbols) c.deref-2.ensures.value ∙ (c.in_ok-blocks.ensures.symbols ∙ c.requires))
 
 pub lifetime_rows-requires-2-clause-items : goal.lifetime_rows-requires-2-clause-items
 lifetime_rows-requires-2-clause-items c =
-    all_said c.args.resolved.now c.in_ok-items.items.unit.now c.deref-2.result.now (c.in_ok-items.ensures.unit ∙ c.unit.ensures)
-    (ap (map block_symbols) c.deref-2.ensures.value ∙ c.in_ok-blocks.ensures.symbols)
+    all_said c.args.resolved.now c.in_ok-items.items.unit.now c.deref-3.result.now (c.in_ok-items.ensures.unit ∙ c.unit.ensures)
+    (ap (map block_symbols) c.deref-3.ensures.value ∙ (c.in_ok-blocks.ensures.symbols ∙ c.requires))
 
 pub sorted_groups-requires-clause-items : goal.sorted_groups-requires-clause-items
 sorted_groups-requires-clause-items c =
-    all_said c.args.resolved.now c.in_ok-items.items.unit.now c.deref-3.result.now (c.in_ok-items.ensures.unit ∙ c.unit.ensures)
-    (ap (map block_symbols) c.deref-3.ensures.value ∙ c.in_ok-blocks.ensures.symbols)
+    all_said c.args.resolved.now c.in_ok-items.items.unit.now c.deref-4.result.now (c.in_ok-items.ensures.unit ∙ c.unit.ensures)
+    (ap (map block_symbols) c.deref-4.ensures.value ∙ (c.in_ok-blocks.ensures.symbols ∙ c.requires))
 
 pub returns : goal.returns
 returns c =
     let u = unit_view c.args.resolved.now in
-    let first = ap (map block_symbols) c.deref.ensures.value ∙ c.in_ok-blocks.ensures.symbols in
-    let second = ap (map block_symbols) c.deref-2.ensures.value ∙ c.in_ok-blocks.ensures.symbols in
-    let third = ap (map block_symbols) c.deref-3.ensures.value ∙ c.in_ok-blocks.ensures.symbols in
+    let first = ap (map block_symbols) c.deref-2.ensures.value ∙ (c.in_ok-blocks.ensures.symbols ∙ c.requires) in
+    let second = ap (map block_symbols) c.deref-3.ensures.value ∙ (c.in_ok-blocks.ensures.symbols ∙ c.requires) in
+    let third = ap (map block_symbols) c.deref-4.ensures.value ∙ (c.in_ok-blocks.ensures.symbols ∙ c.requires) in
     record {
       automatic = rows_found (resolved_unit_of u) (is_automatic 63) (map row_view c.in_ok-automatic.automatic.items)
           (c.in_ok-automatic.ensures ∙ ap (map (templates_of (is_automatic 63))) first);
