@@ -3,8 +3,8 @@ use Rattle.std.proofs.Common.{◌≡◌, ℕ, true, List, ◌++◌, get_or, Ok, 
 use Rattle.std.proofs.lemmas.Bool.{and_parts}
 use Rattle.pli_operation.specs.declared.operation.Operation.{Operation}
 use Rattle.pli_operation.specs.declared.operation.Operation.TheVariants as calculate
-use Rattle.pli_code.specs.declared.instruction.Instruction.{Instruction}
-use Rattle.pli_code.specs.declared.instruction.Instruction.TheVariants as op
+use Rattle.pli_code.specs.CodedInstruction.{Instruction}
+use Rattle.pli_program.specs.declared.instruction.Instruction.TheVariants as op
 use Rattle.pli_code.specs.Fields.{BothWays, checked, nothing, ◌⊗◌, form, made, unknown, u1, u2, u4}
 use Rattle.pli_code.specs.Versions.{greatest_precision}
 use Rattle.pli_code.specs.declared.version.Version.{Version}

@@ -2,7 +2,7 @@
 use Rattle.std.proofs.Common.{◌≡◌, ◌<◌, ℕ, get_or, arith, List, Option, Some, None, Result, Ok, Err, refl, ap, ◌∙◌}
 use Rattle.pli_code.specs.declared.fault.DeckFault.{DeckFault}
 use Rattle.std.proofs.lemmas.List.{get_or_past}
-use Rattle.pli_code.specs.declared.instruction.Instruction.{Instruction}
+use Rattle.pli_code.specs.CodedInstruction.{Instruction}
 use Rattle.pli_code.specs.Instructions.{instruction_readers, reader_of}
 use Rattle.pli_base.specs.Results.{◌>>=◌}
 use Rattle.pli_code.specs.Fields.{Reader, Field, ◌⊗◌, made, nothing, unknown}

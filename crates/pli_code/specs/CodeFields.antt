@@ -2,8 +2,8 @@
 -- has a wider one; definitions speak of numbers of any size, and these tests say how large they may be.
 use Rattle.std.specs.Prelude.{ℕ, nat_le, nat_lt, Bool, true, ◌&&◌, Option, Some, None}
 use Rattle.pli_code.specs.Decks.{CodedBlock}
-use Rattle.pli_code.specs.declared.instruction.Instruction.{Instruction}
-use Rattle.pli_code.specs.declared.instruction.Instruction.TheVariants as coded
+use Rattle.pli_code.specs.CodedInstruction.{Instruction}
+use Rattle.pli_program.specs.declared.instruction.Instruction.TheVariants as coded
 
 -- a number in a field of one byte
 abbrev pub is_byte : ℕ → Bool

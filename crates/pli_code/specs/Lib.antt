@@ -1,5 +1,6 @@
 pub mod CodeFields
 pub mod CodeTables
+pub mod CodedInstruction
 pub mod Decks
 pub mod FaultNumbers
 pub mod Fields

@@ -19,7 +19,7 @@ pub use copying::copied_deck;
 pub use decoding::decode;
 pub use encoding::encode;
 pub use fault::DeckFault;
-pub use instruction::Instruction;
+pub use instruction::{Instruction, stands_in};
 pub use laws::{instructions_both_ways, worked_instructions};
 pub use module::{External, LentMember, LentModule, Member, Module};
 pub use version::Version;

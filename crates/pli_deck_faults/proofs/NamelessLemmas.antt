@@ -1,8 +1,8 @@
 -- Instructions that name nothing, and those that do not jump.
 use Rattle.std.proofs.Common.{◌≡◌, ℕ, [], refl}
 use Rattle.pli_base.specs.declared.statement.Condition.{Condition}
-use Rattle.pli_code.specs.declared.instruction.Instruction.{Instruction}
-use Rattle.pli_code.specs.declared.instruction.Instruction.TheVariants as op
+use Rattle.pli_code.specs.CodedInstruction.{Instruction}
+use Rattle.pli_program.specs.declared.instruction.Instruction.TheVariants as op
 use Rattle.pli_deck_write.specs.DeckFaults.{named_by_instruction, targets_of}
 
 pub names_nothing : (i : Instruction) → ((x0 x1 : ℕ) → i ≡ op.Call x0 x1 → ⊥)

@@ -7,7 +7,8 @@ use Rattle.pli_gen.proofs.CodeEnds.{both_within, one_way_within, two_ways_within
 use Rattle.pli_gen.proofs.SimpleCode.{after_both}
 use Rattle.pli_gen.specs.laws.ListLaws.{all_front, all_back}
 use Rattle.pli_gen.specs.WellNumbered.{next_temporary, KeepsApart, KeepsApartForm, KeepApart}
-use Rattle.pli_program.specs.Program as op
+use Rattle.pli_program.specs.Program as programs
+use Rattle.pli_program.specs.declared.instruction.Instruction.TheVariants as op
 use Rattle.pli_type_tree.specs.Iterations.{is_iterated}
 use Rattle.pli_type_tree.specs.TypedTree.{TypedExpression, TypedStatement, Statement, TypedStatements, NoStatement, StatementThen, NoElse, Else, TypedUnit}
 use Rattle.pli_type_tree.specs.TypedTree.{Form, Null, Assign, AssignString, AssignAggregate, AssignArea, EmptyArea, Put, If, Begin, Group, While, Iterate, Call, Goto, Return, ReturnValue, Stop, On, Revert, Signal, Allocate, Free}
@@ -22,10 +23,10 @@ abbrev pub AreBelow : (blocks : ℕ) → List BlockTree → Type 0
 AreBelow blocks bs = AllByRecursion (λ b. b.head.number < blocks) bs
 
 module _ (globals blocks last : ℕ) (t : TypedUnit) (counted : length t.globals ≡ globals) (named : (n : ℕ) → HasBlock t n → n < blocks) (slotted : (n : ℕ) → HasSlot t n → n ≤ 65535) where
-  abbrev All : List op.Instruction → Type 0
+  abbrev All : List programs.Instruction → Type 0
   All is = AllAllowed globals blocks last is
 
-  test_part : (test : TypedExpression) (target : ℕ) (code : List op.Instruction) → IsExpression t test → target ≤ last → All code → All (value_code test ++ op.JumpUnless target ∷ code)
+  test_part : (test : TypedExpression) (target : ℕ) (code : List programs.Instruction) → IsExpression t test → target ≤ last → All code → All (value_code test ++ op.JumpUnless target ∷ code)
   test_part test target code h to rest =
       joined globals blocks last (value_code test) (op.JumpUnless target ∷ code) (value_allowed globals blocks last t counted named slotted test h) (to, rest)
 

@@ -6,19 +6,21 @@ use Rattle.pli_gen_emit.specs.TreeTranslation.{keeps_code, operations_code, conv
 use Rattle.pli_gen.proofs.CodeEnds.{grows, both_within}
 use Rattle.pli_gen.proofs.SimpleCode.{all_both}
 use Rattle.pli_gen.specs.WellNumbered.{next_temporary, KeepsTemporary}
-use Rattle.pli_program.specs.Program as op
+use Rattle.pli_program.specs.Program as programs
+use Rattle.pli_program.specs.declared.instruction.Instruction.TheVariants as op
+use Rattle.pli_program.specs.Templates.{dummy}
 use Rattle.pli_operation.specs.declared.operation.Operation.TheVariants as calculate
 use Rattle.pli_type_tree.specs.WellTyped.{operand_count}
 use Rattle.pli_type_tree.specs.Iterations.{kept_by, limit_number, step_number, temporaries_of}
 use Rattle.pli_type_tree.specs.TypedTree.{Root, InSlot, OfProgram, NewestOf, Located, Callee, OfBlock, OfEntry, TypedExpression, Literal, TypedOperation, Fit, Operate, Held, Calculated, Called, Generations, Address, AsPointer, AsOffset, Bounded, TypedReference, Whole, Part, ElementOf}
 use Rattle.pli_type_tree.specs.TypedTree.{Operands, NoOperand, OperandThen, Subscripts, NoSubscript, SubscriptThen, TypedArguments, NoArgument, ByPlace, ByDummy, ByString}
 use Rattle.pli_type_tree.specs.TypedTree.{TypedRange, Once, ToBy, ByTo, Repeated, RepeatedString, Iteration, TypedUnit, Conversion, ByOperations, AsPointerIn, AsOffsetIn, ToPlace, AllocatedItem, AllocatesControlled, AllocatesBased, AllocatesInArea, FreedItem, FreesControlled, FreesBased}
-use Rattle.pli_deck_laws.specs.Limits.{link_limit, parameter_limit, word_limit, IfThere, IsBound, IsDescription, IsDimension, IsConstant, IsMade, IsTemplate, IsOperation}
+use Rattle.pli_deck_laws.specs.Limits.{link_limit, parameter_limit, word_limit, IfThere, IsBound, IsDescription, IsDimension, IsConstant, IsTemplate, IsOperation}
 use Rattle.pli_deck_laws.specs.WellFormed.{HasBlock, HasSlot, IsRoot, IsCallee, IsExpression, IsReference, AreOperands, AreSubscripts, AreArguments, IsConversion, IsRange, IsIteration, IsAllocated, IsFreed}
 
 -- in a unit of so many globals and blocks, whose code has a last instruction
 module _ (globals blocks last : ℕ) where
-  abbrev pub Allowed : op.Instruction → Type 0
+  abbrev pub Allowed : programs.Instruction → Type 0
   Allowed (op.Step s) = s < word_limit
   Allowed (op.Line s) = s < word_limit
   Allowed (op.Jump target) = target ≤ last
@@ -40,7 +42,7 @@ module _ (globals blocks last : ℕ) where
   Allowed op.Load = Unit {0}
   Allowed op.Store = Unit {0}
   Allowed op.Copy = Unit {0}
-  Allowed (op.MakeDummy d) = IsMade d
+  Allowed (op.MakeDummy template) = IsTemplate template
   Allowed (op.Fit d) = IsDescription d
   Allowed (op.Operate operation) = IsOperation (Operate operation)
   Allowed op.AddressOf = Unit {0}
@@ -65,12 +67,11 @@ module _ (globals blocks last : ℕ) where
   Allowed (op.BoundOf which k) = IsDimension k
   Allowed (op.MakeStringDummy form) = Unit {0}
   Allowed op.FitToPlace = Unit {0}
-  Allowed op.Nothing = ⊥
 
-  abbrev pub AllAllowed : List op.Instruction → Type 0
+  abbrev pub AllAllowed : List programs.Instruction → Type 0
   AllAllowed is = AllByRecursion Allowed is
 
-  pub joined : (xs ys : List op.Instruction) → AllAllowed xs → AllAllowed ys → AllAllowed (xs ++ ys)
+  pub joined : (xs ys : List programs.Instruction) → AllAllowed xs → AllAllowed ys → AllAllowed (xs ++ ys)
   joined xs ys h k = all_both Allowed xs ys h k
 
   module _ (t : TypedUnit) (counted : length t.globals ≡ globals) (named : (n : ℕ) → HasBlock t n → n < blocks) (slotted : (n : ℕ) → HasSlot t n → n ≤ 65535) where
@@ -133,7 +134,7 @@ module _ (globals blocks last : ℕ) where
       pub arguments_allowed : (args : TypedArguments) → AreArguments t args → AllAllowed (arguments_code args)
       arguments_allowed NoArgument h = tt
       arguments_allowed (ByPlace r more) h = joined (place_code r) (arguments_code more) (place_allowed r h.0) (arguments_allowed more h.1)
-      arguments_allowed (ByDummy d e more) h = joined (value_code e) (op.MakeDummy d ∷ arguments_code more) (value_allowed e h.1) (h.0, arguments_allowed more h.2)
+      arguments_allowed (ByDummy d e more) h = joined (value_code e) (op.MakeDummy (dummy d) ∷ arguments_code more) (value_allowed e h.1) ((h.0, tt, omega arith), arguments_allowed more h.2)
       arguments_allowed (ByString form e more) h =
           joined (value_code e) (op.MakeStringDummy form ∷ arguments_code more) (value_allowed e h.0) (tt, arguments_allowed more h.1)
 
@@ -200,7 +201,7 @@ module _ (globals blocks last : ℕ) where
         joined (value_code e) (op.SetTemporary temporary ∷ keeps_code (suc temporary) es) (value_allowed e h.0)
         (omega (arith, room), keeps_allowed (suc temporary) es (omega (arith, room)) h.1)
 
-    sets_allowed : (i : Iteration) (value : List op.Instruction) → IsReference t i.control → IsConversion t i.conversion → AllAllowed value
+    sets_allowed : (i : Iteration) (value : List programs.Instruction) → IsReference t i.control → IsConversion t i.conversion → AllAllowed value
         → AllAllowed (sets_code i value)
     sets_allowed i value r c v =
         let store = conversion_code i.conversion ++ op.Store ∷ [] in

@@ -11,7 +11,8 @@ use Rattle.pli_map.specs.declared.dimension.WhichBound.{WhichBound}
 use Rattle.pli_map.specs.declared.dimension.WhichBound.TheVariants as bounds
 use Rattle.pli_map.specs.declared.parameter.StringForm.{StringForm}
 use Rattle.pli_map.specs.declared.parameter.StringForm.TheVariants as forms
-use Rattle.pli_program.specs.Program as op
+use Rattle.pli_program.specs.Program as programs
+use Rattle.pli_program.specs.declared.instruction.Instruction.TheVariants as op
 use Rattle.pli_operation.specs.declared.operation.Operation.{Operation}
 use Rattle.pli_operation.specs.declared.operation.Operation.TheVariants as calculate
 use Rattle.pli_operation.specs.declared.operation.Relation.{Relation}
@@ -19,10 +20,9 @@ use Rattle.pli_operation.specs.declared.operation.Relation.TheVariants.{Equal}
 use Rattle.pli_type_tree.specs.Templates.{Template}
 use Rattle.pli_type_tree.specs.TypedTree.{Operate}
 use Rattle.pli_value.specs.Value.{Value}
-use Rattle.pli_code.specs.declared.instruction.Instruction.{Instruction}
-use Rattle.pli_code.specs.declared.instruction.Instruction.TheVariants as coded
+use Rattle.pli_code.specs.CodedInstruction.{Instruction}
 use Rattle.pli_type_keys.specs.Same.{same_value}
-use Rattle.pli_gen_emit.specs.Encoding.{NumberedTables, number_in, dummy, descriptions_named, templates_named, values_named, description_number, template_number, instruction_code}
+use Rattle.pli_gen_emit.specs.Encoding.{NumberedTables, number_in, descriptions_named, templates_named, values_named, description_number, template_number, instruction_code}
 use Rattle.pli_code.specs.Fields.{u1, u2, u4, ◌⊗◌}
 use Rattle.pli_code.specs.Instructions.{bound, condition, dimension_number, error, relation, string_form, which_bound, instruction}
 use Rattle.pli_deck_write.specs.DeckFaults.{Naming, OfParameter, OfDescription, OfTemplate, OfValue, OfGlobal, OfBlock, OfInstruction, named_by_instruction, targets_of}
@@ -82,7 +82,7 @@ module _ (tables : NumberedTables) (globals blocks last : ℕ) where
     description_fits : (d : Description) → StandsDescription tables (Stated d) → u2.fits (description_number tables (Stated d)) ≡ true
     description_fits d h = let below = description_within tables (Stated d) h in fits_short (description_number tables (Stated d)) (omega (arith, below, few_descriptions))
 
-    operation_good : (o : Operation) → IsOperation (Operate o) → GoodInstruction (coded.Operate o)
+    operation_good : (o : Operation) → IsOperation (Operate o) → GoodInstruction (op.Operate o)
     unfolding instruction
     operation_good (calculate.ToCharacters width) h = record { fits = fits_byte width h; jumps = tt; names = tt }
     operation_good (calculate.Divide p) h = record { fits = fits_precision p h; jumps = tt; names = tt }
@@ -104,7 +104,7 @@ module _ (tables : NumberedTables) (globals blocks last : ℕ) where
     target : (n : ℕ) → n ≤ last → u2.fits n ≡ true
     target n h = fits_short n (omega (arith, h, few_instructions))
 
-    pub instruction_good : (i : op.Instruction) → Allowed globals blocks last i → leads i ≤ last → AllByRecursion (StandsDescription tables) (descriptions_named i)
+    pub instruction_good : (i : programs.Instruction) → Allowed globals blocks last i → leads i ≤ last → AllByRecursion (StandsDescription tables) (descriptions_named i)
         → AllByRecursion HasTemplate (templates_named i) → AllByRecursion HasValue (values_named i) → GoodInstruction (instruction_code tables i)
     unfolding instruction
     instruction_good (op.Step s) h to ds ts vs = record { fits = fits_word s h; jumps = tt; names = tt }
@@ -144,9 +144,9 @@ module _ (tables : NumberedTables) (globals blocks last : ℕ) where
     instruction_good op.Load h to ds ts vs = record { fits = refl; jumps = tt; names = tt }
     instruction_good op.Store h to ds ts vs = record { fits = refl; jumps = tt; names = tt }
     instruction_good op.Copy h to ds ts vs = record { fits = refl; jumps = tt; names = tt }
-    instruction_good (op.MakeDummy d) h to ds ts vs =
+    instruction_good (op.MakeDummy t) h to ds ts vs =
         let has = ts.0 in
-        record { fits = fits_short (template_number tables (dummy d)) (omega (arith, has, few_templates)); jumps = tt; names = (has, tt) }
+        record { fits = fits_short (template_number tables t) (omega (arith, has, few_templates)); jumps = tt; names = (has, tt) }
     instruction_good (op.Fit d) h to ds ts vs = record { fits = description_fits d ds.0; jumps = tt; names = ((d, ds.0), tt) }
     instruction_good (op.Operate operation) h to ds ts vs = operation_good operation h
     instruction_good (op.AllocateControlled number) h to ds ts vs = record { fits = global_fits number h; jumps = tt; names = (h, tt) }
@@ -181,4 +181,3 @@ module _ (tables : NumberedTables) (globals blocks last : ℕ) where
         record { fits = fits_pair which_bound dimension_number which k (which_fits which) (fits_dimension k h); jumps = tt; names = tt }
     instruction_good (op.MakeStringDummy form) h to ds ts vs = record { fits = form_fits form; jumps = tt; names = tt }
     instruction_good op.FitToPlace h to ds ts vs = record { fits = refl; jumps = tt; names = tt }
-    instruction_good op.Nothing h to ds ts vs = absurd h

@@ -4,7 +4,7 @@ use Rattle.pli_gen_emit.specs.TreeTranslation.{BlockTree, value_code, place_code
 use Rattle.pli_gen.proofs.CodeEnds.{grows, one_way_ends, two_ways_ends, turns_ends}
 use Rattle.pli_gen.proofs.IterationCode.{iterate_ends}
 use Rattle.pli_gen.proofs.SimpleCode.{after_both}
-use Rattle.pli_program.specs.Program as op
+use Rattle.pli_program.specs.declared.instruction.Instruction.TheVariants as op
 use Rattle.pli_type_tree.specs.Allocations.{kept_for, all_kept_for}
 use Rattle.pli_type_tree.specs.Iterations.{kept_by, temporaries_of, is_iterated}
 use Rattle.pli_type_tree.specs.TypedTree.{TypedExpression, TypedStatement, Statement, TypedStatements, NoStatement, StatementThen, NoElse, Else, Iteration}

@@ -4,10 +4,11 @@ use Rattle.std.proofs.Common.{◌≡◌, ℕ, ◌<◌, ◌≤◌, not, ◌&&◌,
 use Rattle.std.specs.List.{list_all, AllByRecursion}
 use Rattle.std.proofs.lemmas.Bool.{le-leb, lt-ltb}
 use Rattle.std.proofs.lemmas.List.{length-map}
-use Rattle.pli_program.specs.Program as op
+use Rattle.pli_program.specs.Program as programs
+use Rattle.pli_program.specs.declared.instruction.Instruction.TheVariants as op
 use Rattle.pli_type_tree.specs.TypedTree.{TypedUnit}
 use Rattle.pli_code.specs.CodeFields.{is_byte, is_short, parent_fits, block_fits, instruction_fits}
-use Rattle.pli_code.specs.declared.instruction.Instruction.{Instruction}
+use Rattle.pli_code.specs.CodedInstruction.{Instruction}
 use Rattle.pli_gen_emit.specs.TreeTranslation.{BlockTree, place_after, block_code, blocks_code, blocks_of, instructions_of}
 use Rattle.pli_gen_emit.specs.Encoding.{NumberedTables, tables_for, instruction_code, global_code, coded_block, coded_blocks, code_of}
 use Rattle.pli_gen.proofs.CodeEnds.{both_within}
@@ -43,7 +44,7 @@ module _ (tables : NumberedTables) (globals blocks last : ℕ) (few_globals : gl
   few_arguments : (n : ℕ) → n ≤ 64 → is_byte n ≡ true
   few_arguments n h = byte n (omega (arith, h))
 
-  instruction_narrow : (i : op.Instruction) → Allowed globals blocks last i → Fits (instruction_code tables i)
+  instruction_narrow : (i : programs.Instruction) → Allowed globals blocks last i → Fits (instruction_code tables i)
   instruction_narrow (op.Goto outward n) h = link outward h
   instruction_narrow (op.Call b a) h = both_hold (is_short b) (is_byte a) (block_number b h.0) (few_arguments a h.1)
   instruction_narrow (op.CallExternal g a) h = both_hold (is_short g) (is_byte a) (global_number g h.0) (few_arguments a h.1)
@@ -78,7 +79,7 @@ module _ (tables : NumberedTables) (globals blocks last : ℕ) (few_globals : gl
       both_hold (block_fits (coded_block tables b p)) (list_all block_fits (coded_blocks tables bs q))
       (block_narrow b p (few_temporaries b p 65535 h.0.head.2 w.0) h.0) (blocks_narrow bs q w.1 h.1)
 
-  instructions_narrow : (is : List op.Instruction) → AllByRecursion (Final globals blocks last) is → list_all instruction_fits (map (instruction_code tables) is) ≡ true
+  instructions_narrow : (is : List programs.Instruction) → AllByRecursion (Final globals blocks last) is → list_all instruction_fits (map (instruction_code tables) is) ≡ true
   instructions_narrow is h =
       each_holds instruction_fits Fits (λ i e. e) (map (instruction_code tables) is)
       (all_mapped (instruction_code tables) (Final globals blocks last) Fits (λ i f. instruction_narrow i f.0) is h)

@@ -6,7 +6,8 @@ use Rattle.std.proofs.lemmas.Option.{slice_get_within}
 use Rattle.pli_map.specs.Description.{Description}
 use Rattle.pli_map.specs.ParameterTypes.{ParameterType, Stated, same_type}
 use Rattle.pli_map.specs.laws.ParameterLaws.{same_type_decides}
-use Rattle.pli_program.specs.Program as op
+use Rattle.pli_program.specs.Program as programs
+use Rattle.pli_program.specs.declared.instruction.Instruction.TheVariants as op
 use Rattle.pli_type_tree.specs.Templates.{Template}
 use Rattle.pli_type_tree.specs.TypedTree.{Signature, Global, OwnVariable, ExternalVariable, EntryPoint, TypedUnit}
 use Rattle.pli_code.specs.CodeTables.{there}
@@ -58,9 +59,9 @@ templates_described (t ∷ ts) h = (h.0.0.0, templates_described ts h.1)
 
 -- what instructions name
 module _ (globals blocks last : ℕ) where
-  code_described : (i : op.Instruction) → Allowed globals blocks last i → AllByRecursion IsParameterType (descriptions_named i)
+  code_described : (i : programs.Instruction) → Allowed globals blocks last i → AllByRecursion IsParameterType (descriptions_named i)
   code_described (op.Field offset d) h = (h.1, tt)
-  code_described (op.MakeDummy d) h = (h.0, tt)
+  code_described (op.MakeDummy t) h = (h.0.0, tt)
   code_described (op.Fit d) h = (h, tt)
   code_described (op.Based d) h = (h, tt)
   code_described (op.AllocateBased t) h = (h.0.0, tt)
@@ -68,18 +69,18 @@ module _ (globals blocks last : ℕ) where
   code_described (op.FreeBased d) h = (h, tt)
   code_described i h = tt
 
-  code_made : (i : op.Instruction) → Allowed globals blocks last i → AllByRecursion IsTemplate (templates_named i)
-  code_made (op.MakeDummy d) h = ((h, tt, omega arith), tt)
+  code_made : (i : programs.Instruction) → Allowed globals blocks last i → AllByRecursion IsTemplate (templates_named i)
+  code_made (op.MakeDummy t) h = (h, tt)
   code_made (op.AllocateBased t) h = (h, tt)
   code_made (op.AllocateInArea t after) h = (h.0, tt)
   code_made i h = tt
 
-  code_valued : (i : op.Instruction) → Allowed globals blocks last i → AllByRecursion IsConstant (values_named i)
+  code_valued : (i : programs.Instruction) → Allowed globals blocks last i → AllByRecursion IsConstant (values_named i)
   code_valued (op.Constant v) h = (h, tt)
   code_valued i h = tt
 
   -- the tables of a unit of these blocks and instructions
-  module _ (u : TypedUnit) (bs : List BlockTree) (code : List op.Instruction) (signature : IsSignature u.signature) (all_globals : AllByRecursion IsGlobal u.globals)
+  module _ (u : TypedUnit) (bs : List BlockTree) (code : List programs.Instruction) (signature : IsSignature u.signature) (all_globals : AllByRecursion IsGlobal u.globals)
       (heads : AllByRecursion (λ b. IsHead b.head b.statements) bs) (allowed : AllByRecursion (Allowed globals blocks last) code) where
     variables_made : AllByRecursion IsTemplate (block_templates bs)
     variables_made = all_joined (λ b. b.head.variables) IsTemplate (λ b. IsHead b.head b.statements) (λ b h. h.1) bs heads
@@ -133,7 +134,7 @@ module _ (tables : NumberedTables) where
   value_within v h = slice_get_within tables.values (number_in same_value tables.values v) v h
 
 -- all that a unit names stands at its number
-pub record AllStand (u : TypedUnit) (bs : List BlockTree) (code : List op.Instruction) (tables : NumberedTables) : Type 0 where
+pub record AllStand (u : TypedUnit) (bs : List BlockTree) (code : List programs.Instruction) (tables : NumberedTables) : Type 0 where
   pub signature : AllByRecursion (StandsDescription tables) (signature_descriptions u.signature)
   pub described_globals : AllByRecursion (StandsDescription tables) (flat_map global_descriptions u.globals)
   pub made_globals : AllByRecursion (StandsTemplate tables) (flat_map global_templates u.globals)
@@ -142,7 +143,7 @@ pub record AllStand (u : TypedUnit) (bs : List BlockTree) (code : List op.Instru
   pub templates : AllByRecursion (StandsTemplate tables) (flat_map templates_named code)
   pub values : AllByRecursion (StandsValue tables) (flat_map values_named code)
 
-pub all_stand : (u : TypedUnit) (bs : List BlockTree) (code : List op.Instruction) → AllStand u bs code (tables_for u bs code)
+pub all_stand : (u : TypedUnit) (bs : List BlockTree) (code : List programs.Instruction) → AllStand u bs code (tables_for u bs code)
 all_stand u bs code =
     let tables = tables_for u bs code in
     let from_signature = signature_descriptions u.signature in

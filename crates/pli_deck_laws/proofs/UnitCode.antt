@@ -2,7 +2,8 @@
 use Rattle.std.proofs.Common.{◌≡◌, ℕ, zero, suc, ◌<◌, ◌≤◌, List, [], ◌∷◌, ◌++◌, length, map, refl, subst, ◌∙◌, arith}
 use Rattle.std.specs.List.{AllByRecursion}
 use Rattle.std.proofs.lemmas.List.{length-map}
-use Rattle.pli_program.specs.Program as op
+use Rattle.pli_program.specs.Program as programs
+use Rattle.pli_program.specs.declared.instruction.Instruction.TheVariants as op
 use Rattle.pli_type_tree.specs.TypedTree.{TypedUnit}
 use Rattle.pli_gen_emit.specs.TreeTranslation.{BlockTree, place_after, block_code, blocks_code, blocks_of, places_of, statement_place, with_target, instructions_of}
 use Rattle.pli_gen_emit.proofs.JumpLemmas.{after_is}
@@ -20,21 +21,21 @@ use Rattle.pli_deck_laws.proofs.FieldsFit.{all_mapped}
 use Rattle.pli_deck_laws.proofs.UnitBlocks.{all_pairs, block_named, slot_there, one_block, good_blocks}
 
 -- where a jump of an instruction leads, if it is a GOTO
-abbrev pub leads : op.Instruction → ℕ
+abbrev pub leads : programs.Instruction → ℕ
 leads (op.Goto outward target) = target
 leads i = 0
 
 module _ (globals blocks last : ℕ) where
   -- an instruction within limits, with a GOTO that leads to an instruction
-  abbrev pub Final : op.Instruction → Type 0
+  abbrev pub Final : programs.Instruction → Type 0
   Final i = Allowed globals blocks last i × (leads i ≤ last)
 
   module _ (places : List (ℕ × ℕ)) (within : (label : ℕ) → statement_place places label ≤ last) where
-    final : (i : op.Instruction) → Allowed globals blocks last i → Final (with_target places i)
+    final : (i : programs.Instruction) → Allowed globals blocks last i → Final (with_target places i)
     final (op.Goto outward label) h = (h, within label)
     final i h = (h, omega arith)
 
-    all_final : (is : List op.Instruction) → AllByRecursion (Allowed globals blocks last) is → AllByRecursion Final (map (with_target places) is)
+    all_final : (is : List programs.Instruction) → AllByRecursion (Allowed globals blocks last) is → AllByRecursion Final (map (with_target places) is)
     all_final is h = all_mapped (with_target places) (Allowed globals blocks last) Final final is h
 
 -- a block within limits
@@ -76,7 +77,7 @@ module _ (t : TypedUnit) (well : IsWellNumbered t) (formed : IsWellFormed t) (fe
   abbrev bs : List BlockTree
   bs = blocks_of t
 
-  abbrev plain : List op.Instruction
+  abbrev plain : List programs.Instruction
   plain = blocks_code bs 0
 
   abbrev G : ℕ

@@ -15,6 +15,7 @@ use crate::reading::{
 use pli_code::fields::{byte_of, byte_within, short_of, word_of};
 use pli_code::{
     Block, BlockKind, CodedGlobal, CodedSignature, DeckFault, Instruction, Version, decode,
+    stands_in,
 };
 use pli_program::VariableKind;
 use std::alloc::Global;
@@ -211,7 +212,7 @@ fn instruction_of(version: Version, bytes: &[u8]) -> Result<(Instruction, &[u8])
     ensures { Gives (λ x. (x.0, x.1.now)) result ((checked (is_instruction_in version) instruction).read bytes.now) }
 {
     let (instruction, rest) = decode(bytes)?;
-    if instruction.stands_in(version) {
+    if stands_in(instruction, version) {
         Ok((instruction, rest))
     } else {
         Err(ReadError::Fault(DeckFault::OutOfRange))
@@ -225,11 +226,11 @@ pub struct Instructions {
 }
 
 impl ReadsOne for Instructions {
-    ghost use Rattle.pli_code.specs.declared.instruction.Instruction.{Instruction};
+    ghost use Rattle.pli_code.specs.CodedInstruction.{Instruction as CodedInstruction};
 
     type Value = Instruction;
 
-    ghost Said = { Instruction };
+    ghost Said = { CodedInstruction };
 
     ghost say = { λ i. i };
 

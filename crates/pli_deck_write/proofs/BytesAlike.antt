@@ -13,8 +13,8 @@ use Rattle.pli_program.specs.declared.kind.VariableKind.TheVariants.{Static, Con
 use Rattle.pli_type_tree.specs.Templates.{InitialScalar}
 use Rattle.pli_value.specs.Value.{Value, Number, Characters, Located}
 use Rattle.pli_value.specs.declared.locator.Locator.TheVariants as locators
-use Rattle.pli_code.specs.declared.instruction.Instruction.{Instruction}
-use Rattle.pli_code.specs.declared.instruction.Instruction.TheVariants as op
+use Rattle.pli_code.specs.CodedInstruction.{Instruction}
+use Rattle.pli_program.specs.declared.instruction.Instruction.TheVariants as op
 use Rattle.pli_code.specs.declared.version.Version.{Version}
 use Rattle.pli_code.specs.declared.version.Version.TheVariants.{First}
 use Rattle.pli_code.specs.CodeTables.{CodedTemplate, CodedBlock, CodedSignature, Code, Deck, CodedGlobal, OwnVariable, ExternalVariable, EntryPoint}

@@ -13,8 +13,8 @@ use Rattle.pli_code.specs.declared.fault.DeckFault.{DeckFault}
 use Rattle.pli_code.specs.declared.fault.DeckFault.TheVariants.{BadJump, BadNumber, OverLimit}
 use Rattle.pli_code.specs.Decks.{CodedTemplate, CodedBlock, CodedSignature, Code, Deck, stated_at}
 use Rattle.pli_code.specs.Decks.{CodedGlobal, OwnVariable, ExternalVariable, EntryPoint}
-use Rattle.pli_code.specs.declared.instruction.Instruction.{Instruction}
-use Rattle.pli_code.specs.declared.instruction.Instruction.TheVariants as op
+use Rattle.pli_code.specs.CodedInstruction.{Instruction}
+use Rattle.pli_program.specs.declared.instruction.Instruction.TheVariants as op
 
 -- what an item of a deck names by a number: a type that a parameter has, or a description, which is an entry
 -- of the same table in which no `*` stands; an entry of another table; or an instruction at which a block

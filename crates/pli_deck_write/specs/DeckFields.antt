@@ -18,7 +18,7 @@ use Rattle.pli_program.specs.Kinds.{BlockKind, Procedure, BeginBlock, OnUnit}
 use Rattle.pli_type_tree.specs.Templates.{InitialScalar}
 use Rattle.pli_code.specs.Decks.{CodedTemplate, CodedBlock, CodedSignature, Code, Deck}
 use Rattle.pli_code.specs.Decks.{CodedGlobal, OwnVariable, ExternalVariable, EntryPoint}
-use Rattle.pli_code.specs.declared.instruction.Instruction.{Instruction}
+use Rattle.pli_code.specs.CodedInstruction.{Instruction}
 use Rattle.pli_base.specs.Results.{◌>>=◌}
 use Rattle.pli_code.specs.Fields.{Field, Form, Reader, byte_at, nothing, checked, held, signed, followed}
 use Rattle.pli_code.specs.Fields.{◌⊗◌, shaped, list_of, form, made, unknown, tagged, byte, u1, u2, u4}

@@ -5,8 +5,8 @@ use Rattle.std.specs.Int.{w32, cast_unsigned}
 use Rattle.byteorder.specs.Endian.{big_bytes}
 use Rattle.pli_operation.specs.declared.operation.Operation.{Operation}
 use Rattle.pli_operation.specs.declared.operation.Operation.TheVariants as calculate
-use Rattle.pli_code.specs.declared.instruction.Instruction.{Instruction}
-use Rattle.pli_code.specs.declared.instruction.Instruction.TheVariants as op
+use Rattle.pli_code.specs.CodedInstruction.{Instruction}
+use Rattle.pli_program.specs.declared.instruction.Instruction.TheVariants as op
 use Rattle.pli_code.specs.Numbered.{error_number, relation_number, condition_number, bound_number}
 use Rattle.pli_code.specs.Numbered.{string_number}
 

@@ -1,7 +1,8 @@
 -- Targets of jumps are not past the end of code, and neither are places of statements and entries of blocks.
 use Rattle.std.proofs.Common.{◌≡◌, ℕ, zero, suc, ◌≤◌, ◌<◌, nat_eq, Bool, true, false, if◌then◌else◌, Option, Some, None, List, [], ◌∷◌, ◌++◌, get_or, length, refl, ap, arith}
 use Rattle.std.specs.List.{AllByRecursion}
-use Rattle.pli_program.specs.Program as op
+use Rattle.pli_program.specs.Program as programs
+use Rattle.pli_program.specs.declared.instruction.Instruction.TheVariants as op
 use Rattle.pli_type_tree.specs.TypedTree.{TypedExpression, TypedStatement, Statement, TypedStatements, NoStatement, StatementThen, NoElse, Else}
 use Rattle.pli_type_tree.specs.TypedTree.{Form, If, Group, While, Iterate}
 use Rattle.pli_type_tree.specs.Iterations.{is_iterated}
@@ -16,11 +17,11 @@ use Rattle.pli_gen_emit.proofs.JumpLemmas.{after_is}
 use Rattle.pli_gen.proofs.FormCode.{simple_form_fits}
 use Rattle.pli_gen.proofs.SimpleCode.{all_both, value_simple, simple_fits}
 
-abbrev AllFit : (limit : ℕ) → List op.Instruction → Type 0
+abbrev AllFit : (limit : ℕ) → List programs.Instruction → Type 0
 AllFit n is = AllByRecursion (Fits n) is
 
 -- a test with its jump
-test_part : (test : TypedExpression) (target : ℕ) (code : List op.Instruction) (n : ℕ) → target ≤ n → AllFit n code → AllFit n (value_code test ++ op.JumpUnless target ∷ code)
+test_part : (test : TypedExpression) (target : ℕ) (code : List programs.Instruction) (n : ℕ) → target ≤ n → AllFit n code → AllFit n (value_code test ++ op.JumpUnless target ∷ code)
 test_part test target code n t fits = all_both (Fits n) (value_code test) (op.JumpUnless target ∷ code) (simple_fits (value_code test) n (value_simple test)) (t, fits)
 
 mutual
@@ -88,7 +89,7 @@ blocks_fit (b ∷ bs) p n h =
     all_both (Fits n) (block_code b p) (blocks_code bs q) (block_fits b p n w.0) (blocks_fit bs q n w.1)
 
 -- the whole code of a unit begins at 0
-at_start : (is : List op.Instruction) (n : ℕ) → length is ≤ n → place_after is 0 ≤ n
+at_start : (is : List programs.Instruction) (n : ℕ) → length is ≤ n → place_after is 0 ≤ n
 at_start is n h = let e = after_is is 0 in omega (arith, e, h)
 
 pub unit_fits : (bs : List BlockTree) (n : ℕ) → length (blocks_code bs 0) ≤ n → AllByRecursion (Fits n) (blocks_code bs 0)
@@ -99,14 +100,14 @@ either_within true p x n h k = h
 either_within false p x n h k = k
 
 -- statements begin at instructions of the code
-pub begins_within : (is : List op.Instruction) (p m n : ℕ) → place_after is p ≤ suc n → step_place is p m 0 ≤ n
+pub begins_within : (is : List programs.Instruction) (p m n : ℕ) → place_after is p ≤ suc n → step_place is p m 0 ≤ n
 begins_within [] p m n h = omega arith
 begins_within (op.Step s ∷ is) p m n h =
     let g : suc p ≤ place_after is (suc p) = grows is (suc p) in
     either_within (nat_eq s m) p (step_place is (suc p) m 0) n (omega (arith, g, h)) (begins_within is (suc p) m n h)
 begins_within (i ∷ is) p m n h = begins_within is (suc p) m n h
 
-pub places_fit : (is : List op.Instruction) (m n : ℕ) → length is ≤ n → step_place is 0 m 0 ≤ n
+pub places_fit : (is : List programs.Instruction) (m n : ℕ) → length is ≤ n → step_place is 0 m 0 ≤ n
 places_fit is m n h = begins_within is 0 m n (let k = at_start is n h in omega (arith, k))
 
 entry_within : (bs : List BlockTree) (p k n : ℕ) → place_after (blocks_code bs p) p ≤ n → k < length (entries_of bs p) → get_or (entries_of bs p) k 0 ≤ n

@@ -1,7 +1,8 @@
 -- Numbers of blocks and instructions are within their fields before what they name is numbered as after it.
 use Rattle.std.proofs.Common.{◌≡◌, ℕ, zero, suc, ◌<◌, ◌&&◌, Bool, true, false, true≢false, List, [], ◌∷◌, map, get_or, length, refl, sym, ap, ◌∙◌, arith}
 use Rattle.std.specs.List.{list_all}
-use Rattle.pli_program.specs.Program as op
+use Rattle.pli_program.specs.Program as programs
+use Rattle.pli_program.specs.declared.instruction.Instruction.TheVariants as op
 use Rattle.pli_code.specs.CodeFields as fields
 use Rattle.pli_gen_emit.specs.TreeTranslation.{BlockTree, place_after, block_code}
 use Rattle.pli_gen_emit.specs.Encoding.{NumberedTables, instruction_code, coded_blocks}
@@ -23,11 +24,11 @@ module _ (t : NumberedTables) where
   blocks_as_coded [] p = refl
   blocks_as_coded (b ∷ bs) p = ap (λ r. block_fits b && r) (blocks_as_coded bs (place_after (block_code b p) p))
 
-  one_as_coded : (i : op.Instruction) → fields.instruction_fits (instruction_code t i) ≡ instruction_fits i
+  one_as_coded : (i : programs.Instruction) → fields.instruction_fits (instruction_code t i) ≡ instruction_fits i
   one_as_coded (op.Operate operation) = refl
   one_as_coded i = refl
 
-  pub instructions_as_coded : (is : List op.Instruction) → list_all fields.instruction_fits (map (instruction_code t) is) ≡ list_all instruction_fits is
+  pub instructions_as_coded : (is : List programs.Instruction) → list_all fields.instruction_fits (map (instruction_code t) is) ≡ list_all instruction_fits is
   instructions_as_coded [] = refl
   instructions_as_coded (i ∷ is) =
       ap (λ b. b && list_all fields.instruction_fits (map (instruction_code t) is)) (one_as_coded i)

@@ -1,7 +1,8 @@
 -- Code of forms in which no other stands: no statement begins in it, and it leads no further than it goes.
 use Rattle.std.proofs.Common.{◌≡◌, ℕ, ◌≤◌, List, [], ◌∷◌, ◌++◌, refl, ◌∙◌, arith}
 use Rattle.std.specs.List.{AllByRecursion}
-use Rattle.pli_program.specs.Program as op
+use Rattle.pli_program.specs.Program as programs
+use Rattle.pli_program.specs.declared.instruction.Instruction.TheVariants as op
 use Rattle.pli_type_tree.specs.TypedTree.{Called, AllocatedItem, AllocatesControlled, AllocatesBased, AllocatesInArea}
 use Rattle.pli_type_tree.specs.TypedTree.{Form, Null, Assign, AssignString, AssignAggregate, AssignArea, EmptyArea, Put, If, Begin, Group, While, Iterate, Call, Goto, Return, ReturnValue, Stop, On, Revert, Signal, Allocate, Free}
 use Rattle.pli_gen_emit.specs.TreeTranslation.{value_code, place_code, skip_code, items_code, conversion_code, allocation_code, allocations_code, place_after}
@@ -11,13 +12,13 @@ use Rattle.pli_gen.specs.answers.Pieces.{Fits}
 use Rattle.pli_gen.proofs.CodeEnds.{grows, both_within}
 use Rattle.pli_gen.proofs.SimpleCode.{AllSimple, all_both, simple_both, both_then, value_simple, place_simple, conversion_simple, items_simple, freeings_simple, skip_simple, simple_fits, none_begins, step_place_after}
 
-abbrev Passes : (limit : ℕ) → List op.Instruction → Type 0
+abbrev Passes : (limit : ℕ) → List programs.Instruction → Type 0
 Passes n is = AllByRecursion (Fits n) is × ((p m d : ℕ) → step_place is p m d ≡ d)
 
-simple_passes : (is : List op.Instruction) (n : ℕ) → AllSimple is → Passes n is
+simple_passes : (is : List programs.Instruction) (n : ℕ) → AllSimple is → Passes n is
 simple_passes is n h = (simple_fits is n h, λ p m d. none_begins is p m d h)
 
-passes_both : (xs ys : List op.Instruction) (n : ℕ) → Passes n xs → Passes n ys → Passes n (xs ++ ys)
+passes_both : (xs ys : List programs.Instruction) (n : ℕ) → Passes n xs → Passes n ys → Passes n (xs ++ ys)
 passes_both xs ys n a b = (
   all_both (Fits n) xs ys a.0 b.0,
   λ p m d. step_place_after xs ys p m d ∙ a.1 p m (step_place ys (place_after xs p) m d) ∙ b.1 (place_after xs p) m d,

@@ -1,7 +1,9 @@
 -- Code without steps that leads nowhere: that of expressions, conversions and items.
 use Rattle.std.proofs.Common.{◌≡◌, ℕ, suc, nat_eq, if◌then◌else◌, List, [], ◌∷◌, ◌++◌, Bool, true, false, refl, ap}
 use Rattle.std.specs.List.{AllByRecursion}
-use Rattle.pli_program.specs.Program as op
+use Rattle.pli_program.specs.Program as programs
+use Rattle.pli_program.specs.declared.instruction.Instruction.TheVariants as op
+use Rattle.pli_program.specs.Templates.{dummy}
 use Rattle.pli_type_tree.specs.TypedTree.{Callee, OfBlock, OfEntry}
 use Rattle.pli_type_tree.specs.TypedTree.{Root, InSlot, OfProgram, NewestOf, Located, TypedOperation, Fit, Operate, TypedExpression, Literal, Held, Calculated, Called, Generations, Address, AsPointer, AsOffset, Bounded, TypedReference, Whole, Part, ElementOf}
 use Rattle.pli_type_tree.specs.TypedTree.{Operands, NoOperand, OperandThen, Subscripts, NoSubscript, SubscriptThen, TypedArguments, NoArgument, ByPlace, ByDummy, ByString}
@@ -11,15 +13,14 @@ use Rattle.pli_gen_emit.specs.answers.Instructions.{step_place}
 use Rattle.pli_gen.specs.answers.Pieces.{Fits}
 
 -- no step, and nothing that leads to an instruction
-abbrev pub IsSimple : op.Instruction → Type 0
+abbrev pub IsSimple : programs.Instruction → Type 0
 IsSimple (op.Step s) = ⊥
 IsSimple (op.Jump target) = ⊥
 IsSimple (op.JumpUnless target) = ⊥
 IsSimple (op.AllocateInArea t after) = ⊥
-IsSimple op.Nothing = ⊥
 IsSimple i = Unit {0}
 
-abbrev pub AllSimple : List op.Instruction → Type 0
+abbrev pub AllSimple : List programs.Instruction → Type 0
 AllSimple is = AllByRecursion IsSimple is
 
 -- what holds of each of two lists holds of both
@@ -27,11 +28,11 @@ pub all_both : {X : Type 0} (P : X → Type 0) (xs ys : List X) → AllByRecursi
 all_both P [] ys h k = k
 all_both P (x ∷ xs) ys h k = (h.0, all_both P xs ys h.1 k)
 
-pub simple_both : (xs ys : List op.Instruction) → AllSimple xs → AllSimple ys → AllSimple (xs ++ ys)
+pub simple_both : (xs ys : List programs.Instruction) → AllSimple xs → AllSimple ys → AllSimple (xs ++ ys)
 simple_both xs ys h k = all_both IsSimple xs ys h k
 
 -- two codes and an instruction
-pub both_then : (front back : List op.Instruction) (last : op.Instruction) → AllSimple front → AllSimple back → IsSimple last → AllSimple (front ++ back ++ last ∷ [])
+pub both_then : (front back : List programs.Instruction) (last : programs.Instruction) → AllSimple front → AllSimple back → IsSimple last → AllSimple (front ++ back ++ last ∷ [])
 both_then front back last first second simple = simple_both (front ++ back) (last ∷ []) (simple_both front back first second) (simple, tt)
 
 call_simple : (callee : Callee) (arguments : ℕ) → IsSimple (call_instruction callee arguments)
@@ -88,7 +89,7 @@ mutual
   arguments_simple NoArgument = tt
   arguments_simple (ByPlace variable more) = simple_both (place_code variable) (arguments_code more) (place_simple variable) (arguments_simple more)
   arguments_simple (ByDummy description value more) =
-      simple_both (value_code value) (op.MakeDummy description ∷ arguments_code more) (value_simple value) (tt, arguments_simple more)
+      simple_both (value_code value) (op.MakeDummy (dummy description) ∷ arguments_code more) (value_simple value) (tt, arguments_simple more)
   arguments_simple (ByString form value more) =
       simple_both (value_code value) (op.MakeStringDummy form ∷ arguments_code more) (value_simple value) (tt, arguments_simple more)
 
@@ -119,19 +120,18 @@ skip_simple true = (tt, tt)
 skip_simple false = tt
 
 -- such code fits
-one_fits : (i : op.Instruction) (n : ℕ) → IsSimple i → Fits n i
+one_fits : (i : programs.Instruction) (n : ℕ) → IsSimple i → Fits n i
 one_fits (op.Jump target) n h = absurd h
 one_fits (op.JumpUnless target) n h = absurd h
 one_fits (op.AllocateInArea t after) n h = absurd h
-one_fits op.Nothing n h = absurd h
 one_fits i n h = tt
 
-pub simple_fits : (is : List op.Instruction) (n : ℕ) → AllSimple is → AllByRecursion (Fits n) is
+pub simple_fits : (is : List programs.Instruction) (n : ℕ) → AllSimple is → AllByRecursion (Fits n) is
 simple_fits [] n h = tt
 simple_fits (i ∷ is) n h = (one_fits i n h.0, simple_fits is n h.1)
 
 -- and in it no statement begins
-pub none_begins : (is : List op.Instruction) (p m d : ℕ) → AllSimple is → step_place is p m d ≡ d
+pub none_begins : (is : List programs.Instruction) (p m d : ℕ) → AllSimple is → step_place is p m d ≡ d
 none_begins [] p m d h = refl
 none_begins (op.Step s ∷ is) p m d h = absurd h.0
 none_begins (i ∷ is) p m d h = none_begins is (suc p) m d h.1
@@ -140,11 +140,11 @@ pub none_in_value : (e : TypedExpression) (p m d : ℕ) → step_place (value_co
 none_in_value e p m d = none_begins (value_code e) p m d (value_simple e)
 
 -- where a statement begins in code after code
-pub step_place_after : (xs ys : List op.Instruction) (p m d : ℕ) → step_place (xs ++ ys) p m d ≡ step_place xs p m (step_place ys (place_after xs p) m d)
+pub step_place_after : (xs ys : List programs.Instruction) (p m d : ℕ) → step_place (xs ++ ys) p m d ≡ step_place xs p m (step_place ys (place_after xs p) m d)
 step_place_after [] ys p m d = refl
 step_place_after (op.Step s ∷ xs) ys p m d = ap (λ k. if nat_eq s m then p else k) (step_place_after xs ys (suc p) m d)
 step_place_after (i ∷ xs) ys p m d = step_place_after xs ys (suc p) m d
 
-pub after_both : (xs ys : List op.Instruction) (p : ℕ) → place_after (xs ++ ys) p ≡ place_after ys (place_after xs p)
+pub after_both : (xs ys : List programs.Instruction) (p : ℕ) → place_after (xs ++ ys) p ≡ place_after ys (place_after xs p)
 after_both [] ys p = refl
 after_both (x ∷ xs) ys p = after_both xs ys (suc p)

@@ -1,9 +1,9 @@
 -- The first steps in the code of blocks stand where their statements begin.
 use Rattle.std.proofs.Common.{◌≡◌, ℕ, suc, ◌+◌, ◌<◌, nat_eq, Bool, true, false, if◌then◌else◌, Option, Some, None, unwrap_or, List, [], ◌∷◌, ◌++◌, drop, get_or, length, map, refl, sym, ap, ◌∙◌, add-one}
 use Rattle.std.proofs.lemmas.List.{at_drop_more}
-use Rattle.pli_program.specs.Program as op
-use Rattle.pli_code.specs.declared.instruction.Instruction.{Instruction}
-use Rattle.pli_code.specs.declared.instruction.Instruction.TheVariants as coded
+use Rattle.pli_program.specs.Program as programs
+use Rattle.pli_program.specs.declared.instruction.Instruction.TheVariants as op
+use Rattle.pli_code.specs.CodedInstruction.{Instruction}
 use Rattle.pli_type_tree.specs.TypedTree.{TypedExpression, TypedStatement, Statement, TypedStatements, NoStatement, StatementThen, NoElse, Else}
 use Rattle.pli_type_tree.specs.TypedTree.{Form, Null, Assign, AssignString, AssignAggregate, AssignArea, EmptyArea, Put, If, Begin, Group, While, Iterate, Call, Goto, Return, ReturnValue, Stop, On, Revert, Signal, Allocate, Free}
 use Rattle.pli_gen_emit.specs.TreeTranslation.{BlockTree, place_after, value_code, statement_code, form_code, list_code, end_code, block_code, blocks_code}
@@ -18,7 +18,7 @@ use Rattle.pli_gen.proofs.SimpleCode.{none_in_value, step_place_after, after_bot
 
 -- one instruction more
 first_then : (x : Instruction) (rest : List Instruction) (p n : ℕ) → first_step (x ∷ rest) p n 0 ≡ first_step (x ∷ []) p n (first_step rest (suc p) n 0)
-first_then (coded.Step s) rest p n = refl
+first_then (op.Step s) rest p n = refl
 first_then x rest p n = refl
 
 pub more_steps : (code : List Instruction) (i : ℕ) (d : Instruction) (was now : Option ℕ) (n whole : ℕ) → i < length code
@@ -33,13 +33,13 @@ more_steps code i d was now n whole lt step all =
     step (first_step rest (i + 1) n 0) ∙ ap (unwrap_or was) (sym apart ∙ sym (at_drop_more (λ ys. first_step ys i n 0) code i d lt)) ∙ all
 
 -- steps are emitted as they are
-step_emitted : (t : NumberedTables) (i : op.Instruction) (rest : List Instruction) (p n d : ℕ)
+step_emitted : (t : NumberedTables) (i : programs.Instruction) (rest : List Instruction) (p n d : ℕ)
     → first_step (emitted t i ∷ rest) p n d ≡ step_place (i ∷ []) p n (first_step rest (suc p) n d)
 step_emitted t (op.Step s) rest p n d = refl
 step_emitted t (op.Operate operation) rest p n d = refl
 step_emitted t i rest p n d = refl
 
-pub steps_emitted : (t : NumberedTables) (is : List op.Instruction) (p n d : ℕ) → first_step (map (emitted t) is) p n d ≡ step_place is p n d
+pub steps_emitted : (t : NumberedTables) (is : List programs.Instruction) (p n d : ℕ) → first_step (map (emitted t) is) p n d ≡ step_place is p n d
 steps_emitted t [] p n d = refl
 steps_emitted t (i ∷ is) p n d =
     step_emitted t i (map (emitted t) is) p n d ∙ ap (step_place (i ∷ []) p n) (steps_emitted t is (suc p) n d) ∙ sym (step_place_after (i ∷ []) is p n d)
@@ -58,7 +58,7 @@ place_or_after [] ys m d = refl
 place_or_after ((s, p) ∷ xs) ys m d = ap (λ k. if nat_eq s m then p else k) (place_or_after xs ys m d)
 
 -- a test is passed over
-test_passed : (test : TypedExpression) (rest : List op.Instruction) (p m d : ℕ) → step_place (value_code test ++ rest) p m d ≡ step_place rest (place_after (value_code test) p) m d
+test_passed : (test : TypedExpression) (rest : List programs.Instruction) (p m d : ℕ) → step_place (value_code test ++ rest) p m d ≡ step_place rest (place_after (value_code test) p) m d
 test_passed test rest p m d =
     step_place_after (value_code test) rest p m d ∙ none_in_value test p m (step_place rest (place_after (value_code test) p) m d)
 
@@ -71,7 +71,7 @@ unless true p x y h = refl
 unless false p x y h = h refl
 
 -- the step at each turn of a loop is not the first of its statement
-turn_passed : (number p r m d : ℕ) (test : TypedExpression) (code : List op.Instruction) → nat_eq number m ≡ false
+turn_passed : (number p r m d : ℕ) (test : TypedExpression) (code : List programs.Instruction) → nat_eq number m ≡ false
     → step_place (op.Line number ∷ value_code test ++ op.JumpUnless r ∷ op.Step number ∷ code ++ op.Jump p ∷ []) p m d
     ≡ step_place code (suc (suc (place_after (value_code test) (suc p)))) m d
 turn_passed number p r m d test code e =

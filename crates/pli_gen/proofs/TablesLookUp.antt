@@ -1,5 +1,5 @@
 -- The tables of a unit's code have what its instructions and blocks name.
-use Rattle.std.specs.Prelude.{◌≡◌, ℕ, Some, None, List, [], ◌∷◌, ◌++◌, map, length, slice_get, refl}
+use Rattle.std.specs.Prelude.{◌≡◌, ℕ, Option, Some, List, [], ◌∷◌, ◌++◌, map, refl}
 use Rattle.std.specs.List.{flat_map, AllByRecursion}
 use Rattle.std.specs.Option.{option_and_then}
 use Rattle.std.proofs.Common.{ap, ◌∙◌, option_map}
@@ -7,14 +7,15 @@ use Rattle.std.proofs.lemmas.Option.{slice_get-map}
 use Rattle.pli_map.specs.Description.{Description}
 use Rattle.pli_map.specs.ParameterTypes.{ParameterType, Stated, same_type, stated}
 use Rattle.pli_map.specs.Variables.{Variable}
-use Rattle.pli_program.specs.Program as op
+use Rattle.pli_program.specs.Program as programs
+use Rattle.pli_program.specs.declared.instruction.Instruction.TheVariants as op
 use Rattle.pli_program.specs.Program.{Block, UnitCode}
 use Rattle.pli_type_tree.specs.Templates.{Template, variable_of}
 use Rattle.pli_type_tree.specs.TypedTree.{Global, OwnVariable, ExternalVariable, EntryPoint, TypedUnit}
-use Rattle.pli_code.specs.CodeTables.{Code, looked_up, template_at, variables_at, block_looked_up, program_of, there, naming, with_description, described, stated_at}
+use Rattle.pli_code.specs.CodeTables.{Code, looked_up, template_at, variables_at, block_looked_up, program_of, there, with_description, described, stated_at}
 use Rattle.pli_code.specs.CodeTables.{global_before, globals_linked}
 use Rattle.pli_gen_emit.specs.TreeTranslation.{BlockTree, blocks_of, blocks_at, block_at, block_code, place_after, instructions_of, globals_code, unit_code}
-use Rattle.pli_gen_emit.specs.Encoding.{NumberedTables, tables_for, descriptions_named, templates_named, values_named, dummy}
+use Rattle.pli_gen_emit.specs.Encoding.{NumberedTables, tables_for, descriptions_named, templates_named, values_named}
 use Rattle.pli_type_keys.specs.Same.{same_value, same_template}
 use Rattle.pli_gen_emit.specs.Encoding.{signature_descriptions, global_descriptions, global_templates, block_templates}
 use Rattle.pli_gen_emit.specs.Encoding.{stated_number, template_number, instruction_code, template_code, global_code, coded_blocks, coded_unit, code_of}
@@ -24,7 +25,7 @@ use Rattle.pli_type_keys.specs.laws.KeyLaws.{value_decides, template_decides}
 use Rattle.pli_gen_emit.proofs.TableNumbers.{Has, number_stands, has_all}
 use Rattle.pli_gen.proofs.UnitLemmas.{globals_described}
 
-module _ (tables : NumberedTables) (u : TypedUnit) (bs : List BlockTree) (code : List op.Instruction) where
+module _ (tables : NumberedTables) (u : TypedUnit) (bs : List BlockTree) (code : List programs.Instruction) where
   abbrev c : Code
   c = coded_unit tables u bs code
 
@@ -62,42 +63,36 @@ module _ (tables : NumberedTables) (u : TypedUnit) (bs : List BlockTree) (code :
       → globals_linked c (map (global_code tables) gs) links ≡ globals_code gs links
   globals_there [] links h = refl
   globals_there (OwnVariable kind t ∷ gs) links h =
-      ap (λ o. global_before c (option_map (op.OwnVariable kind) (option_map variable_of o)) (globals_linked c (map (global_code tables) gs) links)) (template_there t h.0.0 h.0.1)
-      ∙ ap (λ gs. op.OwnVariable kind (variable_of t) ∷ gs) (globals_there gs links h.1)
+      ap (λ o. global_before c (option_map (programs.OwnVariable kind) (option_map variable_of o)) (globals_linked c (map (global_code tables) gs) links)) (template_there t h.0.0 h.0.1)
+      ∙ ap (λ gs. programs.OwnVariable kind (variable_of t) ∷ gs) (globals_there gs links h.1)
   globals_there (ExternalVariable name kind t ∷ gs) [] h = globals_there gs [] h.1
   globals_there (ExternalVariable name kind t ∷ gs) (link ∷ links) h =
-      ap (λ o. global_before c (option_map (op.ExternalVariable link kind) (option_map variable_of o)) (globals_linked c (map (global_code tables) gs) links)) (template_there t h.0.0 h.0.1)
-      ∙ ap (λ gs. op.ExternalVariable link kind (variable_of t) ∷ gs) (globals_there gs links h.1)
+      ap (λ o. global_before c (option_map (programs.ExternalVariable link kind) (option_map variable_of o)) (globals_linked c (map (global_code tables) gs) links)) (template_there t h.0.0 h.0.1)
+      ∙ ap (λ gs. programs.ExternalVariable link kind (variable_of t) ∷ gs) (globals_there gs links h.1)
   globals_there (EntryPoint name s ∷ gs) [] h = globals_there gs [] h
-  globals_there (EntryPoint name s ∷ gs) (link ∷ links) h = ap (λ gs. op.EntryPoint link ∷ gs) (globals_there gs links h)
+  globals_there (EntryPoint name s ∷ gs) (link ∷ links) h = ap (λ gs. programs.EntryPoint link ∷ gs) (globals_there gs links h)
 
-  -- after the last entry there is none
-  none_after : {X : Type 0} (xs : List X) → slice_get xs (length xs) ≡ None
-  none_after [] = refl
-  none_after (x ∷ xs) = none_after xs
-
-  instruction_there : (i : op.Instruction) → AllByRecursion HasDescription (descriptions_named i) → AllByRecursion HasTemplate (templates_named i)
-      → AllByRecursion (Has same_value value_decides tables.values) (values_named i) → looked_up c (instruction_code tables i) ≡ i
-  instruction_there (op.Field offset d) ds ts vs = ap (naming (op.Field offset)) (description_there d ds.0)
-  instruction_there (op.Constant v) ds ts vs = ap (naming op.Constant) (number_stands same_value value_decides tables.values v vs.0)
-  instruction_there (op.MakeDummy d) ds ts vs = ap (naming (λ t. op.MakeDummy t.description)) (template_there (dummy d) ts.0 ds.0)
-  instruction_there (op.Fit d) ds ts vs = ap (naming op.Fit) (description_there d ds.0)
-  instruction_there (op.Based d) ds ts vs = ap (naming op.Based) (description_there d ds.0)
-  instruction_there (op.AllocateBased t) ds ts vs = ap (naming op.AllocateBased) (template_there t ts.0 ds.0)
-  instruction_there (op.AllocateInArea t after) ds ts vs = ap (naming (λ t. op.AllocateInArea t after)) (template_there t ts.0 ds.0)
-  instruction_there (op.FreeBased d) ds ts vs = ap (naming op.FreeBased) (description_there d ds.0)
-  instruction_there op.Nothing ds ts vs = ap (naming op.Constant) (none_after tables.values)
+  instruction_there : (i : programs.Instruction) → AllByRecursion HasDescription (descriptions_named i) → AllByRecursion HasTemplate (templates_named i)
+      → AllByRecursion (Has same_value value_decides tables.values) (values_named i) → looked_up c (instruction_code tables i) ≡ Some i
+  instruction_there (op.Field offset d) ds ts vs = ap (option_map (op.Field offset)) (description_there d ds.0)
+  instruction_there (op.Constant v) ds ts vs = ap (option_map op.Constant) (number_stands same_value value_decides tables.values v vs.0)
+  instruction_there (op.MakeDummy t) ds ts vs = ap (option_map op.MakeDummy) (template_there t ts.0 ds.0)
+  instruction_there (op.Fit d) ds ts vs = ap (option_map op.Fit) (description_there d ds.0)
+  instruction_there (op.Based d) ds ts vs = ap (option_map op.Based) (description_there d ds.0)
+  instruction_there (op.AllocateBased t) ds ts vs = ap (option_map op.AllocateBased) (template_there t ts.0 ds.0)
+  instruction_there (op.AllocateInArea t after) ds ts vs = ap (option_map (λ t. op.AllocateInArea t after)) (template_there t ts.0 ds.0)
+  instruction_there (op.FreeBased d) ds ts vs = ap (option_map op.FreeBased) (description_there d ds.0)
   instruction_there i ds ts vs = refl
 
-  instructions_there : (is : List op.Instruction) → AllByRecursion HasDescription (flat_map descriptions_named is) → AllByRecursion HasTemplate (flat_map templates_named is)
-      → AllByRecursion (Has same_value value_decides tables.values) (flat_map values_named is) → map (looked_up c) (map (instruction_code tables) is) ≡ is
+  instructions_there : (is : List programs.Instruction) → AllByRecursion HasDescription (flat_map descriptions_named is) → AllByRecursion HasTemplate (flat_map templates_named is)
+      → AllByRecursion (Has same_value value_decides tables.values) (flat_map values_named is) → map (looked_up c) (map (instruction_code tables) is) ≡ map Some is
   instructions_there [] ds ts vs = refl
   instructions_there (i ∷ is) ds ts vs =
       let here = instruction_there i (all_front HasDescription (descriptions_named i) (flat_map descriptions_named is) ds) (all_front HasTemplate (templates_named i) (flat_map templates_named is) ts)
       (all_front (Has same_value value_decides tables.values) (values_named i) (flat_map values_named is) vs) in
       let rest = instructions_there is (all_back HasDescription (descriptions_named i) (flat_map descriptions_named is) ds) (all_back HasTemplate (templates_named i) (flat_map templates_named is) ts)
       (all_back (Has same_value value_decides tables.values) (values_named i) (flat_map values_named is) vs) in
-      ap (λ x. x ∷ map (looked_up c) (map (instruction_code tables) is)) here ∙ ap (λ xs. i ∷ xs) rest
+      ap (λ x. x ∷ map (looked_up c) (map (instruction_code tables) is)) here ∙ ap (λ xs. Some i ∷ xs) rest
 
   abbrev block_with : BlockTree → ℕ → List Variable → Block
   block_with b p vs = record { kind = b.kind; parent = b.parent; parameters = b.parameters; variables = vs; temporaries = b.head.temporaries; entry = p; statement = b.head.statement }
@@ -138,7 +133,7 @@ looked_up_is_unit_code u links =
     (all_back has (from_signature ++ from_globals ++ from_blocks) from_code described_all)
     (all_back has_template (outside ++ inside) (flat_map templates_named code) templates_all)
     values_all in
-    let with : List op.GlobalCode → List Block → List op.Instruction → UnitCode = λ g b i. record { name = u.name; globals = g; blocks = b; instructions = i } in
+    let with : List programs.GlobalCode → List Block → List (Option programs.Instruction) → UnitCode = λ g b i. record { name = u.name; globals = g; blocks = b; instructions = i } in
     let p = program_of (code_of u) u.name links in
     ap (λ g. with g p.blocks p.instructions) globals
     ∙ ap (λ b. with (globals_code u.globals links) b p.instructions) blocks

@@ -5,7 +5,7 @@ use Rattle.pli_map.specs.ParameterTypes.{Stated, same_type}
 use Rattle.pli_program.specs.Program as op
 use Rattle.pli_type_keys.specs.Same.{same_template}
 use Rattle.pli_type_tree.specs.TypedTree.{TypedUnit}
-use Rattle.pli_code.specs.declared.instruction.Instruction.{Instruction}
+use Rattle.pli_code.specs.CodedInstruction.{Instruction}
 use Rattle.pli_gen_emit.specs.Encoding.{NumberedTables, tables_for, instruction_code, coded_unit, code_of}
 use Rattle.pli_gen_emit.specs.Encoding.{descriptions_named, templates_named, signature_descriptions, global_descriptions, global_templates, block_templates}
 use Rattle.pli_gen_emit.specs.TreeTranslation.{BlockTree, blocks_code, places_of, instructions_of}

@@ -5,12 +5,13 @@ use Rattle.std.proofs.lemmas.List.{length-map}
 use Rattle.pli_map.specs.ParameterTypes.{ParameterType, Stated, same_type}
 use Rattle.pli_map.specs.laws.ParameterLaws.{same_type_decides}
 use Rattle.pli_value.specs.Value.{Value}
-use Rattle.pli_program.specs.Program as op
+use Rattle.pli_program.specs.Program as programs
+use Rattle.pli_program.specs.declared.instruction.Instruction.TheVariants as op
 use Rattle.pli_type_tree.specs.Templates.{Template}
 use Rattle.pli_type_tree.specs.TypedTree.{Global, OwnVariable, ExternalVariable, EntryPoint, TypedUnit}
 use Rattle.pli_code.specs.CodeFields as fields
 use Rattle.pli_code.specs.CodeTables.{CodedTemplate, CodedBlock, CodedSignature, CodedGlobal, Code}
-use Rattle.pli_code.specs.declared.instruction.Instruction.{Instruction}
+use Rattle.pli_code.specs.CodedInstruction.{Instruction}
 use Rattle.pli_gen_emit.specs.TreeTranslation.{BlockTree, place_after, block_code, blocks_code, blocks_of, places_of, statement_place, with_target, instructions_of}
 use Rattle.pli_gen_emit.specs.Encoding.{NumberedTables, tables_for, numbered, descriptions_named, templates_named, values_named}
 use Rattle.pli_type_keys.specs.Same.{same_template, same_value}
@@ -54,15 +55,15 @@ module _ (ds : List ParameterType) where
   globals_described (EntryPoint name s ∷ gs) h =
       globals_described gs (all_back (Has same_type same_type_decides ds) (signature_descriptions s) (flat_map global_descriptions gs) h)
 
-  templates_stand : (is : List op.Instruction) → AllByRecursion (Has same_type same_type_decides ds) (flat_map descriptions_named is) → AllByRecursion HasIts (flat_map templates_named is)
+  templates_stand : (is : List programs.Instruction) → AllByRecursion (Has same_type same_type_decides ds) (flat_map descriptions_named is) → AllByRecursion HasIts (flat_map templates_named is)
   templates_stand [] h = tt
-  templates_stand (op.MakeDummy d ∷ is) h = (h.0, templates_stand is h.1)
+  templates_stand (op.MakeDummy t ∷ is) h = (h.0, templates_stand is h.1)
   templates_stand (op.AllocateBased t ∷ is) h = (h.0, templates_stand is h.1)
   templates_stand (op.AllocateInArea t after ∷ is) h = (h.0, templates_stand is h.1)
   templates_stand (i ∷ is) h = templates_stand is (all_back (Has same_type same_type_decides ds) (descriptions_named i) (flat_map descriptions_named is) h)
 
 -- each template's description is in its table
-pub tables_stand : (u : TypedUnit) (bs : List BlockTree) (code : List op.Instruction) → HaveDescriptions (tables_for u bs code)
+pub tables_stand : (u : TypedUnit) (bs : List BlockTree) (code : List programs.Instruction) → HaveDescriptions (tables_for u bs code)
 tables_stand u bs code =
     let variables = block_templates bs in
     let outside = flat_map global_templates u.globals in
@@ -83,39 +84,39 @@ tables_stand u bs code =
 
 -- what a GOTO names is the same wherever it leads
 module _ (places : List (ℕ × ℕ)) where
-  same_descriptions : (i : op.Instruction) → descriptions_named (with_target places i) ≡ descriptions_named i
+  same_descriptions : (i : programs.Instruction) → descriptions_named (with_target places i) ≡ descriptions_named i
   same_descriptions (op.Goto outward label) = refl
   same_descriptions i = refl
 
-  same_templates : (i : op.Instruction) → templates_named (with_target places i) ≡ templates_named i
+  same_templates : (i : programs.Instruction) → templates_named (with_target places i) ≡ templates_named i
   same_templates (op.Goto outward label) = refl
   same_templates i = refl
 
-  same_values : (i : op.Instruction) → values_named (with_target places i) ≡ values_named i
+  same_values : (i : programs.Instruction) → values_named (with_target places i) ≡ values_named i
   same_values (op.Goto outward label) = refl
   same_values i = refl
 
-  named_again : {X : Type 0} (f : op.Instruction → List X) → ((i : op.Instruction) → f (with_target places i) ≡ f i) → (is : List op.Instruction)
+  named_again : {X : Type 0} (f : programs.Instruction → List X) → ((i : programs.Instruction) → f (with_target places i) ≡ f i) → (is : List programs.Instruction)
       → flat_map f (map (with_target places) is) ≡ flat_map f is
   named_again f h [] = refl
   named_again f h (i ∷ is) = ap (λ xs. xs ++ flat_map f (map (with_target places) is)) (h i) ∙ ap (λ xs. f i ++ xs) (named_again f h is)
 
-  same_fields : (i : op.Instruction) → instruction_fits (with_target places i) ≡ instruction_fits i
+  same_fields : (i : programs.Instruction) → instruction_fits (with_target places i) ≡ instruction_fits i
   same_fields (op.Goto outward label) = refl
   same_fields i = refl
 
-  all_fields : (is : List op.Instruction) → list_all instruction_fits (map (with_target places) is) ≡ list_all instruction_fits is
+  all_fields : (is : List programs.Instruction) → list_all instruction_fits (map (with_target places) is) ≡ list_all instruction_fits is
   all_fields [] = refl
   all_fields (i ∷ is) =
       ap (λ b. b && list_all instruction_fits (map (with_target places) is)) (same_fields i) ∙ ap (λ r. instruction_fits i && r) (all_fields is)
 
   -- a table of places
   module _ (place : ℕ → ℕ) (e : (n : ℕ) → place n ≡ statement_place places n) where
-    one_target : (i : op.Instruction) → retargeted place i ≡ with_target places i
+    one_target : (i : programs.Instruction) → retargeted place i ≡ with_target places i
     one_target (op.Goto outward label) = ap (op.Goto outward) (e label)
     one_target i = refl
 
-    pub all_targets : (is : List op.Instruction) → map (retargeted place) is ≡ map (with_target places) is
+    pub all_targets : (is : List programs.Instruction) → map (retargeted place) is ≡ map (with_target places) is
     all_targets [] = refl
     all_targets (i ∷ is) = ap (λ x. x ∷ map (retargeted place) is) (one_target i) ∙ ap (λ xs. with_target places i ∷ xs) (all_targets is)
 
@@ -128,7 +129,7 @@ module _ (t : NumberedTables) where
   blocks_placed (b ∷ bs) p = ap (λ cs. coded_block t b p ∷ cs) (blocks_placed bs (place_after (block_code b p) p))
 
   -- a unit's code, part by part
-  pub unit_coded : (u : TypedUnit) (bs : List BlockTree) (code : List op.Instruction) (entries : List ℕ)
+  pub unit_coded : (u : TypedUnit) (bs : List BlockTree) (code : List programs.Instruction) (entries : List ℕ)
       (s : CodedSignature) (ds : List ParameterType) (ts : List CodedTemplate) (vs : List Value) (gs : List CodedGlobal) (cs : List CodedBlock) (is : List Instruction)
       → entries ≡ entries_of bs 0 → s ≡ signature_code t u.signature
       → ds ≡ t.descriptions → ts ≡ map (template_code t) t.templates → vs ≡ t.values → gs ≡ map (global_code t) u.globals → cs ≡ blocks_with_entries t bs entries
@@ -161,7 +162,7 @@ tables_again u bs =
     )
 
 -- only how many instructions there are, and whether their numbers fit, matters to a unit's limits
-limits_again : (t : NumberedTables) (u : TypedUnit) (bs : List BlockTree) (code other : List op.Instruction) → length code ≡ length other
+limits_again : (t : NumberedTables) (u : TypedUnit) (bs : List BlockTree) (code other : List programs.Instruction) → length code ≡ length other
     → list_all instruction_fits code ≡ list_all instruction_fits other
     → is_too_long (coded_unit t u bs code) ≡ is_too_long (coded_unit t u bs other)
 limits_again t u bs code other e fit =
@@ -176,7 +177,7 @@ limits_again t u bs code other e fit =
     ap (λ n. with n (list_all fields.instruction_fits (map number code))) count ∙ ap (with (length (map number other))) narrow
 
 -- the parts of a unit, as they are made
-module _ (u : TypedUnit) (bs : List BlockTree) (code : List op.Instruction) (t : NumberedTables)
+module _ (u : TypedUnit) (bs : List BlockTree) (code : List programs.Instruction) (t : NumberedTables)
     (blocks : bs ≡ blocks_of u) (made : code ≡ blocks_code bs 0) (numbers : t ≡ tables_for u bs code) where
   pub have_descriptions : HaveDescriptions t
   have_descriptions = subst HaveDescriptions (sym numbers) (tables_stand u bs code)

@@ -9,14 +9,14 @@ use Rattle.pli_map.specs.ParameterTypes.{ParameterType, Stated, same_type}
 use Rattle.pli_value.specs.Value.{Value}
 use Rattle.pli_operation.specs.declared.operation.Operation.TheVariants.{Add, Within}
 use Rattle.pli_run.specs.declared.ending.RunError.TheVariants.{NoReturnedValue}
-use Rattle.pli_program.specs.Program as op
+use Rattle.pli_program.specs.Program as programs
+use Rattle.pli_program.specs.declared.instruction.Instruction.TheVariants as op
 use Rattle.pli_type_tree.specs.Iterations.{kept_by, limit_number, step_number, is_iterated}
 use Rattle.pli_type_tree.specs.Templates.{Template}
 use Rattle.pli_type_keys.specs.Same.{same_value, same_template}
 use Rattle.pli_type_tree.specs.TypedTree as tree
 use Rattle.pli_type_tree.specs.TypedTree.{TypedExpression, TypedReference, Root, Operands, Subscripts, TypedArguments, TypedOperation, Callee, Conversion, AllocatedItem, FreedItem, Iteration, TypedRange, TypedStatement, Form, OtherWise, TypedStatements, TypedUnit, Global}
-use Rattle.pli_code.specs.declared.instruction.Instruction.{Instruction}
-use Rattle.pli_code.specs.declared.instruction.Instruction.TheVariants as coded
+use Rattle.pli_code.specs.CodedInstruction.{Instruction}
 use Rattle.pli_gen_emit.specs.BlockTrees.{BlockTree, argument_count, blocks_of}
 use Rattle.pli_gen_emit.specs.Items.{Entry, NoEntry, OfDescription, OfTemplate, OfValue, Target, NoTarget, Ahead, Back, Labelled, Item, Label, Make, plain, leading, size, label_place, place_of}
 use Rattle.pli_gen_emit.specs.Tables.{NumberedTables, numbered, dummy, signature_descriptions, global_descriptions, global_templates, block_templates, template_number, coded_block}
@@ -31,19 +31,19 @@ use Rattle.pli_gen_emit.specs.CodingLaws.{CodesAlike}
 
 -- SKIP
 abbrev skip_items : Bool → List Item
-skip_items skip = if skip then plain coded.Skip ∷ [] else []
+skip_items skip = if skip then plain op.Skip ∷ [] else []
 
 -- what is printed
 abbrev printed_items : List TypedExpression → List Item
-printed_items es = flat_map (λ e. items.value_code e ++ plain coded.Put ∷ []) es
+printed_items es = flat_map (λ e. items.value_code e ++ plain op.Put ∷ []) es
 
 -- a test, and the part where it holds
 abbrev one_way : (test part : List Item) → List Item
-one_way test part = test ++ leading (Ahead (size part)) coded.JumpUnless ∷ part
+one_way test part = test ++ leading (Ahead (size part)) op.JumpUnless ∷ part
 
 -- and the other one
 abbrev two_ways : (test part other : List Item) → List Item
-two_ways test part other = test ++ leading (Ahead (suc (size part))) coded.JumpUnless ∷ part ++ leading (Ahead (size other)) coded.Jump ∷ other
+two_ways test part other = test ++ leading (Ahead (suc (size part))) op.JumpUnless ∷ part ++ leading (Ahead (size other)) op.Jump ∷ other
 
 abbrev Places : Type 0
 Places = List (ℕ × ℕ)
@@ -53,7 +53,7 @@ abbrev Agree : List Item → Places → Type 0
 Agree all places = (s : ℕ) → label_place s 0 all ≡ statement_place places s
 
 -- items are this code from a place on, with statements at these places
-record Codes (p : ℕ) (xs : List Item) (is : List op.Instruction) (ps : Places) : Type 0 where
+record Codes (p : ℕ) (xs : List Item) (is : List programs.Instruction) (ps : Places) : Type 0 where
   long : place_after is p ≡ p + size xs
   descriptions : flat_map description_in xs ≡ flat_map descriptions_named is
   templates : flat_map template_in xs ≡ flat_map templates_named is
@@ -63,7 +63,7 @@ record Codes (p : ℕ) (xs : List Item) (is : List op.Instruction) (ps : Places)
       → instructions_from tables all p xs ≡ map (instruction_code tables) (map (with_target places) is)
 
 -- an item is this instruction at a place
-record Makes (p : ℕ) (x : Entry) (t : Target) (with : ℕ → ℕ → Instruction) (i : op.Instruction) : Type 0 where
+record Makes (p : ℕ) (x : Entry) (t : Target) (with : ℕ → ℕ → Instruction) (i : programs.Instruction) : Type 0 where
   description : description_in (Make x t with) ≡ descriptions_named i
   template : template_in (Make x t with) ≡ templates_named i
   value : value_in (Make x t with) ≡ values_named i
@@ -72,7 +72,7 @@ record Makes (p : ℕ) (x : Entry) (t : Target) (with : ℕ → ℕ → Instruct
 
 -- ---- code of its parts
 
-place_after-append : (is js : List op.Instruction) (p : ℕ) → place_after (is ++ js) p ≡ place_after js (place_after is p)
+place_after-append : (is js : List programs.Instruction) (p : ℕ) → place_after (is ++ js) p ≡ place_after js (place_after is p)
 place_after-append [] js p = refl
 place_after-append (i ∷ is) js p = place_after-append is js (suc p)
 
@@ -101,7 +101,7 @@ no_code {p} = record {
 }
 
 -- an instruction, and more
-made_more : (p : ℕ) (x : Entry) (t : Target) (with : ℕ → ℕ → Instruction) (i : op.Instruction) (xs : List Item) (is : List op.Instruction) (ps : Places) → Makes p x t with i → Codes (suc p) xs is ps
+made_more : (p : ℕ) (x : Entry) (t : Target) (with : ℕ → ℕ → Instruction) (i : programs.Instruction) (xs : List Item) (is : List programs.Instruction) (ps : Places) → Makes p x t with i → Codes (suc p) xs is ps
     → Codes p (Make x t with ∷ xs) (i ∷ is) ps
 made_more p x t with i xs is ps h r = record {
   long = let l = r.long in omega (arith, l);
@@ -115,7 +115,7 @@ made_more p x t with i xs is ps h r = record {
 }
 
 -- the label of a statement, and more
-labelled_more : (p n : ℕ) (xs : List Item) (is : List op.Instruction) (ps : Places) → Codes p xs is ps → Codes p (Label n ∷ xs) is ((n, p) ∷ ps)
+labelled_more : (p n : ℕ) (xs : List Item) (is : List programs.Instruction) (ps : Places) → Codes p xs is ps → Codes p (Label n ∷ xs) is ((n, p) ∷ ps)
 labelled_more p n xs is ps r = record {
   long = r.long;
   descriptions = r.descriptions;
@@ -126,7 +126,7 @@ labelled_more p n xs is ps r = record {
 }
 
 -- one part after another
-made_both : (p : ℕ) (xs ys : List Item) (is js : List op.Instruction) (ps qs : Places) → Codes p xs is ps → Codes (place_after is p) ys js qs → Codes p (xs ++ ys) (is ++ js) (ps ++ qs)
+made_both : (p : ℕ) (xs ys : List Item) (is js : List programs.Instruction) (ps qs : Places) → Codes p xs is ps → Codes (place_after is p) ys js qs → Codes p (xs ++ ys) (is ++ js) (ps ++ qs)
 made_both p xs ys is js ps qs f g = record {
   long =
       let a = place_after-append is js p in
@@ -147,7 +147,7 @@ made_both p xs ys is js ps qs f g = record {
       ∙ f.labels s (ys ++ zs) (qs ++ rs) (g.labels s zs rs (ap (λ q. label_place s q zs) (sym (place_after-append is js p)) ∙ h))
       ∙ ap (λ k. statement_place k s) (sym (append_assoc ps qs rs));
   made = λ tables all places agree.
-      let code : List op.Instruction → List Instruction = λ ks. map (instruction_code tables) (map (with_target places) ks) in
+      let code : List programs.Instruction → List Instruction = λ ks. map (instruction_code tables) (map (with_target places) ks) in
       from-append tables all p xs ys ∙ ap (λ a. a ++ instructions_from tables all (p + size xs) ys) (f.made tables all places agree)
       ∙ ap (λ q. code is ++ instructions_from tables all q ys) (sym f.long) ∙ ap (λ b. code is ++ b) (g.made tables all places agree)
       ∙ sym (map-append (instruction_code tables) (map (with_target places) is) (map (with_target places) js))
@@ -155,93 +155,91 @@ made_both p xs ys is js ps qs f g = record {
 }
 
 -- the same, with what can be inferred
-more : {p : ℕ} {x : Entry} {t : Target} {with : ℕ → ℕ → Instruction} {i : op.Instruction} {xs : List Item} {is : List op.Instruction} {ps : Places} → Makes p x t with i → Codes (suc p) xs is ps
+more : {p : ℕ} {x : Entry} {t : Target} {with : ℕ → ℕ → Instruction} {i : programs.Instruction} {xs : List Item} {is : List programs.Instruction} {ps : Places} → Makes p x t with i → Codes (suc p) xs is ps
     → Codes p (Make x t with ∷ xs) (i ∷ is) ps
 more h r = made_more _ _ _ _ _ _ _ _ h r
 
 infixr 40 ◌⊳◌
-◌⊳◌ : {p : ℕ} {xs ys : List Item} {is js : List op.Instruction} {ps qs : Places} → Codes p xs is ps → Codes (place_after is p) ys js qs → Codes p (xs ++ ys) (is ++ js) (ps ++ qs)
+◌⊳◌ : {p : ℕ} {xs ys : List Item} {is js : List programs.Instruction} {ps qs : Places} → Codes p xs is ps → Codes (place_after is p) ys js qs → Codes p (xs ++ ys) (is ++ js) (ps ++ qs)
 f ⊳ g = made_both _ _ _ _ _ _ _ f g
 
 -- three parts, of which the first two are taken together
-regrouped : {p : ℕ} {ps : Places} (xs ys zs : List Item) (is js ks : List op.Instruction) → Codes p (xs ++ (ys ++ zs)) (is ++ (js ++ ks)) ps → Codes p ((xs ++ ys) ++ zs) ((is ++ js) ++ ks) ps
+regrouped : {p : ℕ} {ps : Places} (xs ys zs : List Item) (is js ks : List programs.Instruction) → Codes p (xs ++ (ys ++ zs)) (is ++ (js ++ ks)) ps → Codes p ((xs ++ ys) ++ zs) ((is ++ js) ++ ks) ps
 regrouped {p} {ps} xs ys zs is js ks h =
     subst (λ ls. Codes p ls ((is ++ js) ++ ks) ps) (sym (append_assoc xs ys zs)) (subst (λ ls. Codes p (xs ++ (ys ++ zs)) ls ps) (sym (append_assoc is js ks)) h)
 
-ended : {p : ℕ} {xs : List Item} {is : List op.Instruction} {ps : Places} → Codes p xs is (ps ++ []) → Codes p xs is ps
+ended : {p : ℕ} {xs : List Item} {is : List programs.Instruction} {ps : Places} → Codes p xs is (ps ++ []) → Codes p xs is ps
 ended {p} {xs} {is} {ps} h = subst (Codes p xs is) (append-nil ps) h
 
 -- ---- single instructions
 
 -- what names no entry, and leads nowhere
-abbrev is_plain : op.Instruction → Bool
+abbrev is_plain : programs.Instruction → Bool
 is_plain (op.Jump target) = false
 is_plain (op.JumpUnless target) = false
 is_plain (op.Goto outward target) = false
 is_plain (op.Field offset d) = false
 is_plain (op.Based d) = false
 is_plain (op.Constant v) = false
-is_plain (op.MakeDummy d) = false
+is_plain (op.MakeDummy t) = false
 is_plain (op.Fit d) = false
 is_plain (op.AllocateBased t) = false
 is_plain (op.AllocateInArea t after) = false
 is_plain (op.FreeBased d) = false
-is_plain op.Nothing = false
 is_plain other = true
 
 abbrev no_tables : NumberedTables
 no_tables = record { descriptions = []; templates = []; values = [] }
 
-plain_makes : (p : ℕ) (i : op.Instruction) → is_plain i ≡ true → Makes p NoEntry NoTarget (λ entry target. instruction_code no_tables i) i
+plain_makes : (p : ℕ) (i : programs.Instruction) → is_plain i ≡ true → Makes p NoEntry NoTarget (λ entry target. instruction_code no_tables i) i
 plain_makes p (op.Jump target) h = absurd cc
 plain_makes p (op.JumpUnless target) h = absurd cc
 plain_makes p (op.Goto outward target) h = absurd cc
 plain_makes p (op.Field offset d) h = absurd cc
 plain_makes p (op.Based d) h = absurd cc
 plain_makes p (op.Constant v) h = absurd cc
-plain_makes p (op.MakeDummy d) h = absurd cc
+plain_makes p (op.MakeDummy t) h = absurd cc
 plain_makes p (op.Fit d) h = absurd cc
 plain_makes p (op.AllocateBased t) h = absurd cc
 plain_makes p (op.AllocateInArea t after) h = absurd cc
 plain_makes p (op.FreeBased d) h = absurd cc
-plain_makes p op.Nothing h = absurd cc
 plain_makes p other h = record { description = refl; template = refl; value = refl; makes = λ tables all places agree. refl }
 
-step : {p : ℕ} {xs : List Item} {is : List op.Instruction} {ps : Places} (i : op.Instruction) → is_plain i ≡ true → Codes (suc p) xs is ps → Codes p (plain (instruction_code no_tables i) ∷ xs) (i ∷ is) ps
+step : {p : ℕ} {xs : List Item} {is : List programs.Instruction} {ps : Places} (i : programs.Instruction) → is_plain i ≡ true → Codes (suc p) xs is ps → Codes p (plain (instruction_code no_tables i) ∷ xs) (i ∷ is) ps
 step {p} {xs} {is} {ps} i h r = made_more p NoEntry NoTarget (λ entry target. instruction_code no_tables i) i xs is ps (plain_makes p i h) r
 
-jump_unless : (p k target : ℕ) → suc (p + k) ≡ target → Makes p NoEntry (Ahead k) (λ entry target. coded.JumpUnless target) (op.JumpUnless target)
-jump_unless p k target e = record { description = refl; template = refl; value = refl; makes = λ tables all places agree. ap coded.JumpUnless e }
+jump_unless : (p k target : ℕ) → suc (p + k) ≡ target → Makes p NoEntry (Ahead k) (λ entry target. op.JumpUnless target) (op.JumpUnless target)
+jump_unless p k target e = record { description = refl; template = refl; value = refl; makes = λ tables all places agree. ap op.JumpUnless e }
 
-jump_ahead : (p k target : ℕ) → suc (p + k) ≡ target → Makes p NoEntry (Ahead k) (λ entry target. coded.Jump target) (op.Jump target)
-jump_ahead p k target e = record { description = refl; template = refl; value = refl; makes = λ tables all places agree. ap coded.Jump e }
+jump_ahead : (p k target : ℕ) → suc (p + k) ≡ target → Makes p NoEntry (Ahead k) (λ entry target. op.Jump target) (op.Jump target)
+jump_ahead p k target e = record { description = refl; template = refl; value = refl; makes = λ tables all places agree. ap op.Jump e }
 
-jump_back : (p k target : ℕ) → p - k ≡ target → Makes p NoEntry (Back k) (λ entry target. coded.Jump target) (op.Jump target)
-jump_back p k target e = record { description = refl; template = refl; value = refl; makes = λ tables all places agree. ap coded.Jump e }
+jump_back : (p k target : ℕ) → p - k ≡ target → Makes p NoEntry (Back k) (λ entry target. op.Jump target) (op.Jump target)
+jump_back p k target e = record { description = refl; template = refl; value = refl; makes = λ tables all places agree. ap op.Jump e }
 
-constant_makes : (p : ℕ) (v : Value) → Makes p (OfValue v) NoTarget (λ entry target. coded.Constant entry) (op.Constant v)
+constant_makes : (p : ℕ) (v : Value) → Makes p (OfValue v) NoTarget (λ entry target. op.Constant entry) (op.Constant v)
 constant_makes p v = record { description = refl; template = refl; value = refl; makes = λ tables all places agree. refl }
 
-based_makes : (p : ℕ) (d : Description) → Makes p (OfDescription d) NoTarget (λ entry target. coded.Based entry) (op.Based d)
+based_makes : (p : ℕ) (d : Description) → Makes p (OfDescription d) NoTarget (λ entry target. op.Based entry) (op.Based d)
 based_makes p d = record { description = refl; template = refl; value = refl; makes = λ tables all places agree. refl }
 
-field_makes : (p offset : ℕ) (d : Description) → Makes p (OfDescription d) NoTarget (λ entry target. coded.Field offset entry) (op.Field offset d)
+field_makes : (p offset : ℕ) (d : Description) → Makes p (OfDescription d) NoTarget (λ entry target. op.Field offset entry) (op.Field offset d)
 field_makes p offset d = record { description = refl; template = refl; value = refl; makes = λ tables all places agree. refl }
 
-fit_makes : (p : ℕ) (d : Description) → Makes p (OfDescription d) NoTarget (λ entry target. coded.Fit entry) (op.Fit d)
+fit_makes : (p : ℕ) (d : Description) → Makes p (OfDescription d) NoTarget (λ entry target. op.Fit entry) (op.Fit d)
 fit_makes p d = record { description = refl; template = refl; value = refl; makes = λ tables all places agree. refl }
 
-dummy_makes : (p : ℕ) (d : Description) → Makes p (OfTemplate (dummy d)) NoTarget (λ entry target. coded.MakeDummy entry) (op.MakeDummy d)
+dummy_makes : (p : ℕ) (d : Description) → Makes p (OfTemplate (dummy d)) NoTarget (λ entry target. op.MakeDummy entry) (op.MakeDummy (dummy d))
 dummy_makes p d = record { description = refl; template = refl; value = refl; makes = λ tables all places agree. refl }
 
-based_allocated : (p : ℕ) (t : Template) → Makes p (OfTemplate t) NoTarget (λ entry target. coded.AllocateBased entry) (op.AllocateBased t)
+based_allocated : (p : ℕ) (t : Template) → Makes p (OfTemplate t) NoTarget (λ entry target. op.AllocateBased entry) (op.AllocateBased t)
 based_allocated p t = record { description = refl; template = refl; value = refl; makes = λ tables all places agree. refl }
 
-based_freed : (p : ℕ) (d : Description) → Makes p (OfDescription d) NoTarget (λ entry target. coded.FreeBased entry) (op.FreeBased d)
+based_freed : (p : ℕ) (d : Description) → Makes p (OfDescription d) NoTarget (λ entry target. op.FreeBased entry) (op.FreeBased d)
 based_freed p d = record { description = refl; template = refl; value = refl; makes = λ tables all places agree. refl }
 
-goto_makes : (p outward label : ℕ) → Makes p NoEntry (Labelled label) (λ entry target. coded.Goto outward target) (op.Goto outward label)
-goto_makes p outward label = record { description = refl; template = refl; value = refl; makes = λ tables all places agree. ap (coded.Goto outward) (agree label) }
+goto_makes : (p outward label : ℕ) → Makes p NoEntry (Labelled label) (λ entry target. op.Goto outward target) (op.Goto outward label)
+goto_makes p outward label = record { description = refl; template = refl; value = refl; makes = λ tables all places agree. ap (op.Goto outward) (agree label) }
 
 -- ---- expressions
 
@@ -249,7 +247,7 @@ call_makes : (p : ℕ) (c : Callee) (n : ℕ) → Codes p (items.call_item c n �
 call_makes p (tree.OfBlock block) n = step (op.Call block n) refl no_code
 call_makes p (tree.OfEntry number) n = step (op.CallExternal number n) refl no_code
 
-operation_makes : {p : ℕ} {xs : List Item} {is : List op.Instruction} {ps : Places} (o : TypedOperation) → Codes (suc p) xs is ps → Codes p (items.operation_code o ∷ xs) (emitted.operation_code o ∷ is) ps
+operation_makes : {p : ℕ} {xs : List Item} {is : List programs.Instruction} {ps : Places} (o : TypedOperation) → Codes (suc p) xs is ps → Codes p (items.operation_code o ∷ xs) (emitted.operation_code o ∷ is) ps
 operation_makes (tree.Fit d) r = more (fit_makes _ d) r
 operation_makes (tree.Operate operation) r = step (op.Operate operation) refl r
 
@@ -322,8 +320,8 @@ conversion_codes (tree.ToPlace operations) p = operations_codes operations p ⊳
 
 -- ---- items of ALLOCATE and FREE
 
-area_makes : (p k start : ℕ) (t : Template) → p - k ≡ start → Makes p (OfTemplate t) (Back k) coded.AllocateInArea (op.AllocateInArea t start)
-area_makes p k start t e = record { description = refl; template = refl; value = refl; makes = λ tables all places agree. ap (coded.AllocateInArea (template_number tables t)) e }
+area_makes : (p k start : ℕ) (t : Template) → p - k ≡ start → Makes p (OfTemplate t) (Back k) op.AllocateInArea (op.AllocateInArea t start)
+area_makes p k start t e = record { description = refl; template = refl; value = refl; makes = λ tables all places agree. ap (op.AllocateInArea (template_number tables t)) e }
 
 allocation_codes : (a : AllocatedItem) (p : ℕ) → Codes p (items.allocation_code a) (emitted.allocation_code a p) []
 allocation_codes (tree.AllocatesControlled number) p = step (op.AllocateControlled number) refl no_code
@@ -352,28 +350,28 @@ freeings_codes (f ∷ fs) p = freeing_codes f p ⊳ freeings_codes fs _
 
 -- ---- control
 
-module _ (p : ℕ) (t : List Item) (t' : List op.Instruction) (tested : Codes p t t' []) where
+module _ (p : ℕ) (t : List Item) (t' : List programs.Instruction) (tested : Codes p t t' []) where
   abbrev first_place : ℕ
   first_place = suc (place_after t' p)
 
-  one_way_codes : (part : List Item) (f : ℕ → List op.Instruction) (ps : Places) → Codes first_place part (f first_place) ps → Codes p (one_way t part) (emitted.one_way t' f p) ps
+  one_way_codes : (part : List Item) (f : ℕ → List programs.Instruction) (ps : Places) → Codes first_place part (f first_place) ps → Codes p (one_way t part) (emitted.one_way t' f p) ps
   one_way_codes part f ps h =
       let l = h.long in
       tested ⊳ more (jump_unless (place_after t' p) (size part) (place_after (f first_place) first_place) (omega (arith, l))) h
 
-  two_ways_codes : (part other : List Item) (f g : ℕ → List op.Instruction) (ps qs : Places) → Codes first_place part (f first_place) ps
+  two_ways_codes : (part other : List Item) (f g : ℕ → List programs.Instruction) (ps qs : Places) → Codes first_place part (f first_place) ps
       → (let r = suc (place_after (f first_place) first_place) in Codes r other (g r) qs) → Codes p (two_ways t part other) (emitted.two_ways t' f g p) (ps ++ qs)
   two_ways_codes part other f g ps qs h k =
       let l = h.long in
       let m = k.long in
       let r = suc (place_after (f first_place) first_place) in
-      regrouped t (leading (Ahead (suc (size part))) coded.JumpUnless ∷ part) (leading (Ahead (size other)) coded.Jump ∷ other) t' (op.JumpUnless r ∷ f first_place)
+      regrouped t (leading (Ahead (suc (size part))) op.JumpUnless ∷ part) (leading (Ahead (size other)) op.Jump ∷ other) t' (op.JumpUnless r ∷ f first_place)
       (op.Jump (place_after (g r) r) ∷ g r)
       (tested
       ⊳ more (jump_unless (place_after t' p) (suc (size part)) r (omega (arith, l)))
       (h ⊳ more (jump_ahead (place_after (f first_place) first_place) (size other) (place_after (g r) r) (omega (arith, m))) k))
 
-turns_codes : (n p : ℕ) (t list : List Item) (t' : List op.Instruction) (f : ℕ → List op.Instruction) (ps : Places) → Codes (suc p) t t' []
+turns_codes : (n p : ℕ) (t list : List Item) (t' : List programs.Instruction) (f : ℕ → List programs.Instruction) (ps : Places) → Codes (suc p) t t' []
     → (let q = suc (suc (place_after t' (suc p))) in Codes q list (f q) ps) → Codes p (items.turns_code n t list) (emitted.turns_code n t' f p) ps
 turns_codes n p t list t' f ps tested h =
     let q = suc (suc (place_after t' (suc p))) in
@@ -383,7 +381,7 @@ turns_codes n p t list t' f ps tested h =
     step (op.Line n) refl
     (tested ⊳ more (jump_unless (place_after t' (suc p)) (suc (suc (size list))) (suc (place_after (f q) q)) (omega (arith, l))) (step (op.Step n) refl h)) in
     let m = turn.long in
-    let passed = size (plain (coded.Line n) ∷ t ++ leading (Ahead (suc (suc (size list)))) coded.JumpUnless ∷ plain (coded.Step n) ∷ list) in
+    let passed = size (plain (op.Line n) ∷ t ++ leading (Ahead (suc (suc (size list)))) op.JumpUnless ∷ plain (op.Step n) ∷ list) in
     let back = jump_back (place_after (op.Line n ∷ t' ++ leave ∷ op.Step n ∷ f q) p) passed p (omega (arith, m)) in
     ended (turn ⊳ more back no_code)
 
@@ -394,13 +392,13 @@ keeps_codes k [] p = no_code
 keeps_codes k (e ∷ es) p = value_codes e p ⊳ step (op.SetTemporary k) refl (keeps_codes (suc k) es _)
 
 module _ (i : Iteration) where
-  sets_codes : (p : ℕ) (v : List Item) (v' : List op.Instruction) → ((q : ℕ) → Codes q v v' []) → Codes p (items.sets_code i v) (emitted.sets_code i v') []
+  sets_codes : (p : ℕ) (v : List Item) (v' : List programs.Instruction) → ((q : ℕ) → Codes q v v' []) → Codes p (items.sets_code i v) (emitted.sets_code i v') []
   sets_codes p v v' h = place_codes i.control p ⊳ h _ ⊳ conversion_codes i.conversion _ ⊳ step op.Store refl no_code
 
   start_codes : (p : ℕ) → Codes p (items.start_code i) (emitted.start_code i) []
   start_codes p =
       keeps_codes i.temporary (i.start ∷ kept_by i.range) p
-      ⊳ sets_codes _ (plain (coded.TakeTemporary i.temporary) ∷ []) (op.TakeTemporary i.temporary ∷ []) (λ q. step (op.TakeTemporary i.temporary) refl no_code)
+      ⊳ sets_codes _ (plain (op.TakeTemporary i.temporary) ∷ []) (op.TakeTemporary i.temporary ∷ []) (λ q. step (op.TakeTemporary i.temporary) refl no_code)
 
   counted_codes : (k p : ℕ) → Codes p (items.counted_code i k) (emitted.counted_code i k) []
   counted_codes k p =
@@ -414,13 +412,13 @@ module _ (i : Iteration) where
   advances_codes (tree.RepeatedString next) p = place_codes i.control p ⊳ value_codes next _ ⊳ step op.FitToPlace refl (step op.Store refl no_code)
 
 -- a test that stands, in both
-abbrev TestsAre : Option (List Item) → Option (List op.Instruction) → Type 0
+abbrev TestsAre : Option (List Item) → Option (List programs.Instruction) → Type 0
 TestsAre None None = Unit {0}
 TestsAre None (Some t') = ⊥
 TestsAre (Some t) None = ⊥
 TestsAre (Some t) (Some t') = (q : ℕ) → Codes q t t' []
 
-guarded_codes : (o : Option (List Item)) (o' : Option (List op.Instruction)) (p passed target : ℕ) → TestsAre o o' → place_after (emitted.guarded o' target) p + passed ≡ target
+guarded_codes : (o : Option (List Item)) (o' : Option (List programs.Instruction)) (p passed target : ℕ) → TestsAre o o' → place_after (emitted.guarded o' target) p + passed ≡ target
     → Codes p (items.guarded o passed) (emitted.guarded o' target) []
 guarded_codes None None p passed target h e = no_code
 guarded_codes None (Some t') p passed target h e = absurd h
@@ -430,7 +428,7 @@ guarded_codes (Some t) (Some t') p passed target h e =
     h p ⊳ more (jump_unless (place_after t' p) passed target (omega (arith, a, e))) no_code
 
 -- a jump is as long wherever it leads
-guarded_long : (o' : Option (List op.Instruction)) (a b p : ℕ) → place_after (emitted.guarded o' a) p ≡ place_after (emitted.guarded o' b) p
+guarded_long : (o' : Option (List programs.Instruction)) (a b p : ℕ) → place_after (emitted.guarded o' a) p ≡ place_after (emitted.guarded o' b) p
 guarded_long None a b p = refl
 guarded_long (Some t') a b p = place_after-append t' (op.JumpUnless a ∷ []) p ∙ sym (place_after-append t' (op.JumpUnless b ∷ []) p)
 
@@ -464,7 +462,7 @@ tests_codes i p passed target e =
     ⊳ second
 
 -- what comes between two turns, from a place after so many instructions of the turn
-module _ (n : ℕ) (between : List Item) (between' : List op.Instruction) (h : (q : ℕ) → Codes q between between' []) where
+module _ (n : ℕ) (between : List Item) (between' : List programs.Instruction) (h : (q : ℕ) → Codes q between between' []) where
   back_codes : (iterated : Bool) (p passed turn : ℕ) → p ≡ turn + passed → Codes p (items.back_code iterated n between passed) (emitted.back_code iterated n between' turn) []
   back_codes false p passed turn e = no_code
   back_codes true p passed turn e =
@@ -476,10 +474,10 @@ module _ (n : ℕ) (between : List Item) (between' : List op.Instruction) (h : (
   back_end true p turn =
       let l = (h (suc p)).long in
       let a = place_after-append between' (op.Jump turn ∷ []) (suc p) in
-      let b = size-append between (Make NoEntry (Back (suc (0 + size between))) (λ entry target. coded.Jump target) ∷ []) in
+      let b = size-append between (Make NoEntry (Back (suc (0 + size between))) (λ entry target. op.Jump target) ∷ []) in
       omega (arith, l, a, b)
 
-iterate_codes : (n p : ℕ) (i : Iteration) (list : List Item) (f : ℕ → List op.Instruction) (ps : Places) → (let q = emitted.list_place i p in Codes q list (f q) ps)
+iterate_codes : (n p : ℕ) (i : Iteration) (list : List Item) (f : ℕ → List programs.Instruction) (ps : Places) → (let q = emitted.list_place i p in Codes q list (f q) ps)
     → Codes p (items.iterate_code n i list) (emitted.iterate_code n i f p) ps
 iterate_codes n p i list f ps h =
     let iterated = is_iterated i.range in
@@ -498,7 +496,7 @@ iterate_codes n p i list f ps h =
     let listed : Codes (suc (place_after (emitted.tests_code i target) turn_at)) list (f q) ps = subst (λ k. Codes (suc k) list (f q) ps) same h in
     let turn = tests ⊳ step (op.Step n) refl listed in
     let back = back_codes n between between' advances iterated _ _ turn_at turn.long in
-    let turned = items.tests_code i passed ++ plain (coded.Step n) ∷ list in
+    let turned = items.tests_code i passed ++ plain (op.Step n) ∷ list in
     let turned' = emitted.tests_code i target ++ op.Step n ∷ f q in
     let start' = emitted.start_code i in
     ended
@@ -540,7 +538,7 @@ mutual
   form_codes n (tree.Allocate allocated) p = allocations_codes allocated p
   form_codes n (tree.Free freed) p = freeings_codes freed p
 
-  if_codes : (alternative : OtherWise) (condition : TypedExpression) (part : List Item) (part' : ℕ → List op.Instruction) (places : ℕ → Places)
+  if_codes : (alternative : OtherWise) (condition : TypedExpression) (part : List Item) (part' : ℕ → List programs.Instruction) (places : ℕ → Places)
       → ((q : ℕ) → Codes q part (part' q) (places q)) → (p : ℕ)
       → (let q = suc (place_after (emitted.value_code condition) p) in
       Codes p (items.if_code (items.value_code condition) part alternative) (emitted.if_code (emitted.value_code condition) part' alternative p)
@@ -583,19 +581,19 @@ blocks_made tables (b ∷ bs) p =
 -- ---- units
 
 -- a GOTO names nothing, wherever it leads
-descriptions_stay : (places : Places) (i : op.Instruction) → descriptions_named (with_target places i) ≡ descriptions_named i
+descriptions_stay : (places : Places) (i : programs.Instruction) → descriptions_named (with_target places i) ≡ descriptions_named i
 descriptions_stay places (op.Goto outward label) = refl
 descriptions_stay places other = refl
 
-templates_stay : (places : Places) (i : op.Instruction) → templates_named (with_target places i) ≡ templates_named i
+templates_stay : (places : Places) (i : programs.Instruction) → templates_named (with_target places i) ≡ templates_named i
 templates_stay places (op.Goto outward label) = refl
 templates_stay places other = refl
 
-values_stay : (places : Places) (i : op.Instruction) → values_named (with_target places i) ≡ values_named i
+values_stay : (places : Places) (i : programs.Instruction) → values_named (with_target places i) ≡ values_named i
 values_stay places (op.Goto outward label) = refl
 values_stay places other = refl
 
-all_stay : {X : Type 0} (names : op.Instruction → List X) (places : Places) → ((i : op.Instruction) → names (with_target places i) ≡ names i) → (is : List op.Instruction)
+all_stay : {X : Type 0} (names : programs.Instruction → List X) (places : Places) → ((i : programs.Instruction) → names (with_target places i) ≡ names i) → (is : List programs.Instruction)
     → flat_map names (map (with_target places) is) ≡ flat_map names is
 all_stay names places h [] = refl
 all_stay names places h (i ∷ is) = ap (λ x. x ++ flat_map names (map (with_target places) is)) (h i) ∙ ap (λ xs. names i ++ xs) (all_stay names places h is)

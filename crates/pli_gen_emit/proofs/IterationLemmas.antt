@@ -1,10 +1,10 @@
 -- Code of groups with a control variable, whose jumps land after it.
 use Rattle.std.proofs.Common.{◌≡◌, ◌+◌, ◌++◌, ◌∷◌, [], ℕ, suc, List, Option, Some, None, length, min, refl, ap, ◌∙◌, sym}
 use Rattle.std.proofs.lemmas.List.{length-append}
-use Rattle.pli_program.specs.Program as op
+use Rattle.pli_program.specs.Program as programs
+use Rattle.pli_program.specs.declared.instruction.Instruction.TheVariants as op
 use Rattle.pli_type_tree.specs.Iterations.{is_iterated}
 use Rattle.pli_type_tree.specs.TypedTree.{Iteration}
-use Rattle.pli_code.specs.declared.instruction.Instruction.TheVariants as coded
 use Rattle.pli_gen_emit.specs.TreeTranslation.{place_after, start_code, limit_test, while_test, guarded, tests_code, advances_code, back_code, turn_place, list_place, iterate_code}
 use Rattle.pli_gen_emit.specs.answers.Emitting.{Emission, with_instruction, extended, landed, guard_landed}
 use Rattle.pli_gen_emit.specs.answers.Pieces.{jump_place, IsTurn}
@@ -13,17 +13,17 @@ use Rattle.pli_gen_emit.proofs.EmitLemmas.{extended_both, longer, counted}
 use Rattle.pli_gen_emit.proofs.JumpLemmas.{after_is, test_lands}
 
 -- a jump after a test gets its target
-guard_lands : (e : Emission) (test : Option (List op.Instruction)) (rest : List op.Instruction) (from to : ℕ)
+guard_lands : (e : Emission) (test : Option (List programs.Instruction)) (rest : List programs.Instruction) (from to : ℕ)
     → guard_landed (jump_place test (length e.code)) to (extended e (guarded test from ++ rest)) ≡ extended e (guarded test to ++ rest)
 guard_lands e None rest from to = refl
 guard_lands e (Some test) rest from to =
     let tested = extended e test in
     let apart : (n : ℕ) → extended e ((test ++ op.JumpUnless n ∷ []) ++ rest) ≡ extended tested (op.JumpUnless n ∷ rest) =
     λ n. extended_both e (test ++ op.JumpUnless n ∷ []) rest ∙ ap (λ s. extended s rest) (extended_both e test (op.JumpUnless n ∷ [])) in
-    ap (λ p. landed p (coded.JumpUnless (min to 65535)) (extended e ((test ++ op.JumpUnless from ∷ []) ++ rest))) (sym (counted e test))
-    ∙ ap (landed (length tested.code) (coded.JumpUnless (min to 65535))) (apart from) ∙ test_lands tested from to rest ∙ sym (apart to)
+    ap (λ p. landed p (op.JumpUnless (min to 65535)) (extended e ((test ++ op.JumpUnless from ∷ []) ++ rest))) (sym (counted e test))
+    ∙ ap (landed (length tested.code) (op.JumpUnless (min to 65535))) (apart from) ∙ test_lands tested from to rest ∙ sym (apart to)
 
-guard_ends : (test : Option (List op.Instruction)) (a b p : ℕ) → place_after (guarded test a) p ≡ place_after (guarded test b) p
+guard_ends : (test : Option (List programs.Instruction)) (a b p : ℕ) → place_after (guarded test a) p ≡ place_after (guarded test b) p
 guard_ends None a b p = refl
 guard_ends (Some test) a b p =
     after_is (test ++ op.JumpUnless a ∷ []) p
@@ -31,7 +31,7 @@ guard_ends (Some test) a b p =
     ∙ sym (after_is (test ++ op.JumpUnless b ∷ []) p)
 
 -- an iteration
-pub iterate_made : (old started tested stepping done back all : Emission) (number : ℕ) (i : Iteration) (list : ℕ → List op.Instruction) (turn : Turn)
+pub iterate_made : (old started tested stepping done back all : Emission) (number : ℕ) (i : Iteration) (list : ℕ → List programs.Instruction) (turn : Turn)
     → started ≡ extended old (start_code i) → tested ≡ extended started (tests_code i 0) → IsTurn i (length started.code) turn
     → stepping ≡ with_instruction tested (op.Step number) → done ≡ extended stepping (list (length stepping.code))
     → back ≡ extended done (back_code (is_iterated i.range) number (advances_code i.range i) turn.place)
@@ -49,8 +49,8 @@ iterate_made old started tested stepping done back all number i list turn s t is
     let d2 : done ≡ extended stepping code = d ∙ ap (λ n. extended stepping (list n)) at in
     let b2 : back ≡ extended done last = b ∙ ap (λ n. extended done (back_code (is_iterated i.range) number (advances_code i.range i) n)) (is.place ∙ at0) in
     let z : length back.code ≡ out = longer done back last b2 ∙ ap (place_after last) (longer stepping done code d2 ∙ ap (place_after code) at) in
-    let limit : ℕ → List op.Instruction = λ n. guarded (limit_test i) n in
-    let condition : ℕ → List op.Instruction = λ n. guarded (while_test i.condition) n in
+    let limit : ℕ → List programs.Instruction = λ n. guarded (limit_test i) n in
+    let condition : ℕ → List programs.Instruction = λ n. guarded (while_test i.condition) n in
     let rest = op.Step number ∷ (code ++ last) in
     let apart : (m n : ℕ) → extended started (limit m ++ (condition n ++ rest)) ≡ extended (extended started (limit m ++ condition n)) rest =
     λ m n. extended_both started (limit m) (condition n ++ rest) ∙ extended_both (extended started (limit m)) (condition n) rest

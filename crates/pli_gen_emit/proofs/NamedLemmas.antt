@@ -1,7 +1,7 @@
 -- Instructions that name entries of tables.
 use Rattle.std.proofs.Common.{◌≡◌, ◌++◌, ◌∷◌, [], ◌||◌, not, Bool, true, false, List, length, ap, ◌∙◌}
 use Rattle.pli_program.specs.Program as op
-use Rattle.pli_code.specs.declared.instruction.Instruction.{Instruction}
+use Rattle.pli_code.specs.CodedInstruction.{Instruction}
 use Rattle.pli_gen_emit.specs.Encoding.{NumberedTables, descriptions_named, templates_named, values_named}
 use Rattle.pli_gen_emit.specs.answers.Emitting.{Emission, tables_with, emitted, gotos_with, with_instruction, Emits, Puts}
 use Rattle.pli_gen_emit.specs.answers.Instructions.{instruction_fits}

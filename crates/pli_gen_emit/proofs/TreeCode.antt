@@ -3,7 +3,7 @@ use Rattle.std.proofs.Common.{◌≡◌, ◌++◌, ◌∷◌, [], ℕ, suc, List
 use Rattle.std.proofs.lemmas.List.{append-nil, append_assoc}
 use Rattle.pli_map.specs.declared.description.Description.{Description}
 use Rattle.pli_map.specs.views.DescriptionView.{description_view}
-use Rattle.pli_program.specs.Program as op
+use Rattle.pli_program.specs.declared.instruction.Instruction.TheVariants as op
 use Rattle.pli_type_tree.specs.TypedTree.{TypedArguments, NoArgument}
 use Rattle.pli_type_tree.specs.views.TypedView.{root_view, callee_view, operation_view, expression_view, reference_view, argument_before, operands_view, subscripts_view, arguments_view}
 use Rattle.pli_type_tree.specs.laws.TypedTreeLaws.{calculated_made, called_made, part_made, element_made, as_pointer_made, as_offset_made}
@@ -14,6 +14,7 @@ use Rattle.pli_type_tree.specs.declared.expression.TypedOperation.{TypedOperatio
 use Rattle.pli_type_tree.specs.declared.expression.TypedReference.{TypedReference, Part, ElementOf}
 use Rattle.pli_type_tree.specs.declared.expression.TypedSubscript.{TypedSubscript}
 use Rattle.pli_type_tree.specs.declared.expression.TypedArgument.{TypedArgument, ByPlace, ByDummy, ByString}
+use Rattle.pli_gen_emit.specs.Tables.{dummy}
 use Rattle.pli_gen_emit.specs.TreeTranslation.{argument_count, root_code, call_instruction, operation_code, value_code, place_code, operands_code, subscripts_code, dimensions_code, arguments_code}
 
 pub operation_code_made : (operation : TypedOperation) (operands : Vec TypedExpression Global)
@@ -62,6 +63,6 @@ element_code_made root subscripts = ap place_code (element_made root subscripts)
 pub argument_first : (a : TypedArgument) (more : TypedArguments) → arguments_code (argument_before a more) ≡ arguments_code (argument_before a NoArgument) ++ arguments_code more
 argument_first (ByPlace r) more = ap (λ x. x ++ arguments_code more) (sym (append-nil (place_code (reference_view r))))
 argument_first (ByDummy d e) more =
-    sym (append_assoc (value_code (expression_view e)) (op.MakeDummy (description_view d) ∷ []) (arguments_code more))
+    sym (append_assoc (value_code (expression_view e)) (op.MakeDummy (dummy (description_view d)) ∷ []) (arguments_code more))
 argument_first (ByString form e) more =
     sym (append_assoc (value_code (expression_view e)) (op.MakeStringDummy form ∷ []) (arguments_code more))

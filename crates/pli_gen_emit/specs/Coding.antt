@@ -8,7 +8,7 @@ use Rattle.pli_type_tree.specs.Templates.{Template}
 use Rattle.pli_type_tree.specs.TypedTree.{TypedUnit}
 use Rattle.pli_type_keys.specs.Same.{same_value, same_template}
 use Rattle.pli_code.specs.Decks.{CodedBlock, Code}
-use Rattle.pli_code.specs.declared.instruction.Instruction.{Instruction}
+use Rattle.pli_code.specs.CodedInstruction.{Instruction}
 use Rattle.pli_gen_emit.specs.BlockTrees.{BlockTree, blocks_of}
 use Rattle.pli_gen_emit.specs.Items.{Entry, NoEntry, OfDescription, OfTemplate, OfValue, Item, Label, Make}
 use Rattle.pli_gen_emit.specs.Items.{size, place_of}

@@ -4,7 +4,7 @@ use Rattle.std.specs.Prelude.{ℕ, suc, ◌+◌, ◌-◌, nat_eq, List, [], ◌�
 use Rattle.pli_map.specs.Description.{Description}
 use Rattle.pli_value.specs.Value.{Value}
 use Rattle.pli_type_tree.specs.Templates.{Template}
-use Rattle.pli_code.specs.declared.instruction.Instruction.{Instruction}
+use Rattle.pli_code.specs.CodedInstruction.{Instruction}
 
 -- what an instruction names that has a number in a table
 pub data Entry : Type 0 where

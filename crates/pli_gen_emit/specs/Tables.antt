@@ -3,6 +3,7 @@
 use Rattle.std.specs.Prelude.{ℕ, suc, Bool, option_map, List, [], ◌∷◌, ◌++◌, map, if◌then◌else◌}
 use Rattle.std.specs.List.{flat_map, list_any}
 use Rattle.pli_map.specs.Description.{Description}
+pub use Rattle.pli_program.specs.Templates.{dummy}
 use Rattle.pli_map.specs.ParameterTypes.{ParameterType, Stated, same_type}
 use Rattle.pli_value.specs.Value.{Value}
 use Rattle.pli_type_tree.specs.Templates.{Template}
@@ -22,10 +23,6 @@ numbered alike table (x ∷ xs) =
 abbrev pub number_in : {X : Type 0} → (alike : X → X → Bool) → List X → X → ℕ
 number_in alike [] x = 0
 number_in alike (y ∷ ys) x = if alike x y then 0 else suc (number_in alike ys x)
-
--- a dummy argument is made from a template without initial values
-abbrev pub dummy : Description → Template
-dummy d = record { description = d; initial = [] }
 
 -- what a signature names: its parameters, then its result
 abbrev pub signature_descriptions : Signature → List ParameterType

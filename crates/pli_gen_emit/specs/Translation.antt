@@ -24,7 +24,7 @@ use Rattle.pli_type_tree.specs.TypedTree.{FreedItem, FreesControlled, FreesBased
 use Rattle.pli_type_tree.specs.TypedTree.{TypedStatements, NoStatement, StatementThen}
 use Rattle.pli_type_tree.specs.TypedTree.{Callee, OfBlock, OfEntry, TypedOperation}
 use Rattle.pli_type_tree.specs.TypedTree as tree
-use Rattle.pli_code.specs.declared.instruction.Instruction.TheVariants as coded
+use Rattle.pli_program.specs.declared.instruction.Instruction.TheVariants as coded
 use Rattle.pli_gen_emit.specs.BlockTrees.{BlockTree, argument_count}
 use Rattle.pli_gen_emit.specs.Items.{Item, Label, Make, OfDescription, OfTemplate, OfValue, Ahead, Back}
 use Rattle.pli_gen_emit.specs.Items.{Labelled, plain, naming, leading, size}

@@ -4,11 +4,17 @@
 use Rattle.std.specs.Prelude.{ℕ, suc, ◌+◌, nat_eq, Bool, true, false, Option, Some, None, List, [], ◌∷◌, ◌++◌}
 use Rattle.std.specs.Prelude.{map, if◌then◌else◌}
 use Rattle.pli_run.specs.declared.ending.RunError.TheVariants.{NoReturnedValue}
-use Rattle.pli_program.specs.Program.{Instruction, Step, Line, Jump, JumpUnless, Local, Field}
-use Rattle.pli_program.specs.Program.{Subscript, Constant, Load, Store, Copy, MakeDummy, Operate, Skip}
-use Rattle.pli_program.specs.Program.{Raise, SubscriptIn, BoundOf, MakeStringDummy, FitToPlace}
+use Rattle.pli_program.specs.Program.{Instruction}
+use Rattle.pli_program.specs.declared.instruction.Instruction.TheVariants.{Step, Line, Jump, JumpUnless}
+use Rattle.pli_program.specs.declared.instruction.Instruction.TheVariants.{Local, Field, Subscript, Constant}
+use Rattle.pli_program.specs.declared.instruction.Instruction.TheVariants.{Load, Store, Copy, MakeDummy}
+use Rattle.pli_program.specs.declared.instruction.Instruction.TheVariants.{Operate, Skip, Raise, SubscriptIn}
+use Rattle.pli_program.specs.declared.instruction.Instruction.TheVariants.{BoundOf, MakeStringDummy}
+use Rattle.pli_program.specs.declared.instruction.Instruction.TheVariants.{FitToPlace}
 use Rattle.pli_program.specs.Program.{Block, GlobalCode, UnitCode}
-use Rattle.pli_program.specs.Program as op
+use Rattle.pli_program.specs.Program as programs
+use Rattle.pli_program.specs.declared.instruction.Instruction.TheVariants as op
+use Rattle.pli_program.specs.Templates.{dummy}
 use Rattle.pli_operation.specs.declared.operation.Operation.TheVariants.{Add, Within}
 use Rattle.pli_type_tree.specs.Iterations.{kept_by, limit_number, step_number, is_iterated}
 use Rattle.pli_type_tree.specs.Templates.{variable_of}
@@ -101,7 +107,7 @@ abbrev mutual
   arguments_code NoArgument = []
   arguments_code (ByPlace variable more) = place_code variable ++ arguments_code more
   arguments_code (ByDummy description value more) =
-      value_code value ++ MakeDummy description ∷ arguments_code more
+      value_code value ++ MakeDummy (dummy description) ∷ arguments_code more
   arguments_code (ByString form value more) =
       value_code value ++ MakeStringDummy form ∷ arguments_code more
 
@@ -406,12 +412,14 @@ instructions_of bs = map (with_target (places_of bs 0)) (blocks_code bs 0)
 -- program, or that of an entry's unit
 abbrev pub globals_code : List Global → (links : List ℕ) → List GlobalCode
 globals_code [] links = []
-globals_code (OwnVariable kind t ∷ gs) links = op.OwnVariable kind (variable_of t) ∷ globals_code gs links
+globals_code (OwnVariable kind t ∷ gs) links =
+    programs.OwnVariable kind (variable_of t) ∷ globals_code gs links
 globals_code (ExternalVariable name kind t ∷ gs) [] = globals_code gs []
 globals_code (ExternalVariable name kind t ∷ gs) (link ∷ links) =
-    op.ExternalVariable link kind (variable_of t) ∷ globals_code gs links
+    programs.ExternalVariable link kind (variable_of t) ∷ globals_code gs links
 globals_code (EntryPoint name signature ∷ gs) [] = globals_code gs []
-globals_code (EntryPoint name signature ∷ gs) (link ∷ links) = op.EntryPoint link ∷ globals_code gs links
+globals_code (EntryPoint name signature ∷ gs) (link ∷ links) =
+    programs.EntryPoint link ∷ globals_code gs links
 
 -- the code of a unit with the links of its globals
 abbrev pub unit_code : TypedUnit → (links : List ℕ) → UnitCode
@@ -421,5 +429,5 @@ unit_code u links =
       name = u.name;
       globals = globals_code u.globals links;
       blocks = blocks_at bs 0;
-      instructions = instructions_of bs;
+      instructions = map Some (instructions_of bs);
     }

@@ -2,7 +2,7 @@
 #![tactic(auto, using(crate::proofs::EmitLemmas::extended_both))]
 
 ghost use Rattle.std.specs.Prelude.{◌++◌, ◌∷◌, [], map};
-ghost use Rattle.pli_program.specs.Program as op;
+ghost use Rattle.pli_program.specs.declared.instruction.Instruction.TheVariants as op;
 ghost use Rattle.pli_type_tree.specs.views.TypedView.{conversion_view, operation_view};
 ghost use Rattle.pli_gen_emit.specs.TreeTranslation.{operations_code, conversion_code};
 ghost use Rattle.pli_gen_emit.specs.answers.Emitting.{Emits};

@@ -3,12 +3,12 @@
 
 ghost use Rattle.std.specs.Prelude.{◌≡◌, ◌+◌, ◌∷◌, [], length, min, pos, true};
 ghost use Rattle.pli_map.specs.views.DescriptionView.{description_view};
-ghost use Rattle.pli_program.specs.Program as op;
+ghost use Rattle.pli_program.specs.declared.instruction.Instruction.TheVariants as op;
 ghost use Rattle.pli_type_tree.specs.views.TemplateView.{template_view};
 ghost use Rattle.pli_type_tree.specs.views.TypedView.{callee_view, operation_view};
 ghost use Rattle.pli_value.specs.Value.{Number, value_view};
 ghost use Rattle.pli_code.specs.CodeTables.{there};
-ghost use Rattle.pli_code.specs.declared.instruction.Instruction.TheVariants as coded;
+ghost use Rattle.pli_gen_emit.specs.Tables.{dummy};
 ghost use Rattle.pli_gen_emit.specs.TreeTranslation.{call_instruction, operation_code};
 ghost use Rattle.pli_gen_emit.specs.answers.Emitting.{Puts, Emits, Lands, LandsGuard, shared, is_shared};
 
@@ -298,7 +298,7 @@ impl<'a> Emitter<'a> {
 
     /// Appends what makes a dummy argument.
     pub(crate) fn make_dummy(&mut self, description: &'a Description)
-        ensures { Emits self.old self.new (op.MakeDummy (description_view description.now) ∷ []) }
+        ensures { Emits self.old self.new (op.MakeDummy (dummy (description_view description.now)) ∷ []) }
     {
         number_description(&mut self.tables, description);
         let key = TemplateKey {
@@ -370,7 +370,7 @@ impl<'a> Emitter<'a> {
 
     /// The jump there leads to a target.
     pub(crate) fn land_jump(&mut self, jump: usize, target: usize)
-        ensures { Lands self.old self.new jump (coded.Jump (min target 65535)) }
+        ensures { Lands self.old self.new jump (op.Jump (min target 65535)) }
     {
         let target = short(target);
         self.replace(jump, Instruction::Jump { target });
@@ -378,7 +378,7 @@ impl<'a> Emitter<'a> {
 
     /// The jump there, after a test, leads to a target.
     pub(crate) fn land_test(&mut self, test: usize, target: usize)
-        ensures { Lands self.old self.new test (coded.JumpUnless (min target 65535)) }
+        ensures { Lands self.old self.new test (op.JumpUnless (min target 65535)) }
     {
         let target = short(target);
         self.replace(test, Instruction::JumpUnless { target });

@@ -2,7 +2,7 @@
 #![tactic(auto, using(crate::proofs::EmitLemmas::extended_both))]
 
 ghost use Rattle.std.specs.Prelude.{◌++◌, ◌∷◌, [], length, map};
-ghost use Rattle.pli_program.specs.Program as op;
+ghost use Rattle.pli_program.specs.declared.instruction.Instruction.TheVariants as op;
 ghost use Rattle.pli_type_tree.specs.views.TypedView.{expression_view, reference_view, form_view, allocated_view};
 ghost use Rattle.pli_type_tree.specs.views.TypedView.{freed_view};
 ghost use Rattle.pli_gen_emit.specs.TreeTranslation.{place_code, skip_code, items_code, allocation_code};

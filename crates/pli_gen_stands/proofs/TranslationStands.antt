@@ -1,14 +1,16 @@
 -- The code that the translation makes of each form matches the translation.
 use Rattle.std.specs.Prelude.{◌≡◌, ℕ, zero, suc, ◌+◌, ◌-◌, ◌≤◌, nat_eq, Bool, true, false, Option, Some, None, List, [], ◌∷◌, ◌++◌, map, slice_get, refl}
 use Rattle.std.specs.List.{flat_map, AllByRecursion}
+use Rattle.std.specs.Option.{option_flatten}
 use Rattle.std.specs.Prelude.{◌&&◌}
 use Rattle.std.proofs.Common.{arith, ap, ◌∙◌, sym, subst}
 use Rattle.pli_run.specs.declared.ending.RunError.TheVariants.{NoReturnedValue}
-use Rattle.pli_program.specs.Program as op
+use Rattle.pli_program.specs.declared.instruction.Instruction.TheVariants as op
 use Rattle.pli_base.specs.Name.{Name}
 use Rattle.pli_base.specs.declared.statement.Condition.{Condition}
 use Rattle.pli_operation.specs.declared.operation.Operation.TheVariants.{Add, Within}
-use Rattle.pli_program.specs.Program.{is_on_unit, Instruction, Block, UnitCode}
+use Rattle.pli_program.specs.Program.{is_on_unit, Instruction, Block, UnitCode, instruction_at}
+use Rattle.pli_program.specs.Templates.{dummy}
 use Rattle.pli_type_tree.specs.TypedTree.{TypedOperation, Fit, Operate, Root, InSlot, OfProgram, NewestOf, Located, TypedExpression, Literal, Held, Calculated, Called, Generations, Address, AsPointer, AsOffset, Bounded, TypedReference, Whole, Part, ElementOf, Operands, NoOperand, OperandThen}
 use Rattle.pli_type_tree.specs.TypedTree.{Subscripts, NoSubscript, SubscriptThen, TypedArguments, NoArgument, ByPlace, ByDummy, ByString, TypedStatement, Statement}
 use Rattle.pli_type_tree.specs.TypedTree.{Conversion, ByOperations, AsPointerIn, AsOffsetIn, ToPlace, AllocatedItem, AllocatesControlled, AllocatesBased, AllocatesInArea, FreedItem, FreesControlled, FreesBased, Form, Null, Assign, AssignString, AssignAggregate, AssignArea, EmptyArea, Put, Allocate, Free, If, Begin, Group, While, Iterate, Call, Goto, Return, ReturnValue, Stop, On, Revert, Signal}
@@ -18,7 +20,7 @@ use Rattle.pli_type_tree.specs.TypedTree.{Callee, OfBlock, OfEntry, Global, OwnV
 use Rattle.pli_type_tree.specs.TypedTree.{OtherWise, NoElse, Else, TypedStatements, NoStatement, StatementThen, TypedProcedure, TypedUnit}
 use Rattle.pli_gen_emit.specs.TreeTranslation.{argument_count, root_code, call_instruction, operation_code, value_code, place_code, operands_code, subscripts_code, dimensions_code, arguments_code, call_code, skip_code, items_code, operations_code, conversion_code, allocation_code, allocations_code, freeing_code, freeings_code, place_after}
 use Rattle.pli_gen_emit.specs.TreeTranslation.{statement_code, form_code, list_code, places_in, places_in_form, places_in_else, places_among, statement_place, with_target, BlockTree, begin_block}
-use Rattle.pli_gen_emit.specs.TreeTranslation.{blocks_in, blocks_of_form, blocks_among, blocks_of_procedure, blocks_of, end_code, block_code, blocks_code, places_of, block_at, blocks_at, globals_code, unit_code}
+use Rattle.pli_gen_emit.specs.TreeTranslation.{blocks_in, blocks_of_form, blocks_among, blocks_of_procedure, blocks_of, end_code, block_code, blocks_code, places_of, block_at, blocks_at, instructions_of, globals_code, unit_code}
 use Rattle.pli_gen_emit.specs.TreeTranslation.{keeps_code, sets_code, start_code, test_against, limit_test, while_test, guarded, tests_code, advances_code, back_code}
 use Rattle.pli_gen_emit.specs.TreeTranslation.{turn_place, list_place}
 use Rattle.pli_gen.proofs.IterationCode.{tests_length, iterate_ends}
@@ -36,6 +38,12 @@ abbrev or_else : {X : Type 0} → X → Option X → X
 or_else x None = x
 or_else x (Some y) = y
 
+-- instructions that are all there
+each_there : (is : List Instruction) (k : ℕ) → option_flatten (slice_get (map Some is) k) ≡ slice_get is k
+each_there [] k = refl
+each_there (i ∷ is) zero = refl
+each_there (i ∷ is) (suc k) = each_there is k
+
 -- the place after two parts
 after_both : (xs ys : List Instruction) (p : ℕ) → place_after (xs ++ ys) p ≡ place_after ys (place_after xs p)
 after_both [] ys p = refl
@@ -52,7 +60,7 @@ module _ (u : UnitCode) (places : List (ℕ × ℕ)) (unit : ℕ) (at : Label �
   -- this code stands at a place, with the targets of its jumps
   abbrev Stand : List Instruction → ℕ → Type 0
   Stand [] p = Unit {0}
-  Stand (i ∷ is) p = (slice_get u.instructions p ≡ Some (with_target places i)) × Stand is (suc p)
+  Stand (i ∷ is) p = (instruction_at u p ≡ Some (with_target places i)) × Stand is (suc p)
 
   split : (xs ys : List Instruction) (p : ℕ) → Stand (xs ++ ys) p → Stand xs p × Stand ys (place_after xs p)
   split [] ys p h = (tt, h)
@@ -102,8 +110,8 @@ module _ (u : UnitCode) (places : List (ℕ × ℕ)) (unit : ℕ) (at : Label �
 
   -- a call after its arguments
   called : (callee : Callee) (args : TypedArguments) → Made (call_instruction callee (argument_count args) ∷ []) (stand.Is u (stand.call_of callee (arguments_in args)))
-  called (OfBlock block) args p h = record { here = subst (λ n. slice_get u.instructions p ≡ Some (op.Call block n)) (counts args) h.0; ends = refl }
-  called (OfEntry number) args p h = record { here = subst (λ n. slice_get u.instructions p ≡ Some (op.CallExternal number n)) (counts args) h.0; ends = refl }
+  called (OfBlock block) args p h = record { here = subst (λ n. instruction_at u p ≡ Some (op.Call block n)) (counts args) h.0; ends = refl }
+  called (OfEntry number) args p h = record { here = subst (λ n. instruction_at u p ≡ Some (op.CallExternal number n)) (counts args) h.0; ends = refl }
 
   call_stands : (callee : Callee) (args : TypedArguments) → Made (arguments_code args) (stand.ArgumentsStand u args)
       → Made (call_code callee args) (Then (stand.ArgumentsStand u args) (stand.Is u (stand.call_of callee (arguments_in args))))
@@ -173,15 +181,15 @@ module _ (u : UnitCode) (places : List (ℕ × ℕ)) (unit : ℕ) (at : Label �
     arguments_stand (ByPlace r more) p h =
         joined (place_code r) (arguments_code more) (stand.PlaceStands u r) (stand.ArgumentsStand u more) (λ p h. place_stands r p h) (λ p h. arguments_stand more p h) p h
     arguments_stand (ByDummy d e more) p h =
-        joined (value_code e) (op.MakeDummy d ∷ arguments_code more) (stand.ValueStands u e) (Then (stand.Is u (op.MakeDummy d)) (stand.ArgumentsStand u more))
-        (λ p h. value_stands e p h) (before (op.MakeDummy d) (arguments_code more) (stand.ArgumentsStand u more) (λ p h. arguments_stand more p h)) p h
+        joined (value_code e) (op.MakeDummy (dummy d) ∷ arguments_code more) (stand.ValueStands u e) (Then (stand.Is u (op.MakeDummy (dummy d))) (stand.ArgumentsStand u more))
+        (λ p h. value_stands e p h) (before (op.MakeDummy (dummy d)) (arguments_code more) (stand.ArgumentsStand u more) (λ p h. arguments_stand more p h)) p h
     arguments_stand (ByString form e more) p h =
         joined (value_code e) (op.MakeStringDummy form ∷ arguments_code more) (stand.ValueStands u e) (Then (stand.Is u (op.MakeStringDummy form)) (stand.ArgumentsStand u more))
         (λ p h. value_stands e p h) (before (op.MakeStringDummy form) (arguments_code more) (stand.ArgumentsStand u more) (λ p h. arguments_stand more p h)) p h
 
   -- a condition, whose jump leads to a place that is no earlier
   test_stands : (e : TypedExpression) (target p : ℕ) → suc (place_after (value_code e) p) ≤ target → Stand (value_code e) p
-      → slice_get u.instructions (place_after (value_code e) p) ≡ Some (op.JumpUnless target)
+      → instruction_at u (place_after (value_code e) p) ≡ Some (op.JumpUnless target)
       → stand.ConditionStands u e target p (suc (place_after (value_code e) p))
   test_stands e target p le test jump =
       record { middle = place_after (value_code e) p; fst = value_stands e p test; snd = record { is = record { here = jump; ends = refl }; on = le } }
@@ -402,7 +410,7 @@ module _ (u : UnitCode) (places : List (ℕ × ℕ)) (unit : ℕ) (at : Label �
                 fst = record { here = s.1.1.1.1.0; ends = refl };
                 snd = record {
                   is = record {
-                    here = subst (λ k. slice_get u.instructions k ≡ Some (op.JumpUnless target)) e r.1.0;
+                    here = subst (λ k. instruction_at u k ≡ Some (op.JumpUnless target)) e r.1.0;
                     ends = sym (after_both (place ++ four) jump p ∙ ap suc e);
                   };
                   on = le;
@@ -451,7 +459,7 @@ module _ (u : UnitCode) (places : List (ℕ × ℕ)) (unit : ℕ) (at : Label �
   turns_stand : (iterated : Bool) (i : Iteration) (number : ℕ) (between : List Instruction) (B : Span) → Made between B → (list : Context → Span) (c : Context) (p q finish : ℕ)
       → q ≤ finish → suc (place_after (tests_code i (place_after (back_code iterated number between p) finish)) p) ≡ q
       → Stand (tests_code i (place_after (back_code iterated number between p) finish)) p
-      → slice_get u.instructions (place_after (tests_code i (place_after (back_code iterated number between p) finish)) p) ≡ Some (op.Step number)
+      → instruction_at u (place_after (tests_code i (place_after (back_code iterated number between p) finish)) p) ≡ Some (op.Step number)
       → Turned iterated list c q finish → Stand (back_code iterated number between p) finish
       → stand.TurnsStand u iterated (stand.TestStands u i) (λ c. Then (stand.Is u (op.Step number)) (list c)) (Then (stand.Is u (op.Line number)) B) c
       p (place_after (back_code iterated number between p) finish)
@@ -499,12 +507,12 @@ module _ (u : UnitCode) (places : List (ℕ × ℕ)) (unit : ℕ) (at : Label �
   end_stands (Some s) = before (op.Line s) (op.Raise NoReturnedValue ∷ []) (stand.Is u (op.Raise NoReturnedValue)) (one (op.Raise NoReturnedValue))
 
   -- code that a unit has from a place on
-  stand_all : (is : List Instruction) (p : ℕ) → ((k : ℕ) → slice_get u.instructions (p + k) ≡ slice_get (map (with_target places) is) k) → Stand is p
+  stand_all : (is : List Instruction) (p : ℕ) → ((k : ℕ) → instruction_at u (p + k) ≡ slice_get (map (with_target places) is) k) → Stand is p
   stand_all [] p h = tt
   stand_all (i ∷ is) p h =
       let here : p ≡ p + 0 = omega arith in
       let next : (k : ℕ) → suc p + k ≡ p + suc k = λ k. omega arith in
-      (ap (slice_get u.instructions) here ∙ h 0, stand_all is (suc p) (λ k. ap (slice_get u.instructions) (next k) ∙ h (suc k)))
+      (ap (instruction_at u) here ∙ h 0, stand_all is (suc p) (λ k. ap (instruction_at u) (next k) ∙ h (suc k)))
 
   -- among all blocks of a unit, each of which is found by its number
   module _ (all : List BlockTree) (find : (i : ℕ) (b : BlockTree) → slice_get all i ≡ Some b → Found (slice_get u.blocks i) b) where
@@ -741,7 +749,7 @@ unit_stands program names at unit t links well linked lead =
     let u = unit_code t links in
     let code = blocks_code bs 0 in
     let zero_and : (k : ℕ) → 0 + k ≡ k = λ k. omega arith in
-    let all = stand_all u places unit at lead code 0 (λ k. ap (slice_get u.instructions) (zero_and k)) in
+    let all = stand_all u places unit at lead code 0 (λ k. ap (instruction_at u) (zero_and k) ∙ each_there (instructions_of bs) k) in
     let find = found u places unit at lead bs 0 (slice_get u.blocks) all (λ i. refl) (each_has_its_place places (subst AreDistinct (sym (numbered_blocks bs 0)) well.statements)) in
     record {
       names = refl;

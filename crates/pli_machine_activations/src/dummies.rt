@@ -3,7 +3,8 @@ ghost use Rattle.std.specs.Prelude.{◌≡◌, ◌∷◌, true, IfOk};
 ghost use Rattle.pli_map.specs.views.DescriptionView.{description_view};
 ghost use Rattle.pli_value.specs.Value.{value_view};
 ghost use Rattle.pli_machine_step.specs.Machine.{OfValue, AtDummy, dummied, string_dummied};
-ghost use Rattle.pli_program.specs.Program.{MakeDummy, MakeStringDummy};
+ghost use Rattle.pli_program.specs.declared.instruction.Instruction.TheVariants.{MakeDummy, MakeStringDummy};
+ghost use Rattle.pli_program.specs.Templates.{dummy};
 ghost use Rattle.pli_store.specs.answers.Strings.{has_form};
 ghost use Rattle.pli_store.specs.views.StorageView.{place_view};
 ghost use Rattle.pli_machine_operate.specs.views.OperandView.{taken_operand};
@@ -25,7 +26,7 @@ pub fn make_dummy<'m>(
     machine: &mut Machine<'m>,
     description: &'m Description,
 ) -> Result<Option<Stop>, AllocError>
-    ensures { IfOk result (Does (MakeDummy (description_view description.now)) machine.old machine.new) }
+    ensures { IfOk result (Does (MakeDummy (dummy (description_view description.now))) machine.old machine.new) }
 {
     match pop_number(&mut machine.here.operands) {
         Some(number) => dummy_with(alloc, machine, description, Value::Number(number)),
@@ -39,7 +40,7 @@ fn dummy_of_newest<'m>(
     machine: &mut Machine<'m>,
     description: &'m Description,
 ) -> Result<Option<Stop>, AllocError>
-    ensures { IfOk result (Does (MakeDummy (description_view description.now)) machine.old machine.new) }
+    ensures { IfOk result (Does (MakeDummy (dummy (description_view description.now))) machine.old machine.new) }
 {
     match pop_value(alloc, &mut machine.here.operands)? {
         Some(value) => dummy_with(alloc, machine, description, value),

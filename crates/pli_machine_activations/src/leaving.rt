@@ -3,7 +3,7 @@ ghost use Rattle.std.specs.Prelude.{◌≡◌, ◌<◌, true, length, IfOk};
 ghost use Rattle.pli_machine_activations.specs.views.Image.{Image};
 ghost use Rattle.pli_value.specs.Value.{value_view};
 ghost use Rattle.pli_machine_step.specs.Machine.{goes_on, returned_with};
-ghost use Rattle.pli_program.specs.Program.{Return, ReturnValue};
+ghost use Rattle.pli_program.specs.declared.instruction.Instruction.TheVariants.{Return, ReturnValue};
 ghost use Rattle.pli_machine_activations.specs.answers.Activated.{Leaves};
 ghost use Rattle.pli_machine_activations.specs.views.MachineView.{Does, Moves};
 

@@ -4,7 +4,7 @@ use Rattle.pli_base.specs.declared.statement.Condition.{Condition}
 use Rattle.pli_run.specs.declared.ending.RunError.{RunError}
 use Rattle.pli_program.specs.Program as op
 use Rattle.pli_program.specs.Program.{Program}
-use Rattle.pli_code.specs.CodeTables.{naming}
+use Rattle.std.specs.Prelude.{option_map}
 use Rattle.pli_world.specs.Conditions.{condition_of}
 use Rattle.pli_world.specs.Ends as end
 use Rattle.pli_world.specs.World.{World, Answer}
@@ -20,7 +20,7 @@ use Rattle.pli_machine_activations.specs.declared.machine.Stop.TheVariants as st
 use Rattle.pli_machine_activations.specs.views.Image.{Image}
 use Rattle.pli_machine_activations.specs.views.MachineView.{Finished, leads}
 use Rattle.pli_machine_perform.specs.declared.halting.Halt.{Halt}
-use Rattle.pli_machine_perform.specs.views.HaltView.{HaltsAs, DoesIn, halt_of, halted}
+use Rattle.pli_machine_perform.specs.views.HaltView.{HaltsAs, DoesIn, DoesFoundIn, halt_of, halted}
 
 pub same_with : (before after : Storage) (w : World) → SameStorage before after → with_storage before w ≡ with_storage after w
 same_with before after w same =
@@ -67,10 +67,10 @@ module _ (p : Program) (wait : Frame → Frame) (here : Frame) (frames : List Fr
 
 -- an instruction that names an entry of a table does what it does with the entry
 pub done_found : {X E : Type 0} (with : X → op.Instruction) (image : Image) (o : Option X) (x : X) (old new : Machine) (r : Result (Option Stop) E)
-    → o ≡ Some x → IfOk r (DoesIn image (with x) old new) → IfOk r (DoesIn image (naming with o) old new)
-done_found with image o x old new r e does = subst (λ o. IfOk r (DoesIn image (naming with o) old new)) (sym e) does
+    → o ≡ Some x → IfOk r (DoesIn image (with x) old new) → IfOk r (DoesFoundIn image (option_map with o) old new)
+done_found with image o x old new r e does = subst (λ o. IfOk r (DoesFoundIn image (option_map with o) old new)) (sym e) does
 
 -- where the table has none, it is a fault
 pub done_none : {X : Type 0} (with : X → op.Instruction) (image : Image) (o : Option X) (m : Machine)
-    → o ≡ None → DoesIn image (naming with o) m m (Some stop.Fault)
-done_none with image o m e = subst (λ o. DoesIn image (naming with o) m m (Some stop.Fault)) (sym e) (λ u put. refl)
+    → o ≡ None → DoesFoundIn image (option_map with o) m m (Some stop.Fault)
+done_none with image o m e = subst (λ o. DoesFoundIn image (option_map with o) m m (Some stop.Fault)) (sym e) (λ u put. refl)

@@ -1,15 +1,17 @@
 //! Instructions on areas.
 ghost use Rattle.std.specs.Prelude.{map, IfOk, IfSome};
 ghost use Rattle.pli_map.specs.views.DescriptionView.{description_view};
-ghost use Rattle.pli_program.specs.Program.{AllocateInArea, AssignArea, EmptyArea, ToOffset, ToPointer};
+ghost use Rattle.pli_program.specs.declared.instruction.Instruction.TheVariants.{AllocateInArea, AssignArea};
+ghost use Rattle.pli_program.specs.declared.instruction.Instruction.TheVariants.{EmptyArea, ToOffset};
+ghost use Rattle.pli_program.specs.declared.instruction.Instruction.TheVariants.{ToPointer};
 ghost use Rattle.pli_stacks.specs.answers.LaidBytes.{IsLaid};
 ghost use Rattle.pli_type_tree.specs.views.TemplateView.{initial_view};
 ghost use Rattle.pli_code.specs.CodeTables.{looked_up};
-ghost use Rattle.pli_code.specs.declared.instruction.Instruction.TheVariants as coded;
+ghost use Rattle.pli_program.specs.declared.instruction.Instruction.TheVariants as coded;
 ghost use Rattle.pli_code.specs.views.CodeView.{code_view};
 ghost use Rattle.pli_machine_activations.specs.views.ImageView.{image_of};
 ghost use Rattle.pli_machine_activations.specs.views.MachineView.{Does};
-ghost use Rattle.pli_machine_perform.specs.views.HaltView.{DoesIn};
+ghost use Rattle.pli_machine_perform.specs.views.HaltView.{DoesFoundIn, DoesIn};
 
 use crate::halting::{halt_at, settle, settle_again};
 use crate::inhabiting;
@@ -102,7 +104,7 @@ pub fn allocate_in_area<'m>(
     template: u16,
     target: u16,
 ) -> Result<Option<Stop>, AllocError>
-    ensures { IfOk result (DoesIn (image_of unit.now.loaded.now)
+    ensures { IfOk result (DoesFoundIn (image_of unit.now.loaded.now)
         (looked_up (code_view unit.now.linked.now.deck.code) (coded.AllocateInArea template target)) machine.old
         machine.new) }
 {

@@ -1,8 +1,8 @@
 //! ON, REVERT and SIGNAL.
 ghost use Rattle.std.specs.Prelude.{◌≡◌, IfOk};
-ghost use Rattle.pli_code.specs.declared.instruction.Instruction.TheVariants as coded;
+ghost use Rattle.pli_program.specs.declared.instruction.Instruction.TheVariants as coded;
 ghost use Rattle.pli_code.specs.views.CodeView.{member_view};
-ghost use Rattle.pli_program.specs.Program.{Revert, Signal};
+ghost use Rattle.pli_program.specs.declared.instruction.Instruction.TheVariants.{Revert, Signal};
 ghost use Rattle.pli_machine_activations.specs.views.ImageView.{image_of};
 ghost use Rattle.pli_machine_activations.specs.views.MachineView.{Does, Performs};
 ghost use Rattle.pli_machine_perform.specs.views.HaltView.{DoesIn};

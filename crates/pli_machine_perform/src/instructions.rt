@@ -1,16 +1,18 @@
 //! Instructions on the operands of the newest activation.
 ghost use Rattle.std.specs.Prelude.{IfOk};
 ghost use Rattle.pli_map.specs.views.DescriptionView.{description_view};
-ghost use Rattle.pli_program.specs.Program.{Jump, JumpUnless, Load, Store, Copy, Field, Subscript, Fit, Operate};
+ghost use Rattle.pli_program.specs.declared.instruction.Instruction.TheVariants.{Jump, JumpUnless, Load};
+ghost use Rattle.pli_program.specs.declared.instruction.Instruction.TheVariants.{Store, Copy, Field};
+ghost use Rattle.pli_program.specs.declared.instruction.Instruction.TheVariants.{Subscript, Fit, Operate};
 ghost use Rattle.pli_code.specs.CodeTables.{looked_up};
-ghost use Rattle.pli_code.specs.declared.instruction.Instruction.TheVariants as coded;
+ghost use Rattle.pli_program.specs.declared.instruction.Instruction.TheVariants as coded;
 ghost use Rattle.pli_code.specs.views.CodeView.{code_view};
 ghost use Rattle.pli_machine_activations.specs.views.ImageView.{image_of};
 ghost use Rattle.pli_value.specs.Value.{value_view};
 ghost use Rattle.pli_machine_activations.specs.views.Image.{Image};
-ghost use Rattle.pli_machine_activations.specs.views.MachineView.{Does, Moves};
+ghost use Rattle.pli_machine_activations.specs.views.MachineView.{Does, DoesFound, Moves};
 ghost use Rattle.pli_machine_perform.specs.views.ActView.{kept_as};
-ghost use Rattle.pli_machine_perform.specs.views.HaltView.{DoesIn};
+ghost use Rattle.pli_machine_perform.specs.views.HaltView.{DoesFoundIn, DoesIn};
 
 use crate::halting::settle;
 use crate::keeping::put_constant;
@@ -69,7 +71,7 @@ pub fn field<'m>(
     offset: u32,
     description: u16,
 ) -> Result<Option<Stop>, AllocError>
-    ensures { IfOk result (Does (looked_up (code_view code.now) (coded.Field offset description)) machine.old
+    ensures { IfOk result (DoesFound (looked_up (code_view code.now) (coded.Field offset description)) machine.old
         machine.new) }
 {
     match code.description(description) {
@@ -111,7 +113,7 @@ pub fn constant<'m>(
     machine: &mut Machine<'m>,
     value: u16,
 ) -> Result<Option<Stop>, AllocError>
-    ensures { IfOk result (Does (looked_up (code_view code.now) (coded.Constant value)) machine.old machine.new) }
+    ensures { IfOk result (DoesFound (looked_up (code_view code.now) (coded.Constant value)) machine.old machine.new) }
 {
     match code.values.get(value as usize) {
         Some(value) => put_constant(machine, value),
@@ -193,7 +195,8 @@ pub fn make_dummy<'m>(
     machine: &mut Machine<'m>,
     template: u16,
 ) -> Result<Option<Stop>, AllocError>
-    ensures { IfOk result (Does (looked_up (code_view code.now) (coded.MakeDummy template)) machine.old machine.new) }
+    ensures { IfOk result (DoesFound (looked_up (code_view code.now) (coded.MakeDummy template)) machine.old
+        machine.new) }
 {
     match template_of(code, template) {
         Some((description, _)) => pli_machine_activations::make_dummy(alloc, machine, description),
@@ -223,7 +226,7 @@ pub fn fit<'m>(
     machine: &mut Machine<'m>,
     description: u16,
 ) -> Result<Option<Stop>, AllocError>
-    ensures { IfOk result (DoesIn (image_of unit.now.loaded.now)
+    ensures { IfOk result (DoesFoundIn (image_of unit.now.loaded.now)
         (looked_up (code_view unit.now.linked.now.deck.code) (coded.Fit description)) machine.old machine.new) }
 {
     match unit.linked.deck.code.description(description) {

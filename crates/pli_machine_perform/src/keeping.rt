@@ -1,6 +1,7 @@
 //! Constants and temporaries.
 ghost use Rattle.std.specs.Prelude.{◌≡◌, ◌<◌, length, slice_set, Some, IfOk};
-ghost use Rattle.pli_program.specs.Program.{Constant, SetTemporary, TakeTemporary};
+ghost use Rattle.pli_program.specs.declared.instruction.Instruction.TheVariants.{Constant, SetTemporary};
+ghost use Rattle.pli_program.specs.declared.instruction.Instruction.TheVariants.{TakeTemporary};
 ghost use Rattle.pli_value.specs.Value.{value_view};
 ghost use Rattle.pli_machine_activations.specs.views.MachineView.{Does};
 

@@ -3,7 +3,7 @@ ghost use Rattle.std.specs.Prelude.{[], ◌∷◌};
 ghost use Rattle.pli_machine_activations.specs.views.Image.{Image};
 ghost use Rattle.pli_world.specs.World.{cleared};
 ghost use Rattle.pli_machine_step.specs.Machine.{counted_jump, lands};
-ghost use Rattle.pli_program.specs.Program.{Goto};
+ghost use Rattle.pli_program.specs.declared.instruction.Instruction.TheVariants.{Goto};
 ghost use Rattle.pli_machine_activations.specs.views.MachineView.{Does, Moves};
 
 use crate::jumping::count_jump;

@@ -1,5 +1,5 @@
 //! Steps, and the statement that is being executed.
-ghost use Rattle.pli_program.specs.Program.{Step, Line};
+ghost use Rattle.pli_program.specs.declared.instruction.Instruction.TheVariants.{Step, Line};
 ghost use Rattle.pli_machine_activations.specs.views.MachineView.{Does};
 
 use pli_machine_activations::{Machine, Stop};

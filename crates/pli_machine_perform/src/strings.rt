@@ -1,6 +1,7 @@
 //! Instructions on arrays and strings whose extents are those of the argument.
 ghost use Rattle.std.specs.Prelude.{IfOk};
-ghost use Rattle.pli_program.specs.Program.{BoundOf, FitToPlace, SubscriptIn};
+ghost use Rattle.pli_program.specs.declared.instruction.Instruction.TheVariants.{BoundOf, FitToPlace};
+ghost use Rattle.pli_program.specs.declared.instruction.Instruction.TheVariants.{SubscriptIn};
 ghost use Rattle.pli_machine_activations.specs.views.ImageView.{image_of};
 ghost use Rattle.pli_machine_activations.specs.views.MachineView.{Does};
 ghost use Rattle.pli_machine_perform.specs.views.HaltView.{DoesIn};

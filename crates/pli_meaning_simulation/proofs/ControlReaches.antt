@@ -7,7 +7,7 @@ use Rattle.pli_world.specs.World.{World, Answer, Yields, Raises, Wrong, height, 
 use Rattle.pli_run.specs.declared.ending.RunError.TheVariants.{TooManyActivations}
 use Rattle.pli_value.specs.Value.{Value, Number, Characters, Bits, Located}
 use Rattle.pli_operation.specs.Operations.{is_true}
-use Rattle.pli_program.specs.Program as op
+use Rattle.pli_program.specs.declared.instruction.Instruction.TheVariants as op
 use Rattle.pli_program.specs.Program.{UnitCode, Program}
 use Rattle.pli_machine_step.specs.Machine as machine
 use Rattle.pli_machine_step.specs.Machine.{Operand, OfValue, Locals, Frame, State, At, Move, Goes, Stops, Steps, given, calm, fresh, lands, jumps_at, counted, counted_jump, jumped, resume}

@@ -13,7 +13,7 @@ use Rattle.pli_type_tree.specs.TypedTree.{TypedOperation, Conversion, ByOperatio
 use Rattle.pli_meaning_tree.specs.Effects.{Label}
 use Rattle.pli_meaning_tree.specs.TreeMeaning.{Calls, place_of, operated_by, converted}
 use Rattle.pli_meaning_tree.specs.Parts.{resolved, fitted_at}
-use Rattle.pli_program.specs.Program as op
+use Rattle.pli_program.specs.declared.instruction.Instruction.TheVariants as op
 use Rattle.pli_meaning_simulation.specs.CodeStands.{Context, Is, OperationsStand, ConversionStands}
 use Rattle.pli_meaning_simulation.proofs.ReachesLemmas.{Fine, Comes, stays, frame, pushes, Reaches, gives, bound, answers}
 use Rattle.pli_meaning_simulation.proofs.ConditionsReach.{resolved_run}

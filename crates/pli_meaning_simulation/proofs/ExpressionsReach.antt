@@ -10,7 +10,7 @@ use Rattle.pli_world.specs.World.{dummy_of, led_on}
 use Rattle.pli_world.specs.Locating.{place_by, address_of, offset_made, pointer_within}
 use Rattle.pli_world.specs.Stacks.{generations_counted}
 use Rattle.pli_value.specs.Value.{Value, Number, Characters, Bits, Located as LocatorValue}
-use Rattle.pli_program.specs.Program as op
+use Rattle.pli_program.specs.declared.instruction.Instruction.TheVariants as op
 use Rattle.pli_program.specs.Program.{UnitCode, Program}
 use Rattle.pli_machine_step.specs.Machine.{Operand, OfValue, AtPlace, AtDummy, Locals, Frame, At, values_off, places_off, operated, act, resume}
 use Rattle.pli_type_tree.specs.TypedOperations.{comes_to}

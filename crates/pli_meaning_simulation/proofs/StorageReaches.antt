@@ -5,7 +5,7 @@ use Rattle.pli_world.specs.Locating.{freed_by, pointer_made, block_made}
 use Rattle.pli_world.specs.Stacks.{generation_stacked, generation_unstacked}
 use Rattle.pli_world.specs.World.{World, stored, stepped}
 use Rattle.pli_value.specs.Value.{Value}
-use Rattle.pli_program.specs.Program as op
+use Rattle.pli_program.specs.declared.instruction.Instruction.TheVariants as op
 use Rattle.pli_program.specs.Program.{UnitCode, Program}
 use Rattle.pli_machine_step.specs.Machine.{OfValue, AtPlace, Locals, Frame, At, Goes}
 use Rattle.pli_type_tree.specs.Templates.{Template, variable_of}

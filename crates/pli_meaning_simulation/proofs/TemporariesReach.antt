@@ -4,7 +4,7 @@ use Rattle.std.proofs.Common.{ap, ◌∙◌, arith}
 use Rattle.std.proofs.lemmas.Bool.{lt-ltb}
 use Rattle.pli_world.specs.World.{World}
 use Rattle.pli_value.specs.Value.{Value}
-use Rattle.pli_program.specs.Program as op
+use Rattle.pli_program.specs.declared.instruction.Instruction.TheVariants as op
 use Rattle.pli_program.specs.Program.{UnitCode, Program}
 use Rattle.pli_machine_step.specs.Machine.{Operand, OfValue, Locals, Frame, At, Goes, faulty, taken, resume}
 use Rattle.pli_meaning_tree.specs.Effects.{Label, Effect}

@@ -7,9 +7,11 @@ use Rattle.pli_base.specs.Name.{Name}
 use Rattle.pli_base.specs.declared.statement.Condition.{Condition}
 use Rattle.pli_base.specs.Words.{same_name}
 use Rattle.pli_run.specs.declared.ending.RunError.TheVariants.{NoReturnedValue}
-use Rattle.pli_program.specs.Program as op
+use Rattle.pli_program.specs.Program as programs
+use Rattle.pli_program.specs.declared.instruction.Instruction.TheVariants as op
 use Rattle.pli_program.specs.Program.{Instruction, BlockKind, BeginBlock, is_on_unit}
-use Rattle.pli_program.specs.Program.{Block, UnitCode, Program}
+use Rattle.pli_program.specs.Program.{Block, UnitCode, Program, instruction_at}
+use Rattle.pli_program.specs.Templates.{dummy}
 use Rattle.pli_program.specs.declared.kind.VariableKind.{VariableKind}
 use Rattle.pli_operation.specs.declared.operation.Operation.TheVariants.{Add, Within}
 use Rattle.pli_type_tree.specs.Blocks.{kind_of_procedure}
@@ -115,7 +117,7 @@ block_of kind parent parameters head entry =
 module _ (u : UnitCode) where
   -- this instruction stands here
   pub record Is (i : Instruction) (p q : ℕ) : Type 0 where
-    pub here : slice_get u.instructions p ≡ Some i
+    pub here : instruction_at u p ≡ Some i
     pub ends : suc p ≡ q
 
   -- a jump forward to a place
@@ -176,7 +178,7 @@ module _ (u : UnitCode) where
     ArgumentsStand NoArgument = Empty
     ArgumentsStand (ByPlace r more) = Then (PlaceStands r) (ArgumentsStand more)
     ArgumentsStand (ByDummy d e more) =
-        Then (ValueStands e) (Then (Is (op.MakeDummy d)) (ArgumentsStand more))
+        Then (ValueStands e) (Then (Is (op.MakeDummy (dummy d))) (ArgumentsStand more))
     ArgumentsStand (ByString form e more) =
         Then (ValueStands e) (Then (Is (op.MakeStringDummy form)) (ArgumentsStand more))
 
@@ -439,27 +441,27 @@ module _ (u : UnitCode) where
 
 -- an external variable of this name and kind, made of this template, has the number of the name among these
 pub record ExternalStands (names : List Name) (name : Name) (kind : VariableKind) (t : Template)
-    (g : op.GlobalCode) : Type 0 where
+    (g : programs.GlobalCode) : Type 0 where
   pub external : ℕ
-  pub is : g ≡ op.ExternalVariable external kind (variable_of t)
+  pub is : g ≡ programs.ExternalVariable external kind (variable_of t)
   pub named : position (same_name name) names ≡ Some external
 
 -- an entry of this name has the number of its unit in the program
-pub record EntryStands (program : List TypedUnit) (name : Name) (g : op.GlobalCode) : Type 0 where
+pub record EntryStands (program : List TypedUnit) (name : Name) (g : programs.GlobalCode) : Type 0 where
   pub unit : ℕ
-  pub is : g ≡ op.EntryPoint unit
+  pub is : g ≡ programs.EntryPoint unit
   pub named : unit_named program name ≡ Some unit
 
 -- in a program of these units, whose external variables have these names
 module _ (program : List TypedUnit) (externals : List Name) where
   -- a global
-  abbrev pub GlobalStands : Global → op.GlobalCode → Type 0
-  GlobalStands (OwnVariable kind t) g = g ≡ op.OwnVariable kind (variable_of t)
+  abbrev pub GlobalStands : Global → programs.GlobalCode → Type 0
+  GlobalStands (OwnVariable kind t) g = g ≡ programs.OwnVariable kind (variable_of t)
   GlobalStands (ExternalVariable name kind t) g = ExternalStands externals name kind t g
   GlobalStands (EntryPoint name signature) g = EntryStands program name g
 
   -- globals, one for one
-  abbrev pub GlobalsStand : List Global → List op.GlobalCode → Type 0
+  abbrev pub GlobalsStand : List Global → List programs.GlobalCode → Type 0
   GlobalsStand [] [] = Unit
   GlobalsStand (x ∷ xs) (g ∷ gs) = GlobalStands x g × GlobalsStand xs gs
   GlobalsStand [] (g ∷ gs) = ⊥

@@ -1,3 +1,4 @@
 pub mod Kinds
+pub mod Naming
 pub mod Program
 pub mod Templates

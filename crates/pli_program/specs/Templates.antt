@@ -1,5 +1,5 @@
 -- Templates (own): what a variable is made from, as a unit writes it.
-use Rattle.std.specs.Prelude.{ℕ, List}
+use Rattle.std.specs.Prelude.{ℕ, List, []}
 use Rattle.pli_map.specs.Description.{Description}
 use Rattle.pli_value.specs.Value.{Value}
 
@@ -12,3 +12,7 @@ pub record InitialScalar : Type 0 where
 pub record Template : Type 0 where
   pub description : Description
   pub initial : List InitialScalar
+
+-- a dummy argument is made from a template without initial values
+abbrev pub dummy : Description → Template
+dummy d = record { description = d; initial = [] }

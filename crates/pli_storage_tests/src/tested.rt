@@ -225,11 +225,27 @@ impl<'m> Tested<'m> {
         }
     }
 
-    /// The same, if it is a number.
-    fn number(&self, place: Place<'m>) -> Answer {
-        match self.storage.number_at(place) {
+    /// The same, if it is a number; each way to read it finds the same.
+    fn number(&self, rt: &impl Abort, place: Place<'m>) -> Answer {
+        let number = self.storage.number_at(place);
+        assert!(rt; self.storage.element_number(place) == number);
+        if let Some(lone) = self.storage.lone_number(place) {
+            assert!(rt; self.storage.number_alone(place, lone) == number);
+        }
+        match number {
             Some(number) => Answer::Gives(Item::Number(number)),
             None => Answer::Nothing,
+        }
+    }
+
+    /// Puts a number at a place, one way or another.
+    fn put(&mut self, place: Place<'m>, number: i64) -> bool {
+        if number % 2 == 0 {
+            return self.storage.put_number(place, number);
+        }
+        match self.storage.lone_number(place) {
+            Some(lone) => self.storage.put_number_alone(place, lone, number),
+            None => self.storage.put_element_number(place, number),
         }
     }
 
@@ -245,13 +261,13 @@ impl<'m> Tested<'m> {
     fn at(&mut self, rt: &impl Abort, alloc: Global, place: Place<'m>, call: Use) -> Answer {
         match call {
             Use::Held => self.held(rt, alloc, place),
-            Use::Number => self.number(place),
+            Use::Number => self.number(rt, place),
             Use::Text => self.text(rt, place),
             Use::Store(item) => {
                 let value = item.value(rt, alloc);
                 Answer::done(rt, self.storage.stored(place, value))
             }
-            Use::Put(number) => Answer::of(self.storage.put_number(place, number)),
+            Use::Put(number) => Answer::of(self.put(place, number)),
             Use::Append(more, room) => {
                 Answer::of(self.storage.append(place, more.characters(rt), room))
             }

@@ -145,7 +145,7 @@ impl<'m> Storage<'m> {
 
     /// The generation and the part of it to which a place outside areas leads. `DeadLocator` where the generation has
     /// ended, `NoRule` where no such part stands there, and for a place in a block.
-    #[inline(always)]
+    #[inline]
     pub(crate) fn part(&self, place: Place<'_>) -> Result<GenerationPart, StoreFault>
         ensures { Leads (storage_view self.now) (place_view place.entry) result }
     {

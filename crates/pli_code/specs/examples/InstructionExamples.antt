@@ -7,7 +7,7 @@ use Rattle.pli_operation.specs.declared.operation.Relation.TheVariants as relati
 use Rattle.pli_map.specs.declared.dimension.WhichBound.TheVariants as bounds
 use Rattle.pli_map.specs.declared.parameter.StringForm.TheVariants as forms
 use Rattle.pli_code.specs.declared.fault.DeckFault.TheVariants.{OutOfRange, Truncated}
-use Rattle.pli_code.specs.declared.instruction.Instruction.TheVariants as op
+use Rattle.pli_program.specs.declared.instruction.Instruction.TheVariants as op
 use Rattle.pli_code.specs.declared.version.Version.TheVariants.{First, Second, Third}
 use Rattle.pli_code.specs.Instructions.{instruction, instruction_in}
 

@@ -11,7 +11,7 @@ use Rattle.pli_code.specs.declared.version.Version.TheVariants.{First, Second, T
 use Rattle.pli_program.specs.Program.{Procedure}
 use Rattle.pli_code.specs.CodeTables.{CodedTemplate, CodedBlock, CodedSignature, Code, Deck}
 use Rattle.pli_code.specs.CodeTables.{OwnVariable, ExternalVariable, EntryPoint}
-use Rattle.pli_code.specs.declared.instruction.Instruction.TheVariants as op
+use Rattle.pli_program.specs.declared.instruction.Instruction.TheVariants as op
 use Rattle.pli_deck_write.specs.Spelling.{deck_bytes, deck_read}
 use Rattle.pli_program.specs.declared.kind.VariableKind.TheVariants.{Static, Controlled}
 

@@ -3,8 +3,8 @@ use Rattle.std.specs.Prelude.{◌≡◌, ℕ, List, [], ◌∷◌, Some, None, p
 use Rattle.pli_map.specs.declared.description.Bounds.{Bounds}
 use Rattle.pli_map.specs.Description.{Description, Character, Array, FixedBinary}
 use Rattle.pli_code.specs.declared.fault.DeckFault.TheVariants.{BadJump, BadNumber, OverLimit}
-use Rattle.pli_code.specs.declared.instruction.Instruction.{Instruction}
-use Rattle.pli_code.specs.declared.instruction.Instruction.TheVariants as op
+use Rattle.pli_code.specs.CodedInstruction.{Instruction}
+use Rattle.pli_program.specs.declared.instruction.Instruction.TheVariants as op
 use Rattle.pli_code.specs.CodeTables.{CodedTemplate, CodedSignature, Deck}
 use Rattle.pli_map.specs.ParameterTypes.{ParameterType, Stated, AnyString, AnyArray}
 use Rattle.pli_map.specs.declared.parameter.StringForm.TheVariants as forms

@@ -5,12 +5,11 @@ use Rattle.std.specs.List.{list_any, AllByRecursion}
 use Rattle.pli_map.specs.ParameterTypes.{Stated, same_type}
 use Rattle.pli_map.specs.Sizes.{size_of}
 use Rattle.pli_program.specs.Program.{Instruction}
-use Rattle.pli_program.specs.Program as op
+use Rattle.pli_program.specs.declared.instruction.Instruction.TheVariants as op
 use Rattle.pli_type_tree.specs.Templates.{Template}
 use Rattle.pli_code.specs.CodeFields.{is_byte, is_short, parent_fits}
 use Rattle.pli_code.specs.CodeTables.{CodedBlock, Code}
-use Rattle.pli_code.specs.declared.instruction.Instruction as coded
-use Rattle.pli_code.specs.declared.instruction.Instruction.TheVariants as codes
+use Rattle.pli_code.specs.CodedInstruction as coded
 use Rattle.pli_gen_emit.specs.TreeTranslation.{BlockTree}
 use Rattle.pli_gen_emit.specs.Encoding.{NumberedTables, coded_block}
 use Rattle.pli_gen_emit.specs.declared.emitter.LabelJump.{LabelJump}
@@ -19,21 +18,20 @@ use Rattle.pli_gen.specs.Limits.{entry_limit}
 -- where the first step of a statement stands in code; another place if there is none
 abbrev pub first_step : List coded.Instruction → (at number other : ℕ) → ℕ
 first_step [] p n other = other
-first_step (codes.Step s ∷ is) p n other = if nat_eq s n then p else first_step is (suc p) n other
+first_step (op.Step s ∷ is) p n other = if nat_eq s n then p else first_step is (suc p) n other
 first_step (i ∷ is) p n other = first_step is (suc p) n other
 
 -- code whose GOTOs lead to the places of their labels
 abbrev pub gotos_landed : (place : ℕ → ℕ) → List coded.Instruction → List LabelJump → List coded.Instruction
 gotos_landed place code [] = code
 gotos_landed place code (j ∷ js) =
-    gotos_landed place (slice_set code j.place (codes.Goto j.outward (min (place j.label) 65535))) js
+    gotos_landed place (slice_set code j.place (op.Goto j.outward (min (place j.label) 65535))) js
 
--- the place to which an instruction leads is within a limit; nothing is no instruction of code
+-- the place to which an instruction leads is within a limit
 abbrev pub Fits : (limit : ℕ) → Instruction → Type 0
 Fits n (op.Jump target) = target ≤ n
 Fits n (op.JumpUnless target) = target ≤ n
 Fits n (op.AllocateInArea t after) = after ≤ n
-Fits n op.Nothing = ⊥
 Fits n i = Unit {0}
 
 -- the numbers of a block are within their fields

@@ -6,7 +6,7 @@ use Rattle.pli_map.specs.declared.dimension.WhichBound.TheVariants.{High}
 use Rattle.pli_map.specs.declared.parameter.StringForm.TheVariants as forms
 use Rattle.pli_operation.specs.declared.operation.Operation.TheVariants as calculate
 use Rattle.pli_value.specs.Value.{Number, Characters}
-use Rattle.pli_program.specs.Program as op
+use Rattle.pli_program.specs.declared.instruction.Instruction.TheVariants as op
 use Rattle.pli_type_tree.specs.TypedTree.{InSlot, TypedExpression, Literal, Held, Bounded, TypedReference, Whole}
 use Rattle.pli_type_tree.specs.TypedTree.{ElementOf, NoOperand, OperandThen, NoArgument, ByString, OfEntry}
 use Rattle.pli_type_tree.specs.TypedTree.{Statement, Assign, AssignString, Call, Iterate, ToPlace}

@@ -1,15 +1,20 @@
 -- Worked examples of the translation.
-use Rattle.std.specs.Prelude.{replicate, ◌≡◌, ℕ, pos, true, false, Some, None, [], ◌∷◌, codes, slice_get}
+use Rattle.std.specs.Prelude.{replicate, ◌≡◌, ℕ, pos, true, false, Some, None, [], ◌∷◌, map, codes, slice_get}
 use Rattle.pli_base.specs.declared.statement.Condition.TheVariants as conditions
 use Rattle.pli_run.specs.declared.ending.RunError.TheVariants.{NoReturnedValue}
 use Rattle.pli_map.specs.Description.{FixedBinary, Character, Bit, Pointer, Offset, Area}
 use Rattle.pli_map.specs.ParameterTypes.{Stated}
 use Rattle.pli_operation.specs.declared.operation.Operation.TheVariants as calculate
 use Rattle.pli_value.specs.Value.{Number, Characters}
-use Rattle.pli_program.specs.Program.{Instruction, Step, Line, Jump, JumpUnless, Local, Field, Subscript}
-use Rattle.pli_program.specs.Program.{Constant, Load, Store, Copy, MakeDummy, Operate, Skip, Raise}
+use Rattle.pli_program.specs.Program.{Instruction}
+use Rattle.pli_program.specs.declared.instruction.Instruction.TheVariants.{Step, Line, Jump, JumpUnless}
+use Rattle.pli_program.specs.declared.instruction.Instruction.TheVariants.{Local, Field, Subscript, Constant}
+use Rattle.pli_program.specs.declared.instruction.Instruction.TheVariants.{Load, Store, Copy, MakeDummy}
+use Rattle.pli_program.specs.declared.instruction.Instruction.TheVariants.{Operate, Skip, Raise}
 use Rattle.pli_program.specs.Program.{Procedure, BeginBlock, OnUnit}
-use Rattle.pli_program.specs.Program as op
+use Rattle.pli_program.specs.Program as programs
+use Rattle.pli_program.specs.declared.instruction.Instruction.TheVariants as op
+use Rattle.pli_program.specs.Templates.{dummy}
 use Rattle.pli_program.specs.declared.kind.VariableKind.TheVariants.{Static, Controlled}
 use Rattle.pli_type_tree.specs.TypedTree.{InSlot, TypedExpression, Literal, Held, Calculated, Called, Whole}
 use Rattle.pli_type_tree.specs.TypedTree.{TypedReference, Part, NoOperand, OperandThen, NoSubscript}
@@ -27,7 +32,6 @@ use Rattle.pli_type_tree.specs.TypedTree.{OfBlock, OfEntry, TypedArguments, OwnV
 use Rattle.pli_type_tree.specs.TypedTree.{EntryPoint, TypedUnit, TypedProcedure}
 use Rattle.pli_type_tree.specs.TypedTree as tree
 use Rattle.pli_code.specs.CodeTables as tables
-use Rattle.pli_code.specs.declared.instruction.Instruction.TheVariants as coded
 use Rattle.pli_gen_emit.specs.Encoding.{code_of}
 use Rattle.pli_gen.specs.Limits.{is_too_long}
 use Rattle.pli_gen.specs.WellNumbered.{IsWellNumbered}
@@ -90,7 +94,7 @@ ArgumentsHanded =
     (Calculated (tree.Fit (FixedBinary 15)) (OperandThen (number 5) NoOperand)) NoArgument))))
     0
     ≡ Step 2 ∷ Local 0 0 ∷ Constant (Number (pos 5)) ∷ op.Fit (FixedBinary 15)
-    ∷ MakeDummy (FixedBinary 15) ∷ op.Call 1 2 ∷ []
+    ∷ MakeDummy (dummy (FixedBinary 15)) ∷ op.Call 1 2 ∷ []
 
 -- statement 2: `S = T;`, of structures
 abbrev pub AggregateCopied : Type 0
@@ -171,11 +175,11 @@ jumping = record {
 -- the GOTO of block 1 leads to place 2, where statement 7 begins
 abbrev pub JumpsAndBlocks : Type 0
 JumpsAndBlocks = (unit_code jumping []).instructions ≡
-    Step 2 ∷ op.Begin 1
+    map Some (Step 2 ∷ op.Begin 1
     ∷ Step 7 ∷ op.Call 2 0 ∷ JumpUnless 7 ∷ Step 8 ∷ Jump 9 ∷ Step 9 ∷ op.Stop
     ∷ Step 10 ∷ Line 10 ∷ op.Call 2 0 ∷ JumpUnless 16 ∷ Step 10 ∷ Step 11 ∷ Jump 10 ∷ op.Return 0
     ∷ Step 3 ∷ op.Goto 1 2 ∷ op.Return 0
-    ∷ Line 6 ∷ Raise NoReturnedValue ∷ []
+    ∷ Line 6 ∷ Raise NoReturnedValue ∷ [])
 
 -- and its blocks
 abbrev pub WholeUnit : Type 0
@@ -279,12 +283,12 @@ TablesNumbered = ((code_of printing_unit).descriptions ≡ Stated (Character 3) 
 -- the instructions with the numbers of what they name
 abbrev pub InstructionsNumbered : Type 0
 InstructionsNumbered = (code_of printing_unit).instructions
-    ≡ coded.Step 3 ∷ coded.Constant 0 ∷ coded.Operate (calculate.ToCharacters 4) ∷ coded.Fit 1
-    ∷ coded.MakeDummy 1 ∷ coded.Call 1 1
-    ∷ coded.Step 4 ∷ coded.Local 0 0 ∷ coded.Load ∷ coded.Put ∷ coded.Constant 0
-    ∷ coded.Operate (calculate.ToCharacters 4) ∷ coded.Put ∷ coded.Constant 0
-    ∷ coded.Operate calculate.Absolute ∷ coded.Operate (calculate.ToCharacters 5) ∷ coded.Put ∷ coded.Return 0
-    ∷ coded.Return 0 ∷ []
+    ≡ op.Step 3 ∷ op.Constant 0 ∷ op.Operate (calculate.ToCharacters 4) ∷ op.Fit 1
+    ∷ op.MakeDummy 1 ∷ op.Call 1 1
+    ∷ op.Step 4 ∷ op.Local 0 0 ∷ op.Load ∷ op.Put ∷ op.Constant 0
+    ∷ op.Operate (calculate.ToCharacters 4) ∷ op.Put ∷ op.Constant 0
+    ∷ op.Operate calculate.Absolute ∷ op.Operate (calculate.ToCharacters 5) ∷ op.Put ∷ op.Return 0
+    ∷ op.Return 0 ∷ []
 
 -- its code with so many globals
 abbrev with_globals : ℕ → tables.Code
@@ -292,7 +296,7 @@ with_globals n = record (code_of printing_unit) { globals = replicate n (tables.
 
 -- its code with a RETURN that leads so many activations outward
 abbrev with_outward : ℕ → tables.Code
-with_outward n = record (code_of printing_unit) { instructions = coded.Return n ∷ [] }
+with_outward n = record (code_of printing_unit) { instructions = op.Return n ∷ [] }
 
 -- it is not too long; with 65,536 globals it would be, and with a number that has no room in its byte
 abbrev pub LimitsKept : Type 0
@@ -350,17 +354,19 @@ GlobalsNumbered =
 -- an entry is called by its number among them
 abbrev pub EntriesCalled : Type 0
 EntriesCalled = (code_of calling_unit).instructions
-    ≡ coded.Step 3 ∷ coded.Local 0 0 ∷ coded.CallExternal 3 1
-    ∷ coded.Step 4 ∷ coded.Local 0 0 ∷ coded.CallExternal 1 1 ∷ coded.JumpUnless 8 ∷ coded.Step 5
-    ∷ coded.Return 0 ∷ []
+    ≡ op.Step 3 ∷ op.Local 0 0 ∷ op.CallExternal 3 1
+    ∷ op.Step 4 ∷ op.Local 0 0 ∷ op.CallExternal 1 1 ∷ op.JumpUnless 8 ∷ op.Step 5
+    ∷ op.Return 0 ∷ []
 
 -- with the number of N among external variables and those of the units that have F and G
 abbrev pub EntriesLinked : Type 0
 EntriesLinked = (unit_code calling_unit (3 ∷ 4 ∷ 2 ∷ [])).globals
-    ≡ op.ExternalVariable 3 Static (record { description = FixedBinary 15; initial = Number (pos 0) ∷ [] })
-    ∷ op.EntryPoint 4
-    ∷ op.OwnVariable Static (record { description = Character 2; initial = Characters (codes "  ") ∷ [] })
-    ∷ op.EntryPoint 2 ∷ []
+    ≡ programs.ExternalVariable 3 Static
+    (record { description = FixedBinary 15; initial = Number (pos 0) ∷ [] })
+    ∷ programs.EntryPoint 4
+    ∷ programs.OwnVariable Static
+    (record { description = Character 2; initial = Characters (codes "  ") ∷ [] })
+    ∷ programs.EntryPoint 2 ∷ []
 
 -- M: PROC OPTIONS(MAIN); DCL Q FIXED BIN(15) CTL INIT(7), N FIXED BIN(15) CTL EXTERNAL; ALLOCATE Q, N;
 -- Q = ALLOCATION(N); FREE Q; END M;
@@ -397,9 +403,9 @@ stacking_unit = record {
 -- each item of ALLOCATE and of FREE is an instruction; the place of the newest generation is the global's
 abbrev pub GenerationsStacked : Type 0
 GenerationsStacked = (code_of stacking_unit).instructions
-    ≡ coded.Step 3 ∷ coded.AllocateControlled 0 ∷ coded.AllocateControlled 1
-    ∷ coded.Step 4 ∷ coded.Global 0 ∷ coded.CountGenerations 1 ∷ coded.Store
-    ∷ coded.Step 5 ∷ coded.FreeControlled 0 ∷ coded.Return 0 ∷ []
+    ≡ op.Step 3 ∷ op.AllocateControlled 0 ∷ op.AllocateControlled 1
+    ∷ op.Step 4 ∷ op.Global 0 ∷ op.CountGenerations 1 ∷ op.Store
+    ∷ op.Step 5 ∷ op.FreeControlled 0 ∷ op.Return 0 ∷ []
 
 -- with the number of N among external variables; the initial values are those of each generation
 abbrev pub ControlledLinked : Type 0
@@ -407,8 +413,8 @@ ControlledLinked =
     ((code_of stacking_unit).globals
     ≡ tables.OwnVariable Controlled 0 ∷ tables.ExternalVariable (codes "N") Controlled 1 ∷ [])
     × ((unit_code stacking_unit (2 ∷ [])).globals
-    ≡ op.OwnVariable Controlled (record { description = FixedBinary 15; initial = Number (pos 7) ∷ [] })
-    ∷ op.ExternalVariable 2 Controlled
+    ≡ programs.OwnVariable Controlled (record { description = FixedBinary 15; initial = Number (pos 7) ∷ [] })
+    ∷ programs.ExternalVariable 2 Controlled
     (record { description = FixedBinary 15; initial = Number (pos 0) ∷ [] }) ∷ [])
 
 -- the variable in the third slot
@@ -465,11 +471,11 @@ PointersFollowed =
     ≡ record { description = 0; initial = [] } ∷ record { description = 1; initial = [] }
     ∷ record { description = 1; initial = record { offset = 0; value = Number (pos 7) } ∷ [] } ∷ [])
     × ((code_of pointing_unit).instructions
-    ≡ coded.Step 3 ∷ coded.AllocateBased 2 ∷ coded.SetTemporary 0 ∷ coded.Local 0 0 ∷ coded.TakeTemporary 0
-    ∷ coded.Store ∷ coded.AllocateBased 2 ∷ coded.SetTemporary 1 ∷ coded.Local 0 1 ∷ coded.TakeTemporary 1
-    ∷ coded.Store ∷ coded.Step 4 ∷ coded.Local 0 2 ∷ coded.Local 0 1 ∷ coded.Load ∷ coded.Based 1 ∷ coded.Load
-    ∷ coded.Store ∷ coded.Step 5 ∷ coded.Local 0 0 ∷ coded.Local 0 2 ∷ coded.AddressOf ∷ coded.Store
-    ∷ coded.Step 6 ∷ coded.Local 0 1 ∷ coded.Load ∷ coded.FreeBased 1 ∷ coded.Return 0 ∷ [])
+    ≡ op.Step 3 ∷ op.AllocateBased 2 ∷ op.SetTemporary 0 ∷ op.Local 0 0 ∷ op.TakeTemporary 0
+    ∷ op.Store ∷ op.AllocateBased 2 ∷ op.SetTemporary 1 ∷ op.Local 0 1 ∷ op.TakeTemporary 1
+    ∷ op.Store ∷ op.Step 4 ∷ op.Local 0 2 ∷ op.Local 0 1 ∷ op.Load ∷ op.Based 1 ∷ op.Load
+    ∷ op.Store ∷ op.Step 5 ∷ op.Local 0 0 ∷ op.Local 0 2 ∷ op.AddressOf ∷ op.Store
+    ∷ op.Step 6 ∷ op.Local 0 1 ∷ op.Load ∷ op.FreeBased 1 ∷ op.Return 0 ∷ [])
 
 -- the variable in the fourth slot
 abbrev fourth : TypedReference
@@ -525,14 +531,14 @@ AreasUsed =
     ∷ record { description = 2; initial = [] }
     ∷ record { description = 3; initial = record { offset = 0; value = Number (pos 7) } ∷ [] } ∷ [])
     × ((code_of holding_unit).instructions
-    ≡ coded.Step 3 ∷ coded.Local 0 0 ∷ coded.AllocateInArea 3 1 ∷ coded.SetTemporary 0 ∷ coded.Local 0 2
-    ∷ coded.TakeTemporary 0 ∷ coded.Local 0 0 ∷ coded.ToOffset ∷ coded.Store
-    ∷ coded.Local 0 1 ∷ coded.AllocateInArea 3 9 ∷ coded.SetTemporary 1 ∷ coded.Local 0 3
-    ∷ coded.TakeTemporary 1 ∷ coded.Store
-    ∷ coded.Step 4 ∷ coded.Local 0 3 ∷ coded.Local 0 2 ∷ coded.Load ∷ coded.Local 0 0 ∷ coded.ToPointer
-    ∷ coded.Store ∷ coded.Step 5 ∷ coded.Local 0 2 ∷ coded.Local 0 3 ∷ coded.Load ∷ coded.Local 0 0
-    ∷ coded.ToOffset ∷ coded.Store ∷ coded.Step 6 ∷ coded.Local 0 1 ∷ coded.Local 0 0 ∷ coded.AssignArea
-    ∷ coded.Step 7 ∷ coded.Local 0 0 ∷ coded.EmptyArea ∷ coded.Return 0 ∷ [])
+    ≡ op.Step 3 ∷ op.Local 0 0 ∷ op.AllocateInArea 3 1 ∷ op.SetTemporary 0 ∷ op.Local 0 2
+    ∷ op.TakeTemporary 0 ∷ op.Local 0 0 ∷ op.ToOffset ∷ op.Store
+    ∷ op.Local 0 1 ∷ op.AllocateInArea 3 9 ∷ op.SetTemporary 1 ∷ op.Local 0 3
+    ∷ op.TakeTemporary 1 ∷ op.Store
+    ∷ op.Step 4 ∷ op.Local 0 3 ∷ op.Local 0 2 ∷ op.Load ∷ op.Local 0 0 ∷ op.ToPointer
+    ∷ op.Store ∷ op.Step 5 ∷ op.Local 0 2 ∷ op.Local 0 3 ∷ op.Load ∷ op.Local 0 0
+    ∷ op.ToOffset ∷ op.Store ∷ op.Step 6 ∷ op.Local 0 1 ∷ op.Local 0 0 ∷ op.AssignArea
+    ∷ op.Step 7 ∷ op.Local 0 0 ∷ op.EmptyArea ∷ op.Return 0 ∷ [])
 
 -- M: PROC OPTIONS(MAIN); ON FOFL BEGIN; REVERT FOFL; GOTO L; END; SIGNAL FOFL; L: ; END M; where ON is statement
 -- 2, its unit's BEGIN statement 3, and L statement 7
@@ -580,10 +586,10 @@ establishing_unit = record {
 abbrev pub UnitsEstablished : Type 0
 UnitsEstablished =
     ((code_of establishing_unit).instructions
-    ≡ coded.Step 2 ∷ coded.On conditions.FixedOverflow 1 ∷ coded.Step 6 ∷ coded.Signal conditions.FixedOverflow
-    ∷ coded.Step 7 ∷ coded.Return 0
-    ∷ coded.Step 3 ∷ coded.Begin 2 ∷ coded.Return 0
-    ∷ coded.Step 4 ∷ coded.Revert conditions.FixedOverflow ∷ coded.Step 5 ∷ coded.Goto 2 4 ∷ coded.Return 0 ∷ [])
+    ≡ op.Step 2 ∷ op.On conditions.FixedOverflow 1 ∷ op.Step 6 ∷ op.Signal conditions.FixedOverflow
+    ∷ op.Step 7 ∷ op.Return 0
+    ∷ op.Step 3 ∷ op.Begin 2 ∷ op.Return 0
+    ∷ op.Step 4 ∷ op.Revert conditions.FixedOverflow ∷ op.Step 5 ∷ op.Goto 2 4 ∷ op.Return 0 ∷ [])
     × (slice_get (unit_code establishing_unit []).blocks 1
     ≡ Some
     (record {

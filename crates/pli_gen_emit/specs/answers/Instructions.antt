@@ -1,7 +1,8 @@
 -- Instructions before what they name is numbered.
 use Rattle.std.specs.Prelude.{ℕ, suc, nat_eq, Bool, true, ◌&&◌, List, [], ◌∷◌, if◌then◌else◌}
-use Rattle.pli_program.specs.Program.{Instruction, Step}
-use Rattle.pli_program.specs.Program as op
+use Rattle.pli_program.specs.Program.{Instruction}
+use Rattle.pli_program.specs.declared.instruction.Instruction.TheVariants.{Step}
+use Rattle.pli_program.specs.declared.instruction.Instruction.TheVariants as op
 use Rattle.pli_code.specs.CodeFields.{is_byte, is_short}
 
 -- where the first step of a statement stands in code; another place if there is none

@@ -1,7 +1,8 @@
 -- What the parts of the emitter answer.
 use Rattle.std.specs.Prelude.{ℕ, ◌≡◌, List, [], ◌∷◌, ◌++◌, Option, Some, None, false, length}
-use Rattle.pli_program.specs.Program.{Instruction, Store, Copy, FitToPlace}
-use Rattle.pli_program.specs.Program as op
+use Rattle.pli_program.specs.Program.{Instruction}
+use Rattle.pli_program.specs.declared.instruction.Instruction.TheVariants.{Store, Copy, FitToPlace}
+use Rattle.pli_program.specs.declared.instruction.Instruction.TheVariants as op
 use Rattle.pli_type_tree.specs.TypedTree.{Form, Assign, AssignAggregate, AssignArea, EmptyArea, Put, Begin}
 use Rattle.pli_type_tree.specs.TypedTree.{Call, Goto, Return, ReturnValue, Stop, On, Revert, Signal, Allocate}
 use Rattle.pli_type_tree.specs.TypedTree.{AssignString, Free, Iteration}

@@ -19,7 +19,7 @@ use Rattle.pli_program.specs.declared.kind.VariableKind.{VariableKind}
 use Rattle.pli_program.specs.declared.kind.VariableKind.TheVariants.{Static, Controlled}
 use Rattle.pli_code.specs.Modules.{External, Member, Module}
 use Rattle.pli_code.specs.Versions.{written}
-use Rattle.pli_code.specs.declared.instruction.Instruction.TheVariants as op
+use Rattle.pli_program.specs.declared.instruction.Instruction.TheVariants as op
 
 -- what a procedure without parameters takes and gives
 abbrev pub nothing : CodedSignature

@@ -1,7 +1,7 @@
 -- Forms of strings for which a module's instructions make dummy arguments.
 use Rattle.std.specs.Prelude.{◌≡◌, ◌<◌, ℕ, Bool, true, Some, List, slice_get}
-use Rattle.pli_code.specs.declared.instruction.Instruction.{Instruction}
-use Rattle.pli_code.specs.declared.instruction.Instruction.TheVariants as coded
+use Rattle.pli_code.specs.CodedInstruction.{Instruction}
+use Rattle.pli_program.specs.declared.instruction.Instruction.TheVariants as coded
 use Rattle.pli_code.specs.declared.module.Member.{Member}
 use Rattle.pli_map.specs.declared.parameter.StringForm.{StringForm}
 use Rattle.pli_store.specs.answers.Strings.{asks_for}

@@ -8,9 +8,13 @@ use Rattle.pli_map.specs.Description.{Description, FixedBinary, Pointer, Offset,
 use Rattle.pli_operation.specs.declared.operation.Operation.TheVariants.{ToCharacters}
 use Rattle.pli_value.specs.Value.{Value, Located}
 use Rattle.pli_value.specs.declared.locator.Locator.TheVariants as locator
-use Rattle.pli_program.specs.Program.{Instruction, Line, Return, Global, Based, Load, Store, Copy, Operate}
-use Rattle.pli_program.specs.Program.{AddressOf, ToPointer, ToOffset, Put, AllocateInArea, FreeBased}
-use Rattle.pli_program.specs.Program.{AssignArea, EmptyArea, GlobalCode, OwnVariable, Program}
+use Rattle.pli_program.specs.Program.{Instruction}
+use Rattle.pli_program.specs.declared.instruction.Instruction.TheVariants.{Line, Return, Global, Based, Load}
+use Rattle.pli_program.specs.declared.instruction.Instruction.TheVariants.{Store, Copy, Operate, AddressOf}
+use Rattle.pli_program.specs.declared.instruction.Instruction.TheVariants.{ToPointer, ToOffset, Put}
+use Rattle.pli_program.specs.declared.instruction.Instruction.TheVariants.{AllocateInArea, FreeBased}
+use Rattle.pli_program.specs.declared.instruction.Instruction.TheVariants.{AssignArea, EmptyArea}
+use Rattle.pli_program.specs.Program.{GlobalCode, OwnVariable, Program}
 use Rattle.pli_program.specs.declared.kind.VariableKind.TheVariants.{Static}
 use Rattle.pli_machine_step.specs.Runs.{Outcome}
 use Rattle.pli_machine_step.specs.examples.MachineExamples.{gives, after, number, five, unit, made_as_five}

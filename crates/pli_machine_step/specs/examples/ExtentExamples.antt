@@ -9,8 +9,12 @@ use Rattle.pli_map.specs.declared.dimension.WhichBound.TheVariants.{Low, High}
 use Rattle.pli_map.specs.declared.parameter.StringForm.{StringForm}
 use Rattle.pli_map.specs.declared.parameter.StringForm.TheVariants as forms
 use Rattle.pli_operation.specs.declared.operation.Operation.TheVariants.{ToCharacters, LengthOf}
-use Rattle.pli_program.specs.Program.{Instruction, Line, Return, Local, AddressOf, Based, Load, Operate, Put}
-use Rattle.pli_program.specs.Program.{Skip, SubscriptIn, BoundOf, MakeStringDummy, FitToPlace, Program}
+use Rattle.pli_program.specs.Program.{Instruction}
+use Rattle.pli_program.specs.declared.instruction.Instruction.TheVariants.{Line, Return, Local, AddressOf}
+use Rattle.pli_program.specs.declared.instruction.Instruction.TheVariants.{Based, Load, Operate, Put, Skip}
+use Rattle.pli_program.specs.declared.instruction.Instruction.TheVariants.{SubscriptIn, BoundOf}
+use Rattle.pli_program.specs.declared.instruction.Instruction.TheVariants.{MakeStringDummy, FitToPlace}
+use Rattle.pli_program.specs.Program.{Program}
 use Rattle.pli_machine_step.specs.examples.MachineExamples.{gives, after, program, text, number, with_dummy}
 use Rattle.pli_machine_step.specs.examples.MachineExamples.{with_variable, row}
 

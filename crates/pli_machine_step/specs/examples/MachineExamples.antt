@@ -1,6 +1,6 @@
 -- Worked examples: small programs, each with what its run gives after so many instructions.
 use Rattle.std.specs.Prelude.{◌≡◌, ℕ, zero, suc, true, false, pos, Option, Some, None, List, [], ◌∷◌, ◌++◌}
-use Rattle.std.specs.Prelude.{codes, length}
+use Rattle.std.specs.Prelude.{codes, length, map}
 use Rattle.pli_base.specs.Name.{Name}
 use Rattle.pli_run.specs.declared.ending.Ending.{Ending}
 use Rattle.pli_run.specs.declared.ending.Ending.TheVariants.{Ended, OutOfSteps, Error, MachineFault}
@@ -17,16 +17,19 @@ use Rattle.pli_value.specs.Value.{Value, Number, Characters, Bits, Located}
 use Rattle.pli_value.specs.declared.locator.Locator.TheVariants.{Null}
 use Rattle.pli_map.specs.Values.{first_values}
 use Rattle.pli_map.specs.Variables.{Variable}
-use Rattle.pli_program.specs.Program.{Instruction, Step, Line, Jump, JumpUnless, Goto, Call}
-use Rattle.pli_program.specs.Program.{CallExternal}
-use Rattle.pli_program.specs.Program.{Begin, Raise, Return, ReturnValue, Local, Global, Field, Subscript}
-use Rattle.pli_program.specs.Program.{Constant, MakeDummy}
-use Rattle.pli_program.specs.Program.{Load, Store, Operate, Put, Skip}
+use Rattle.pli_program.specs.Program.{Instruction}
+use Rattle.pli_program.specs.declared.instruction.Instruction.TheVariants.{Step, Line, Jump, JumpUnless, Goto}
+use Rattle.pli_program.specs.declared.instruction.Instruction.TheVariants.{Call, CallExternal, Begin, Raise}
+use Rattle.pli_program.specs.declared.instruction.Instruction.TheVariants.{Return, ReturnValue, Local, Global}
+use Rattle.pli_program.specs.declared.instruction.Instruction.TheVariants.{Field, Subscript, Constant}
+use Rattle.pli_program.specs.declared.instruction.Instruction.TheVariants.{MakeDummy, Load, Store, Operate}
+use Rattle.pli_program.specs.declared.instruction.Instruction.TheVariants.{Put, Skip, AllocateControlled}
+use Rattle.pli_program.specs.declared.instruction.Instruction.TheVariants.{FreeControlled, CountGenerations}
+use Rattle.pli_program.specs.declared.instruction.Instruction.TheVariants.{Based, AddressOf, AllocateBased}
+use Rattle.pli_program.specs.declared.instruction.Instruction.TheVariants.{FreeBased}
 use Rattle.pli_program.specs.Program.{BlockKind, Procedure, BeginBlock, Block, GlobalCode, OwnVariable}
-use Rattle.pli_program.specs.Program.{ExternalVariable, EntryPoint, UnitCode, Program, AllocateControlled}
-use Rattle.pli_program.specs.Program.{FreeControlled, CountGenerations, Based, AddressOf, AllocateBased}
-use Rattle.pli_program.specs.Program.{FreeBased}
-use Rattle.pli_program.specs.Templates.{Template}
+use Rattle.pli_program.specs.Program.{ExternalVariable, EntryPoint, UnitCode, Program}
+use Rattle.pli_program.specs.Templates.{Template, dummy}
 use Rattle.pli_program.specs.declared.kind.VariableKind.TheVariants.{Static, Controlled}
 use Rattle.pli_machine_step.specs.Machine.{State, At, Over, iterate}
 use Rattle.pli_machine_step.specs.Runs.{Outcome, outcome_of, names_of, start, ProgramRunsTo}
@@ -66,7 +69,7 @@ program inner instructions = record {
         name = codes "M";
         globals = [];
         blocks = block Procedure None 0 1 ∷ inner;
-        instructions = instructions;
+        instructions = map Some instructions;
       } ∷ [];
   main = 0;
   greatest = 31;
@@ -197,8 +200,9 @@ shared = record {
             }
             ∷ record (block Procedure (Some 0) 7 4) { parameters = 1 } ∷ [];
         instructions =
-            Local 0 0 ∷ Call 1 1 ∷ Local 0 0 ∷ Load ∷ Operate (ToCharacters 1) ∷ Put ∷ Return 0 ∷ Local 0 0
-            ∷ number 7 ∷ Store ∷ Return 0 ∷ [];
+            map Some
+            (Local 0 0 ∷ Call 1 1 ∷ Local 0 0 ∷ Load ∷ Operate (ToCharacters 1) ∷ Put ∷ Return 0 ∷ Local 0 0
+            ∷ number 7 ∷ Store ∷ Return 0 ∷ []);
       } ∷ [];
   main = 0;
   greatest = 31;
@@ -219,7 +223,7 @@ lives p instructions = lives_at (iterate p instructions (start p 2))
 
 -- a dummy argument of the number 7, and what comes then
 abbrev pub with_dummy : List Instruction → List Instruction
-with_dummy more = number 7 ∷ MakeDummy (FixedBinary 15) ∷ more
+with_dummy more = number 7 ∷ MakeDummy (dummy (FixedBinary 15)) ∷ more
 
 -- what a dummy argument holds is printed
 abbrev pub dummy_loaded : Program
@@ -283,7 +287,7 @@ with_variable v instructions = record {
         name = codes "M";
         globals = [];
         blocks = record (block Procedure None 0 1) { variables = v ∷ [] } ∷ [];
-        instructions = instructions;
+        instructions = map Some instructions;
       } ∷ [];
   main = 0;
   greatest = 31;
@@ -402,8 +406,9 @@ twice = record {
         globals = OwnVariable Static five ∷ [];
         blocks = block Procedure None 0 1 ∷ block Procedure (Some 0) 7 4 ∷ [];
         instructions =
-            Call 1 0 ∷ Call 1 0 ∷ Global 0 ∷ Load ∷ Operate (ToCharacters 1) ∷ Put ∷ Return 0 ∷ Global 0
-            ∷ Global 0 ∷ Load ∷ number 1 ∷ Operate Add ∷ Store ∷ Return 0 ∷ [];
+            map Some
+            (Call 1 0 ∷ Call 1 0 ∷ Global 0 ∷ Load ∷ Operate (ToCharacters 1) ∷ Put ∷ Return 0 ∷ Global 0
+            ∷ Global 0 ∷ Load ∷ number 1 ∷ Operate Add ∷ Store ∷ Return 0 ∷ []);
       } ∷ [];
   main = 0;
   greatest = 31;
@@ -419,7 +424,7 @@ unit name globals instructions = record {
   name = name;
   globals = globals;
   blocks = block Procedure None 0 1 ∷ [];
-  instructions = instructions;
+  instructions = map Some instructions;
 }
 
 -- a program of two units: M calls the procedure of the unit of this number, and prints X; the other one is N

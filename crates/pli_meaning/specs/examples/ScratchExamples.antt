@@ -13,7 +13,7 @@ use Rattle.pli_code.specs.CodeTables.{Deck}
 use Rattle.pli_code.specs.Modules.{Module}
 use Rattle.pli_code.specs.Versions.{written}
 use Rattle.pli_machine_step.specs.ModuleRuns.{RunsTo}
-use Rattle.pli_code.specs.declared.instruction.Instruction.TheVariants as op
+use Rattle.pli_program.specs.declared.instruction.Instruction.TheVariants as op
 use Rattle.pli_value.specs.Value.{Number}
 use Rattle.pli_meaning.specs.Scratch.{Diagnosed, Made, scratch}
 

@@ -1,4 +1,4 @@
-use Rattle.pli_code.specs.declared.instruction.Instruction.TheVariants.{Step}
+use Rattle.pli_program.specs.declared.instruction.Instruction.TheVariants.{Step}
 use Rattle.pli_code.specs.Fields.{u4}
 use Rattle.pli_code.specs.Instructions.{reader_of}
 use Rattle.pli_code.proofs.OperandReading.{of_one}

@@ -1,6 +1,6 @@
 use Rattle.std.proofs.Common.{ℕ, nat_eq, unwrap_or, slice_set, get_or, min, arith, ap, ◌∙◌}
 use Rattle.std.specs.HashMap.{get}
-use Rattle.pli_code.specs.declared.instruction.Instruction.TheVariants as coded
+use Rattle.pli_program.specs.declared.instruction.Instruction.TheVariants as coded
 use Rattle.pli_gen_emit.specs.declared.emitter.LabelJump.{LabelJump}
 use Rattle.pli_gen.proofs.CodeEmitted.{more_landed}
 use Rattle.pli_gen.proofs.gotos.land_each.Goals as goal

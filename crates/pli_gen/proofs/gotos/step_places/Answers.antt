@@ -1,6 +1,6 @@
 use Rattle.std.proofs.Common.{arith, nat_eq}
 use Rattle.std.specs.HashMap.{get}
-use Rattle.pli_code.specs.declared.instruction.Instruction.TheVariants as coded
+use Rattle.pli_program.specs.declared.instruction.Instruction.TheVariants as coded
 use Rattle.pli_gen.proofs.StepPlaces.{more_steps}
 use Rattle.pli_gen.proofs.gotos.step_places.Goals as goal
 

@@ -4,7 +4,7 @@ use Rattle.pli_map.specs.ParameterTypes.{Stated, same_type}
 use Rattle.pli_type_keys.specs.Same.{same_template}
 use Rattle.pli_type_keys.specs.views.KeyView.{described, templated, valued}
 use Rattle.pli_type_tree.specs.views.TypedView.{unit_view, procedure_view}
-use Rattle.pli_code.specs.declared.instruction.Instruction.{Instruction}
+use Rattle.pli_code.specs.CodedInstruction.{Instruction}
 use Rattle.pli_gen_emit.specs.Encoding as plain
 use Rattle.pli_gen_emit.specs.Encoding.{numbered, signature_descriptions, global_descriptions, global_templates, block_templates}
 use Rattle.pli_gen_emit.specs.TreeTranslation.{blocks_of_procedure, by_number, blocks_code}

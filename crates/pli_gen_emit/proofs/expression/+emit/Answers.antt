@@ -1,6 +1,7 @@
 use Rattle.std.proofs.Common.{◌+◌, ◌++◌, ◌∷◌, [], suc, List, length, drop, arith, refl, ap, ◌∙◌, sym, append_assoc, add-one}
 use Rattle.std.proofs.lemmas.List.{at_drop_more}
-use Rattle.pli_program.specs.Program as op
+use Rattle.pli_program.specs.Program as programs
+use Rattle.pli_program.specs.declared.instruction.Instruction.TheVariants as op
 use Rattle.pli_map.specs.views.DescriptionView.{description_view}
 use Rattle.pli_type_tree.specs.TypedTree.{NoArgument}
 use Rattle.pli_type_tree.specs.declared.expression.TypedSubscript.{TypedSubscript}
@@ -24,7 +25,7 @@ emit_operands-loop-operand-preserved t c =
 
 pub emit_subscripts-loop-subscript-preserved : goal.emit_subscripts-loop-subscript-preserved
 emit_subscripts-loop-subscript-preserved t c =
-    let leads : TypedSubscript → List op.Instruction = λ x. op.Subscript x.stride.low x.stride.high x.stride.multiplier ∷ [] in
+    let leads : TypedSubscript → List programs.Instruction = λ x. op.Subscript x.stride.low x.stride.high x.stride.multiplier ∷ [] in
     let x = c.subscript-item.result in
     amid_next (λ xs. subscripts_code (subscripts_view xs)) (λ x. value_code (expression_view x.value) ++ leads x) c.args.code.now c.loop-subscript.code c.subscript.new.self
     c.args.subscripts.now c.loop-subscript.subscript-index x (subscripts_code (subscripts_view c.args.subscripts.now))

@@ -5,7 +5,7 @@ use Rattle.pli_type_tree.specs.Iterations.{step_number}
 use Rattle.pli_gen_emit.specs.TreeTranslation.{test_against, place_code}
 use Rattle.pli_gen_emit.specs.answers.Emitting.{emission, Emits}
 use Rattle.pli_gen_emit.specs.answers.Pieces.{jump_place}
-use Rattle.pli_program.specs.Program as op
+use Rattle.pli_program.specs.declared.instruction.Instruction.TheVariants as op
 use Rattle.pli_gen_emit.proofs.EmitLemmas.{emits_both, longer}
 use Rattle.pli_gen_emit.proofs.iteration.emit_limit.Goals as goal
 

@@ -1,5 +1,5 @@
 use Rattle.std.proofs.Common.{◌++◌, ◌∷◌, [], length, ap, ◌∙◌, sym, append_assoc}
-use Rattle.pli_program.specs.Program as op
+use Rattle.pli_program.specs.declared.instruction.Instruction.TheVariants as op
 use Rattle.pli_type_tree.specs.views.TemplateView.{template_view}
 use Rattle.pli_type_tree.specs.views.TypedView.{reference_view, conversion_view, allocated_view}
 use Rattle.pli_gen_emit.specs.TreeTranslation.{place_code, conversion_code, allocation_code}

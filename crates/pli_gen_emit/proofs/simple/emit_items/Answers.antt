@@ -1,5 +1,5 @@
 use Rattle.std.proofs.Common.{◌++◌, ◌∷◌, [], map, arith, sym, append_assoc}
-use Rattle.pli_program.specs.Program as op
+use Rattle.pli_program.specs.declared.instruction.Instruction.TheVariants as op
 use Rattle.pli_type_tree.specs.views.TypedView.{expression_view}
 use Rattle.pli_gen_emit.specs.TreeTranslation.{value_code, items_code}
 use Rattle.pli_gen_emit.proofs.EmitLemmas.{emits_both, amid_next}

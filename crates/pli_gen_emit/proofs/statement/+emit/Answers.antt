@@ -3,8 +3,7 @@ use Rattle.pli_type_tree.specs.TypedTree as plain
 use Rattle.pli_type_tree.specs.views.TypedView.{expression_view, iteration_view, form_view, statement_view, statements_view}
 use Rattle.pli_type_tree.specs.laws.TypedTreeLaws.{boxed_view, if_made, group_made, while_made, iterate_made}
 use Rattle.pli_type_tree.specs.Iterations.{is_iterated}
-use Rattle.pli_program.specs.Program as op
-use Rattle.pli_code.specs.declared.instruction.Instruction.TheVariants as coded
+use Rattle.pli_program.specs.declared.instruction.Instruction.TheVariants as op
 use Rattle.pli_gen_emit.specs.TreeTranslation.{value_code, start_code, tests_code, advances_code, back_code, statement_code, form_code, list_code}
 use Rattle.pli_gen_emit.specs.answers.Pieces.{IsTurn}
 use Rattle.pli_gen_emit.specs.answers.Emitting.{emission, extended}
@@ -44,7 +43,7 @@ emit_form-returns-in-None t c =
     emits_as old c.land_test.new.self _ _
     (one_way_emitted old c.emit_value.new.code jumping done c.land_test.new.self test (statement_code part) c.emit_value.ensures c.jump_unless.ensures
     (emits_as jumping done _ _ c.emit_statement.ensures (ap (λ s. statement_code (statement_view s) (length jumping.code.items)) c.deref.ensures))
-    (lands_as done c.land_test.new.self _ _ _ _ coded.JumpUnless c.land_test.ensures c.place-test.ensures c.place-after.ensures))
+    (lands_as done c.land_test.new.self _ _ _ _ op.JumpUnless c.land_test.ensures c.place-test.ensures c.place-after.ensures))
     (sym (ap (λ f. form_code c.args.number f at)
     (ap form_view b.is ∙ if_made b.condition b.consequence b.alternative ∙ ap (λ a. plain.If (expression_view b.condition) part (boxed_view a)) c.in-None.is)))
 
@@ -66,9 +65,9 @@ emit_form-returns-in-Some t c =
     (two_ways_emitted old c.emit_value.new.code jumping done over put last all test (statement_code part) (statement_code other) c.emit_value.ensures c.jump_unless.ensures
     (emits_as jumping done _ _ c.emit_statement.ensures (ap (λ s. statement_code (statement_view s) (length jumping.code.items)) c.deref.ensures))
     c.jump.ensures
-    (lands_as over put _ _ _ _ coded.JumpUnless c.land_test-in-Some.ensures c.place-test.ensures c.place-part.ensures)
+    (lands_as over put _ _ _ _ op.JumpUnless c.land_test-in-Some.ensures c.place-test.ensures c.place-part.ensures)
     (emits_as put last _ _ c.emit_statement-in-Some.ensures (ap (λ s. statement_code (statement_view s) (length put.code.items)) c.deref-in-Some.ensures))
-    (lands_as last all _ _ _ _ coded.Jump c.land_jump.ensures c.place-over.ensures c.place-after-in-Some.ensures))
+    (lands_as last all _ _ _ _ op.Jump c.land_jump.ensures c.place-over.ensures c.place-after-in-Some.ensures))
     (sym (ap (λ f. form_code c.args.number f at)
     (ap form_view b.is ∙ if_made b.condition b.consequence b.alternative ∙ ap (λ a. plain.If (expression_view b.condition) part (boxed_view a)) c.in-Some.is)))
 
@@ -98,7 +97,7 @@ emit_form-returns-in-While t c =
     c.emit.ensures c.emit_value-in-While.ensures c.jump_unless-in-While.ensures c.emit-in-While.ensures
     (emits_as stepping done _ _ c.emit_list-in-While.ensures (ap (λ ss. list_code (statements_view ss) (length stepping.code.items)) c.as_slice-in-While.ensures.value))
     (emits_as done back _ _ c.jump-in-While.ensures (ap (λ n. op.Jump n ∷ []) c.place-turn.ensures))
-    (lands_as back all _ _ _ _ coded.JumpUnless c.land_test-in-While.ensures c.place-test-in-While.ensures c.place-after-in-While.ensures))
+    (lands_as back all _ _ _ _ op.JumpUnless c.land_test-in-While.ensures c.place-test-in-While.ensures c.place-after-in-While.ensures))
     (sym (ap (λ f. form_code c.args.number f at) (ap form_view b.is ∙ while_made b.condition b.statements)))
 
 pub emit_form-returns-in-Iterate : goal.emit_form-returns-in-Iterate

@@ -1,5 +1,5 @@
 use Rattle.std.proofs.Common.{true, sym, subst, ◌≡◌}
-use Rattle.pli_code.specs.declared.instruction.Instruction.{Instruction}
+use Rattle.pli_code.specs.CodedInstruction.{Instruction}
 use Rattle.pli_machine_loading.specs.answers.AskedForms.{is_asked}
 use Rattle.pli_machine_loading.proofs.asking.with_instruction.Goals as goal
 

@@ -2,7 +2,7 @@ use Rattle.std.proofs.Common.{map}
 use Rattle.pli_code.specs.CodeTables.{template_at}
 use Rattle.pli_code.specs.views.CodeView.{code_view}
 use Rattle.pli_map.specs.views.DescriptionView.{description_view}
-use Rattle.pli_program.specs.Program as op
+use Rattle.pli_program.specs.declared.instruction.Instruction.TheVariants as op
 use Rattle.pli_type_tree.specs.Templates.{Template}
 use Rattle.pli_type_tree.specs.views.TemplateView.{initial_view}
 use Rattle.pli_machine_activations.specs.views.ImageView.{image_of}

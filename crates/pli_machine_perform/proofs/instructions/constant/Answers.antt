@@ -1,6 +1,6 @@
 use Rattle.std.specs.Prelude.{slice_get}
 use Rattle.pli_value.specs.Value.{value_view}
-use Rattle.pli_program.specs.Program as op
+use Rattle.pli_program.specs.declared.instruction.Instruction.TheVariants as op
 use Rattle.pli_code.specs.views.CodeView.{code_view}
 use Rattle.pli_machine_activations.proofs.FoundInTables.{does_found, does_none, found, none_found}
 use Rattle.pli_machine_perform.proofs.instructions.constant.Goals as goal

@@ -1,6 +1,6 @@
 use Rattle.std.proofs.Common.{sym}
 use Rattle.pli_map.specs.views.DescriptionView.{description_view}
-use Rattle.pli_program.specs.Program as op
+use Rattle.pli_program.specs.declared.instruction.Instruction.TheVariants as op
 use Rattle.pli_code.specs.CodeTables.{stated_at}
 use Rattle.pli_code.specs.views.CodeView.{code_view}
 use Rattle.pli_machine_activations.specs.views.ImageView.{image_of}

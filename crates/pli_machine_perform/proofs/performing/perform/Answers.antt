@@ -2,7 +2,7 @@ use Rattle.std.proofs.Common.{◌≡◌, Some, refl, ap, sym, ◌∙◌, rules, 
 use Rattle.std.proofs.lemmas.Int.{to_z-of_z}
 use Rattle.std.proofs.lemmas.Result.{IfOk-weaker}
 use Rattle.pli_code.specs.Modules.{unit_of}
-use Rattle.pli_code.specs.declared.instruction.Instruction.TheVariants as coded
+use Rattle.pli_program.specs.declared.instruction.Instruction.TheVariants as coded
 use Rattle.pli_code.specs.views.CodeView.{member_view}
 use Rattle.pli_machine_activations.specs.answers.Served.{is_served}
 use Rattle.pli_machine_activations.specs.views.ImageView.{image_of}

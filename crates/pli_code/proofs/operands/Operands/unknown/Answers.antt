@@ -1,6 +1,6 @@
 use Rattle.std.proofs.Common.{refl}
 use Rattle.pli_code.specs.declared.fault.DeckFault.TheVariants.{OutOfRange}
-use Rattle.pli_code.specs.declared.instruction.Instruction.TheVariants.{Stop}
+use Rattle.pli_program.specs.declared.instruction.Instruction.TheVariants.{Stop}
 use Rattle.pli_code.specs.Fields.{unknown}
 use Rattle.pli_code.proofs.OperandReading.{goes_wrong}
 use Rattle.pli_code.proofs.operands.Operands.unknown.Goals as goal

@@ -1,7 +1,6 @@
 use Rattle.std.proofs.Common.{ap, ◌∙◌, min, refl}
 use Rattle.pli_type_tree.specs.views.TemplateView.{template_view}
-use Rattle.pli_program.specs.Program as op
-use Rattle.pli_code.specs.declared.instruction.Instruction.TheVariants as coded
+use Rattle.pli_program.specs.declared.instruction.Instruction.TheVariants as op
 use Rattle.pli_gen_emit.specs.Encoding.{template_number}
 use Rattle.pli_gen_emit.specs.views.TableView.{tables_view}
 use Rattle.pli_gen_emit.proofs.NamedLemmas.{named_emitted}
@@ -14,6 +13,6 @@ returns c =
     let used = c.number_used-template in
     let target = c.short-target in
     named_emitted old (record old { tables = used.new.tables }) c.put.new.self (op.AllocateInArea t c.args.after) _ used.ensures.numbers
-    (λ h. ap (λ n. coded.AllocateInArea n target.result) (used.ensures.number h)
-    ∙ ap (coded.AllocateInArea (min (template_number (tables_view old.tables) t) 65535)) target.ensures)
+    (λ h. ap (λ n. op.AllocateInArea n target.result) (used.ensures.number h)
+    ∙ ap (op.AllocateInArea (min (template_number (tables_view old.tables) t) 65535)) target.ensures)
     refl refl refl refl c.put.ensures

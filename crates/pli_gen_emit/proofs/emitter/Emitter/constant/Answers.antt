@@ -1,7 +1,6 @@
 use Rattle.std.proofs.Common.{ap, refl}
 use Rattle.pli_value.specs.Value.{value_view}
-use Rattle.pli_program.specs.Program as op
-use Rattle.pli_code.specs.declared.instruction.Instruction.TheVariants as coded
+use Rattle.pli_program.specs.declared.instruction.Instruction.TheVariants as op
 use Rattle.pli_gen_emit.proofs.NamedLemmas.{named_emitted}
 use Rattle.pli_gen_emit.proofs.emitter.Emitter.constant.Goals as goal
 
@@ -9,4 +8,4 @@ pub returns : goal.returns
 returns c =
     let old = c.args.self.now in
     let named = c.number_value-value in
-    named_emitted old (record old { tables = named.new.tables }) c.put.new.self (op.Constant (value_view c.args.value.now)) _ named.ensures.numbers (λ h. ap coded.Constant (named.ensures.number h)) refl refl refl refl c.put.ensures
+    named_emitted old (record old { tables = named.new.tables }) c.put.new.self (op.Constant (value_view c.args.value.now)) _ named.ensures.numbers (λ h. ap op.Constant (named.ensures.number h)) refl refl refl refl c.put.ensures
