@@ -118,7 +118,7 @@ def try_turns(program):
         status = run.wait(60)
         rest = run.stdout.read()
     wanted = b"OK\n|M SOURCE 0\nOK\n|B2 NOT BUILT\n|OK\n"
-    report("each line is answered before the next, and nothing is awaited behind QUIT", (status, found, rest) == (0, wanted, b""), (status, found, rest))
+    report("each line is answered before the next, and nothing is awaited after QUIT", (status, found, rest) == (0, wanted, b""), (status, found, rest))
 
 
 def try_failing_streams(program):

@@ -1,6 +1,7 @@
 pub mod DescriptionTrees
 pub mod FilledBytes
 pub mod FirstsLaid
+pub mod FittedTexts
 pub mod HeldValues
 pub mod Kept
 pub mod Laid

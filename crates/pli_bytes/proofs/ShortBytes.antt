@@ -135,3 +135,7 @@ pub none_shown : (count : ℕ) (bytes : List ℕ) (s : List Bool) → count ≡ 
 none_shown count bytes s is empty =
     let P : ℕ → Type 0 = λ k. s ≡ unpacked k bytes in
     subst P (sym is) empty
+
+-- one byte alone
+pub one_byte : (bytes : List ℕ) (x : ℕ) → x ≡ slice_index bytes 0 → x ≡ big_number 1 bytes
+one_byte bytes x is = omega (arith, is)

@@ -1,7 +1,8 @@
 -- What changes where a value is put into bytes.
-use Rattle.std.specs.Prelude.{◌≡◌, ◌≤◌, ◌<◌, ℕ, Bool, true, false, List, ◌++◌, length}
-use Rattle.pli_map.specs.Description.{Description, Varying}
+use Rattle.std.specs.Prelude.{◌≡◌, ◌≤◌, ◌<◌, ℕ, Bool, true, false, List, ◌++◌, length, take}
+use Rattle.pli_map.specs.Description.{Description, Character, Varying}
 use Rattle.pli_map.specs.Sizes.{size_of}
+use Rattle.pli_value.specs.Strings.{fitted}
 use Rattle.pli_value.specs.Value.{Value, Characters}
 use Rattle.pli_bytes.specs.Contents.{value_of, value_in, with_bytes_at}
 
@@ -16,6 +17,13 @@ pub record IsPut (d : Description) (v : Value) (offset : ℕ) (old new : List �
 abbrev pub PutOrSame : Bool → Description → Value → (offset : ℕ) → (old new : List ℕ) → Type 0
 PutOrSame true d v offset old new = IsPut d v offset old new
 PutOrSame false d v offset old new = new ≡ old
+
+-- what a string of this description holds of characters that are assigned to it: they are cut on the right, or
+-- extended there with blanks
+abbrev pub text_fitted : Description → List ℕ → List ℕ
+text_fitted (Character n) text = fitted 32 n text
+text_fitted (Varying n) text = take n text
+text_fitted d text = text
 
 -- characters are put after those of a string of CHARACTER VARYING, and both are no more than so many
 pub record IsAppended (greatest offset : ℕ) (more : List ℕ) (room : ℕ) (old new : List ℕ) : Type 0 where

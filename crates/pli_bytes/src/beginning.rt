@@ -99,7 +99,7 @@ fn all_begin_with(byte: u8, members: &[Description]) -> bool
 }
 
 /// So many bytes from one on become this one.
-fn fill(bytes: &mut [u8], at: usize, size: usize, byte: u8)
+pub fn fill(bytes: &mut [u8], at: usize, size: usize, byte: u8)
     requires { at + size ≤ length bytes.old }
     ensures { bytes.new ≡ with_bytes_at at (replicate size byte) bytes.old }
 {

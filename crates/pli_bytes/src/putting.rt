@@ -1,18 +1,21 @@
 //! Values put into bytes, where a scalar lies.
-ghost use Rattle.std.specs.Prelude.{◌≡◌, ◌≤◌, ◌+◌, ◌++◌, length, drop, true, IsTrue, IsFalse};
-ghost use Rattle.pli_bytes.specs.Changes.{IsPut, PutOrSame, AppendedOrSame, IsTooLong};
+ghost use Rattle.std.specs.Prelude.{◌≡◌, ◌≤◌, ◌+◌, ◌++◌, length, drop, take, true, IsTrue, IsFalse};
+ghost use Rattle.pli_bytes.specs.Changes.{IsPut, PutOrSame, AppendedOrSame, IsTooLong, text_fitted};
 ghost use Rattle.pli_map.specs.Description as tree;
 ghost use Rattle.pli_map.specs.Sizes.{number_bytes, size_of};
 ghost use Rattle.pli_map.specs.StoredValues.{is_storable};
 ghost use Rattle.pli_map.specs.Values.{holds};
 ghost use Rattle.pli_map.specs.views.DescriptionView.{description_view};
 ghost use Rattle.pli_value.specs.Numbers.{has_digits};
+ghost use Rattle.pli_value.specs.Strings.{fitted};
 ghost use Rattle.pli_value.specs.Value.{value_view, Number, Characters};
 
+use crate::beginning::fill;
 use crate::stored::store_value;
 use byteorder::{BigEndian, ByteOrder};
 use pli_map::Description;
 use pli_value::Value;
+use pli_value::character::fit_varying;
 
 /// A value put where a scalar of this description lies, which holds it. Of CHARACTER VARYING only the length and the
 /// characters are written.
@@ -95,6 +98,21 @@ fn put_first_number(bytes: &mut [u8], precision: u8, number: i64) -> bool
     true
 }
 
+/// The same of a number of no more digits than the precision, where there are as many bytes as it takes.
+#[inline(always)]
+pub fn put_known_number(bytes: &mut [u8], precision: u8, number: i64)
+    requires few { precision ≤ 63 }
+    requires digits { has_digits precision number ≡ true }
+    requires within { number_bytes precision ≤ length bytes.old }
+    ensures { IsPut (tree.FixedBinary precision) (Number number) 0 bytes.old bytes.new }
+{
+    match precision {
+        16..=31 => BigEndian::write_i32(bytes, number as i32),
+        0..=15 => BigEndian::write_i16(bytes, number as i16),
+        _ => BigEndian::write_i64(bytes, number),
+    }
+}
+
 /// The characters of a scalar of CHARACTER VARYING put with which the bytes begin: the length in two bytes, and they.
 #[inline(never)]
 fn write_text(bytes: &mut [u8], greatest: u16, text: &[u8])
@@ -106,13 +124,97 @@ fn write_text(bytes: &mut [u8], greatest: u16, text: &[u8])
     write_front(&mut bytes[2..], text);
 }
 
-/// These in the place of as many bytes.
-#[inline(never)]
+/// These in the place of as many bytes. One alone is put at once.
+#[inline(always)]
 fn write_front(bytes: &mut [u8], front: &[u8])
     requires { length front.now ≤ length bytes.old }
     ensures { bytes.new ≡ front.now ++ drop (length front.now) bytes.old }
 {
+    if front.len() == 1 {
+        bytes[0] = front[0];
+        return;
+    }
+    write_all(bytes, front);
+}
+
+/// The same of any number of them.
+#[inline(never)]
+fn write_all(bytes: &mut [u8], front: &[u8])
+    requires { length front.now ≤ length bytes.old }
+    ensures { bytes.new ≡ front.now ++ drop (length front.now) bytes.old }
+{
     bytes[..front.len()].copy_from_slice(front);
+}
+
+/// Characters put where a scalar of CHARACTER of so many lies with which the bytes begin, cut on the right or extended
+/// there with blanks to as many.
+#[inline(always)]
+fn write_fitted(bytes: &mut [u8], size: usize, text: &[u8])
+    requires { size ≤ length bytes.old }
+    ensures { IsPut (tree.Character size) (Characters (fitted 32 size text.now)) 0 bytes.old bytes.new }
+{
+    let front = fit_varying(text, size);
+    write_front(bytes, front);
+    fill(bytes, front.len(), size - front.len(), b' ');
+}
+
+/// The same where the bytes may end before the scalar does: then nothing changes.
+#[inline(always)]
+fn put_characters(bytes: &mut [u8], count: u16, text: &[u8]) -> bool
+    ensures put { PutOrSame result (tree.Character count) (Characters (fitted 32 count text.now)) 0 bytes.old
+        bytes.new }
+    ensures held { IsTrue result → holds (tree.Character count) (Characters (fitted 32 count text.now)) ≡ true }
+{
+    let size = usize::from(count);
+    if bytes.len() < size {
+        return false;
+    }
+    write_fitted(bytes, size, text);
+    true
+}
+
+/// The same of a scalar of CHARACTER VARYING of so many at most.
+#[inline(always)]
+fn put_varying(bytes: &mut [u8], greatest: u16, text: &[u8]) -> bool
+    ensures put { PutOrSame result (tree.Varying greatest) (Characters (take greatest text.now)) 0 bytes.old bytes.new }
+    ensures held { IsTrue result → holds (tree.Varying greatest) (Characters (take greatest text.now)) ≡ true }
+{
+    let size = usize::from(greatest);
+    if bytes.len() < 2 + size {
+        return false;
+    }
+    write_text(bytes, greatest, fit_varying(text, size));
+    true
+}
+
+/// The same of any scalar of characters; `false` under any other description, and nothing changes then.
+#[inline(always)]
+fn put_first_text(bytes: &mut [u8], description: &Description, text: &[u8]) -> bool
+    ensures put { PutOrSame result (description_view description.now)
+        (Characters (text_fitted (description_view description.now) text.now)) 0 bytes.old bytes.new }
+    ensures held { IsTrue result → holds (description_view description.now)
+        (Characters (text_fitted (description_view description.now) text.now)) ≡ true }
+{
+    match description {
+        Description::Character(size) => put_characters(bytes, *size, text),
+        Description::Varying(greatest) => put_varying(bytes, *greatest, text),
+        _ => false,
+    }
+}
+
+/// Characters put where a scalar of CHARACTER or CHARACTER VARYING lies, cut on the right or extended there with blanks
+/// to what it holds; under any other description, and where the bytes end before it does, nothing changes.
+#[inline(always)]
+pub fn put_text_at(bytes: &mut [u8], offset: usize, description: &Description, text: &[u8]) -> bool
+    ensures put { PutOrSame result (description_view description.now)
+        (Characters (text_fitted (description_view description.now) text.now)) offset bytes.old bytes.new }
+    ensures held { IsTrue result → holds (description_view description.now)
+        (Characters (text_fitted (description_view description.now) text.now)) ≡ true }
+{
+    if offset > bytes.len() {
+        return false;
+    }
+    put_first_text(&mut bytes[offset..], description, text)
 }
 
 /// Characters put after those that a scalar of CHARACTER VARYING holds, which lies at an offset of the bytes; where

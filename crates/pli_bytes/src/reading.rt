@@ -108,19 +108,21 @@ fn first_number(bytes: &[u8], precision: u8) -> Option<i64>
 }
 
 /// The same of bytes of which there are as many as it takes.
-fn known_number(bytes: &[u8], precision: u8) -> i64
+#[inline(always)]
+pub fn known_number(bytes: &[u8], precision: u8) -> i64
     requires { number_bytes precision ≤ length bytes.now }
     ensures { value_of (tree.FixedBinary precision) (take (number_bytes precision) bytes.now) ≡ Number result }
 {
-    match first_number(bytes, precision) {
-        Some(number) => number,
-        None => unreachable!(),
+    match precision {
+        16..=31 => i64::from(BigEndian::read_i32(bytes)),
+        0..=15 => i64::from(BigEndian::read_i16(bytes)),
+        _ => BigEndian::read_i64(bytes),
     }
 }
 
 /// The characters that a scalar of CHARACTER or CHARACTER VARYING holds, which lies at an offset of the bytes; `None`
 /// for any other description, and where the bytes end before it does.
-#[inline]
+#[inline(always)]
 pub fn text_at<'b>(bytes: &'b [u8], offset: usize, description: &Description) -> Option<&'b [u8]>
     ensures { MatchOption result (offset + size_of (description_view description.now) ≤ length bytes.now
         → (text : List ℕ) → value_in bytes.now
@@ -144,7 +146,7 @@ pub fn text_at<'b>(bytes: &'b [u8], offset: usize, description: &Description) ->
 }
 
 /// The characters that the bytes of a scalar of CHARACTER VARYING hold: after a length, as many as it says.
-#[inline]
+#[inline(always)]
 fn text_of(bytes: &[u8]) -> &[u8]
     requires { 2 ≤ length bytes.now }
     ensures { result.now ≡ take (big_number 2 bytes.now) (drop 2 bytes.now) }

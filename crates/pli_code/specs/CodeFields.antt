@@ -3,7 +3,7 @@
 use Rattle.std.specs.Prelude.{ℕ, nat_le, nat_lt, Bool, true, ◌&&◌, Option, Some, None}
 use Rattle.pli_code.specs.Decks.{CodedBlock}
 use Rattle.pli_code.specs.CodedInstruction.{Instruction}
-use Rattle.pli_program.specs.declared.instruction.Instruction.TheVariants as coded
+use Rattle.pli_program.specs.declared.instruction.Instruction.TheVariants as op
 
 -- a number in a field of one byte
 abbrev pub is_byte : ℕ → Bool
@@ -16,21 +16,21 @@ is_short n = nat_le n 65535
 -- blocks, globals, slots and temporaries are numbers of two bytes, arguments, static links and dimensions of
 -- one; numbers of entries and targets are within two bytes by the limits of tables
 abbrev pub instruction_fits : Instruction → Bool
-instruction_fits (coded.Goto outward target) = is_byte outward
-instruction_fits (coded.Call block arguments) = is_short block && is_byte arguments
-instruction_fits (coded.CallExternal global arguments) = is_short global && is_byte arguments
-instruction_fits (coded.Begin block) = is_short block
-instruction_fits (coded.Return outward) = is_byte outward
-instruction_fits (coded.ReturnValue outward) = is_byte outward
-instruction_fits (coded.Local outward slot) = is_byte outward && is_short slot
-instruction_fits (coded.Global number) = is_short number
-instruction_fits (coded.AllocateControlled global) = is_short global
-instruction_fits (coded.FreeControlled global) = is_short global
-instruction_fits (coded.CountGenerations global) = is_short global
-instruction_fits (coded.On c block) = is_short block
-instruction_fits (coded.SubscriptIn dimension) = is_byte dimension
-instruction_fits (coded.SetTemporary number) = is_short number
-instruction_fits (coded.TakeTemporary number) = is_short number
+instruction_fits (op.Goto outward target) = is_byte outward
+instruction_fits (op.Call block arguments) = is_short block && is_byte arguments
+instruction_fits (op.CallExternal global arguments) = is_short global && is_byte arguments
+instruction_fits (op.Begin block) = is_short block
+instruction_fits (op.Return outward) = is_byte outward
+instruction_fits (op.ReturnValue outward) = is_byte outward
+instruction_fits (op.Local outward slot) = is_byte outward && is_short slot
+instruction_fits (op.Global number) = is_short number
+instruction_fits (op.AllocateControlled global) = is_short global
+instruction_fits (op.FreeControlled global) = is_short global
+instruction_fits (op.CountGenerations global) = is_short global
+instruction_fits (op.On c block) = is_short block
+instruction_fits (op.SubscriptIn dimension) = is_byte dimension
+instruction_fits (op.SetTemporary number) = is_short number
+instruction_fits (op.TakeTemporary number) = is_short number
 instruction_fits other = true
 
 -- the block around another has a number of two bytes, which is not the one that stands for none

@@ -1,1 +1,2 @@
 pub mod InstructionExamples
+pub mod NamingExamples

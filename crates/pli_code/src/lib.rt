@@ -20,6 +20,6 @@ pub use decoding::decode;
 pub use encoding::encode;
 pub use fault::DeckFault;
 pub use instruction::{Instruction, stands_in};
-pub use laws::{instructions_both_ways, worked_instructions};
+pub use laws::{instructions_both_ways, worked_instructions, worked_naming};
 pub use module::{External, LentMember, LentModule, Member, Module};
 pub use version::Version;

@@ -52,7 +52,7 @@ module _ (globals blocks last : ℕ) where
   Allowed (op.FreeControlled global) = global < globals
   Allowed (op.CountGenerations global) = global < globals
   Allowed (op.AllocateBased template) = IsTemplate template
-  Allowed (op.AllocateInArea template after) = IsTemplate template × (after ≤ last)
+  Allowed (op.AllocateInArea template target) = IsTemplate template × (target ≤ last)
   Allowed (op.FreeBased d) = IsDescription d
   Allowed op.AssignArea = Unit {0}
   Allowed op.EmptyArea = Unit {0}

@@ -9,7 +9,7 @@ use Rattle.pli_map.specs.Description.{Description}
 use Rattle.std.specs.Option.{option_and_then}
 use Rattle.pli_map.specs.ParameterTypes.{ParameterType, Stated, stated, same_type}
 use Rattle.pli_map.specs.laws.ParameterLaws.{same_type_decides}
-use Rattle.pli_program.specs.Program as op
+use Rattle.pli_program.specs.Program as programs
 use Rattle.pli_type_tree.specs.Templates.{InitialScalar, Template}
 use Rattle.pli_type_tree.specs.TypedTree.{Global, TypedUnit}
 use Rattle.pli_code.specs.CodeTables.{CodedTemplate, CodedBlock, Code, Deck}
@@ -51,7 +51,7 @@ use Rattle.pli_deck_laws.proofs.UnitCode.{Final, BlockWithin, HasFew, IsWithin, 
 
 module _ (tables : NumberedTables) (globals blocks last : ℕ) (few_descriptions : length tables.descriptions ≤ 65535) (few_templates : length tables.templates ≤ 65535) (few_values : length tables.values ≤ 65535)
     (few_globals : globals ≤ 65535) (few_blocks : blocks ≤ 65535) (few_instructions : last ≤ 65535) where
-  all_instructions : (is : List op.Instruction) → AllByRecursion (Final globals blocks last) is → AllByRecursion (StandsDescription tables) (flat_map descriptions_named is)
+  all_instructions : (is : List programs.Instruction) → AllByRecursion (Final globals blocks last) is → AllByRecursion (StandsDescription tables) (flat_map descriptions_named is)
       → AllByRecursion (StandsTemplate tables) (flat_map templates_named is) → AllByRecursion (StandsValue tables) (flat_map values_named is)
       → AllByRecursion (λ i. GoodInstruction tables globals blocks last (instruction_code tables i)) is
   all_instructions [] h ds ts vs = tt
@@ -223,7 +223,7 @@ module _ (t : TypedUnit) (well : IsWellNumbered t) (formed : IsWellFormed t) (fi
   abbrev bs : List BlockTree
   bs = blocks_of t
 
-  abbrev all_code : List op.Instruction
+  abbrev all_code : List programs.Instruction
   all_code = instructions_of bs
 
   abbrev tables : NumberedTables
@@ -281,7 +281,7 @@ module _ (t : TypedUnit) (well : IsWellNumbered t) (formed : IsWellFormed t) (fi
         (λ x h k. template_good tables G B last short.descriptions short.templates x h.0 h.1 (number_stands same_type same_type_decides tables.descriptions (Stated x.description) k)) tables.templates
         begun (tables_stand t bs all_code)
 
-    abbrev GoodI : op.Instruction → Type 0
+    abbrev GoodI : programs.Instruction → Type 0
     GoodI i = GoodInstruction tables G B last (instruction_code tables i)
 
     instrs : AllByRecursion GoodI all_code

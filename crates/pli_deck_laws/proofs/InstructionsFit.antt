@@ -101,18 +101,18 @@ module _ (tables : NumberedTables) (globals blocks last : ℕ) where
     global_fits : (n : ℕ) → n < globals → u2.fits n ≡ true
     global_fits n h = fits_short n (omega (arith, h, few_globals))
 
-    target : (n : ℕ) → n ≤ last → u2.fits n ≡ true
-    target n h = fits_short n (omega (arith, h, few_instructions))
+    short_target : (n : ℕ) → n ≤ last → u2.fits n ≡ true
+    short_target n h = fits_short n (omega (arith, h, few_instructions))
 
     pub instruction_good : (i : programs.Instruction) → Allowed globals blocks last i → leads i ≤ last → AllByRecursion (StandsDescription tables) (descriptions_named i)
         → AllByRecursion HasTemplate (templates_named i) → AllByRecursion HasValue (values_named i) → GoodInstruction (instruction_code tables i)
     unfolding instruction
     instruction_good (op.Step s) h to ds ts vs = record { fits = fits_word s h; jumps = tt; names = tt }
     instruction_good (op.Line s) h to ds ts vs = record { fits = fits_word s h; jumps = tt; names = tt }
-    instruction_good (op.Jump n) h to ds ts vs = record { fits = target n h; jumps = (h, tt); names = tt }
-    instruction_good (op.JumpUnless n) h to ds ts vs = record { fits = target n h; jumps = (h, tt); names = tt }
+    instruction_good (op.Jump n) h to ds ts vs = record { fits = short_target n h; jumps = (h, tt); names = tt }
+    instruction_good (op.JumpUnless n) h to ds ts vs = record { fits = short_target n h; jumps = (h, tt); names = tt }
     instruction_good (op.Goto outward n) h to ds ts vs =
-        record { fits = fits_pair u1 u2 outward n (link outward h) (target n to); jumps = (to, tt); names = tt }
+        record { fits = fits_pair u1 u2 outward n (link outward h) (short_target n to); jumps = (to, tt); names = tt }
     instruction_good (op.Call block arguments) h to ds ts vs =
         record { fits = fits_pair u2 u1 block arguments (block_fits block h.0) (few_arguments arguments h.1); jumps = tt; names = (h.0, tt) }
     instruction_good (op.CallExternal global arguments) h to ds ts vs =
@@ -157,10 +157,10 @@ module _ (tables : NumberedTables) (globals blocks last : ℕ) where
     instruction_good op.ToOffset h to ds ts vs = record { fits = refl; jumps = tt; names = tt }
     instruction_good op.AssignArea h to ds ts vs = record { fits = refl; jumps = tt; names = tt }
     instruction_good op.EmptyArea h to ds ts vs = record { fits = refl; jumps = tt; names = tt }
-    instruction_good (op.AllocateInArea t after) h to ds ts vs =
+    instruction_good (op.AllocateInArea t target) h to ds ts vs =
         let has = ts.0 in
         record {
-          fits = fits_pair u2 u2 (template_number tables t) after (fits_short (template_number tables t) (omega (arith, has, few_templates))) (target after h.1);
+          fits = fits_pair u2 u2 (template_number tables t) target (fits_short (template_number tables t) (omega (arith, has, few_templates))) (short_target target h.1);
           jumps = (h.1, tt);
           names = (has, tt);
         }

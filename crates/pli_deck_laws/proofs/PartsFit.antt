@@ -7,7 +7,7 @@ use Rattle.pli_map.specs.Description.{Description}
 use Rattle.std.specs.Option.{option_and_then}
 use Rattle.pli_map.specs.ParameterTypes.{Stated, stated}
 use Rattle.pli_map.specs.Sizes.{size_of}
-use Rattle.pli_program.specs.Program as op
+use Rattle.pli_program.specs.Program as programs
 use Rattle.pli_program.specs.declared.kind.VariableKind.TheVariants.{Static, Controlled}
 use Rattle.pli_type_tree.specs.Templates.{InitialScalar, Template}
 use Rattle.pli_type_tree.specs.TypedTree.{Signature, Global, OwnVariable, ExternalVariable, EntryPoint}
@@ -148,10 +148,10 @@ module _ (tables : NumberedTables) (globals blocks last : ℕ) (few_descriptions
     pub fits : block.fits b ≡ true
     pub names : AllByRecursion IsNamed (named_by_block b)
 
-  kind_fits : (k : op.BlockKind) → block_kind.fits k ≡ true
-  kind_fits op.Procedure = refl
-  kind_fits op.BeginBlock = refl
-  kind_fits op.OnUnit = refl
+  kind_fits : (k : programs.BlockKind) → block_kind.fits k ≡ true
+  kind_fits programs.Procedure = refl
+  kind_fits programs.BeginBlock = refl
+  kind_fits programs.OnUnit = refl
 
   module _ (few_blocks : blocks ≤ 65535) (few_instructions : suc last ≤ 65535) where
     parent_fits : (o : Option ℕ) → IfThere (λ n. n < blocks) o → optional.fits o ≡ true

@@ -65,14 +65,14 @@ module _ (globals blocks last : ℕ) where
   code_described (op.Fit d) h = (h, tt)
   code_described (op.Based d) h = (h, tt)
   code_described (op.AllocateBased t) h = (h.0.0, tt)
-  code_described (op.AllocateInArea t after) h = (h.0.0.0, tt)
+  code_described (op.AllocateInArea t target) h = (h.0.0.0, tt)
   code_described (op.FreeBased d) h = (h, tt)
   code_described i h = tt
 
   code_made : (i : programs.Instruction) → Allowed globals blocks last i → AllByRecursion IsTemplate (templates_named i)
   code_made (op.MakeDummy t) h = (h, tt)
   code_made (op.AllocateBased t) h = (h, tt)
-  code_made (op.AllocateInArea t after) h = (h.0, tt)
+  code_made (op.AllocateInArea t target) h = (h.0, tt)
   code_made i h = tt
 
   code_valued : (i : programs.Instruction) → Allowed globals blocks last i → AllByRecursion IsConstant (values_named i)

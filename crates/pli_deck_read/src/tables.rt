@@ -226,11 +226,11 @@ pub struct Instructions {
 }
 
 impl ReadsOne for Instructions {
-    ghost use Rattle.pli_code.specs.CodedInstruction.{Instruction as CodedInstruction};
+    ghost use Rattle.pli_code.specs.CodedInstruction.{Instruction};
 
     type Value = Instruction;
 
-    ghost Said = { CodedInstruction };
+    ghost Said = { Instruction };
 
     ghost say = { λ i. i };
 

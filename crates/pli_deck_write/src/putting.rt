@@ -266,12 +266,12 @@ impl PutsOne for Blocks {
 pub struct Instructions;
 
 impl PutsOne for Instructions {
-    ghost use Rattle.pli_code.specs.CodedInstruction.{Instruction as CodedInstruction};
+    ghost use Rattle.pli_code.specs.CodedInstruction.{Instruction};
     ghost use Rattle.pli_code.specs.Instructions.{instruction};
 
     type Value = Instruction;
 
-    ghost Said = { CodedInstruction };
+    ghost Said = { Instruction };
 
     ghost say = { λ i. i };
 

@@ -6,6 +6,7 @@ pub mod MarkWalkLemmas
 pub mod Faultless
 pub mod FaultsAreExact
 pub mod BitLemmas
+pub mod BuiltInNames
 pub mod ItemsStandAfter
 pub mod LeastFaults
 pub mod MembersFound

@@ -3,6 +3,7 @@ ghost use Rattle.std.specs.Prelude.{◌≡◌};
 ghost use Rattle.pli_base.specs.Words.{same_name};
 ghost use Rattle.pli_declare.specs.BuiltIns as spec;
 ghost use Rattle.pli_declare.specs.BuiltInGroups.{further_functions, storage_functions};
+ghost use Rattle.pli_declare.specs.Places.{is_built_in};
 
 use pli_base::Name;
 
@@ -100,4 +101,12 @@ pub fn function_named(name: Name) -> Option<BuiltInFunction>
     } else {
         further_function(&name)
     }
+}
+
+/// Whether a name is that of a built-in function (X3.74 and own). Abbreviations are of keywords only.
+#[tactic(auto, using(crate::proofs::BuiltInNames::named_is_built_in))]
+pub fn is_built_in(name: Name) -> bool
+    ensures { result ≡ is_built_in name }
+{
+    function_named(name).is_some()
 }

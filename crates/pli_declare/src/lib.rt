@@ -14,7 +14,7 @@ mod symbol;
 
 pub use block::{BlockDeclarations, Target, Use};
 pub use block_numbers::{BlockRegion, ResolvedBlockKind};
-pub use built_in::{BuiltInFunction, function_named};
+pub use built_in::{BuiltInFunction, function_named, is_built_in};
 pub use completed::{Completed, DeclaredStorage, ScopeAttribute, Variable};
 pub use declaration::{Declaration, DeclaredKind};
 pub use laws::{faults_are_least_codes, resolved_examples, worked_examples};

@@ -14,8 +14,7 @@ use crate::look_up::{Looked, look_up, table_at};
 use crate::scopes::Scopes;
 use pli_base::syntax::Identifier;
 use pli_base::{Code, Name};
-use pli_declare::{Target, Use};
-use pli_declare_variables::is_built_in;
+use pli_declare::{Target, Use, is_built_in};
 use std::alloc::{AllocError, Global};
 
 /// What a name that is used means, if it means anything, and its fault.

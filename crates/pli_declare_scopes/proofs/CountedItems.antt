@@ -61,7 +61,7 @@ verdict_step (i ∷ is) before verdicts (suc k) lt owned =
     (append_assoc before (i ∷ []) (take k is))
 
 -- an item before has the like
-any_there : (test : Written → Bool) (xs : List Written) → list_any test xs ≡ true → (n : ℕ) × (n < length xs) × (test (written_at xs n) ≡ true)
+pub any_there : (test : Written → Bool) (xs : List Written) → list_any test xs ≡ true → (n : ℕ) × (n < length xs) × (test (written_at xs n) ≡ true)
 any_there test [] h = cc
 any_there test (x ∷ xs) h = by (test x) refl (any_there test xs) h
   where
@@ -74,7 +74,7 @@ pub owner_refl : (o : Option ℕ) → option_eq nat_eq o o ≡ true
 owner_refl None = refl
 owner_refl (Some n) = grind (arith, nat_tests)
 
-repeats_from : (i j : Written) → i.name ≡ j.name → i.owner ≡ j.owner → repeats i j ≡ true
+pub repeats_from : (i j : Written) → i.name ≡ j.name → i.owner ≡ j.owner → repeats i j ≡ true
 repeats_from i j p q =
     ap (λ b. b && option_eq nat_eq i.owner j.owner) (subst (λ n. same_name i.name n ≡ true) p (pointwise-refl i.name))
     ∙ subst (λ o. option_eq nat_eq i.owner o ≡ true) q (owner_refl i.owner)
@@ -93,19 +93,19 @@ above_from verdicts None h = refl
 above_from verdicts (Some o) h = ap is_counting h
 
 module _ (items : List Written) (n : ℕ) (owners : OwnersFirst items) (lt : n < length items) where
-  abbrev above : Bool
+  abbrev pub above : Bool
   above = counts_above (verdicts_of items) (written_at items n).owner
 
-  abbrev again : Bool
+  abbrev pub again : Bool
   again = list_any (repeats (written_at items n)) (take n items)
 
-  verdict_is : verdict_at items n ≡ judged above again
+  pub verdict_is : verdict_at items n ≡ judged above again
   verdict_is =
       let on : 0 + n ≡ n = omega arith in
       ap (λ k. get_or (verdicts_of items) k Beneath) (sym on)
       ∙ verdict_step items [] [] n lt (subst (λ (k : ℕ). IfSome (written_at items n).owner (λ o. o < k)) (sym on) (owners n lt))
 
-  again_to : again ≡ true → IsRepeated items n
+  pub again_to : again ≡ true → IsRepeated items n
   again_to h =
       let r = any_there (repeats (written_at items n)) (take n items) h in
       let within : r.0 < n = omega (arith, r.1, length-take-le n items (omega arith)) in
@@ -134,7 +134,7 @@ module _ (items : List Written) (n : ℕ) (owners : OwnersFirst items) (lt : n <
   judged_beneath true false h = cc
   judged_beneath false r h = refl
 
-  not_true : (b : Bool) → (b ≡ true → ⊥) → b ≡ false
+  pub not_true : (b : Bool) → (b ≡ true → ⊥) → b ≡ false
   not_true true h = absurd (h refl)
   not_true false h = refl
 

@@ -16,3 +16,5 @@ pub mod TailsFound
 pub mod StandsAbove
 pub mod RememberedLemmas
 pub mod FoundWhereDeclared
+pub mod TakenPaths
+pub mod JudgedItems

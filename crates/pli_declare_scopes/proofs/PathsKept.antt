@@ -1,5 +1,5 @@
 -- What a block keeps of paths stands as items are added, and finds what a reference qualifies fully.
-use Rattle.std.proofs.Common.{◌≡◌, ℕ, zero, suc, ◌+◌, ◌<◌, ◌≤◌, inl, inr, Bool, true, false, nat_lt, nat_eq, ◌&&◌, List, [], ◌∷◌, ◌++◌, length, get_or, set, take, drop, length-append, Option, None, Some, option_map, IfSome, if◌then◌else◌, refl, sym, ap, subst, ◌∙◌, arith, rules}
+use Rattle.std.proofs.Common.{◌≡◌, ℕ, zero, suc, ◌+◌, ◌<◌, ◌≤◌, inl, inr, Bool, true, false, nat_lt, nat_eq, ◌&&◌, ◌||◌, List, [], ◌∷◌, ◌++◌, length, get_or, set, take, drop, length-append, Option, None, Some, option_map, IfSome, if◌then◌else◌, refl, sym, ap, subst, ◌∙◌, arith, rules}
 use Rattle.std.specs.Prelude.{reverse, not, position, slice_get}
 use Rattle.std.specs.List.{list_any, position_or_len}
 use Rattle.std.specs.Option.{option_eq, unwrap_or}
@@ -17,8 +17,9 @@ use Rattle.pli_base.specs.Words.{same_name}
 use Rattle.pli_declare_scopes.specs.declared.block.Declared.{Declared}
 use Rattle.pli_declare_scopes.specs.declared.path.Step.{Step}
 use Rattle.pli_declare_scopes.specs.declared.found.Found.{Found}
-use Rattle.pli_declare_scopes.specs.declared.found.Found.TheVariants.{Nothing}
-use Rattle.pli_declare_scopes.specs.Scopes.{BlockItems, item_at, chain_above, chains_after, chain_at, chain_over, is_chain, fits_fully, with_number, found_below}
+use Rattle.pli_declare_scopes.specs.declared.found.Found.TheVariants.{Nothing, One, Several}
+use Rattle.pli_declare_scopes.specs.Scopes.{BlockItems, item_at, any_below, chain_above, chains_after, chain_at, chain_over, is_chain, fits_fully, with_number, found_below}
+use Rattle.pli_declare_scopes.specs.answers.Judged.{is_found, counts_over}
 use Rattle.pli_declare_scopes.specs.answers.Indexes.{OwnersBefore}
 use Rattle.pli_declare_scopes.specs.answers.Paths.{no_step, step_at, Spells, ends_at, ArePaths}
 use Rattle.pli_base.specs.laws.NameLaws.{pointwise-refl}
@@ -27,7 +28,22 @@ use Rattle.pli_declare_scopes.proofs.CountedItems.{owner_refl}
 use Rattle.pli_declare_scopes.proofs.ChainLemmas.{backwards, chain_is, chains_kept}
 use Rattle.pli_declare_scopes.proofs.CandidateLemmas.{found_more, found_same, none_found}
 use Rattle.pli_declare_scopes.proofs.IndexKept.{item_front, item_last, both_true, below_or_last}
-use Rattle.pli_declare_scopes.proofs.ReferencesMeanOne.{whole_to, whole_from}
+use Rattle.pli_declare_scopes.proofs.ReferencesMeanOne.{any_from, whole_to, whole_from}
+
+number_found : (k : ℕ) (f : Found) → is_found (with_number k f) ≡ true
+number_found k Nothing = refl
+number_found k (One n) = refl
+number_found k Several = refl
+
+-- anything is found where a number passes
+pub found_any : (test : ℕ → Bool) (k : ℕ) → is_found (found_below test k Nothing) ≡ any_below test k
+found_any test zero = refl
+found_any test (suc k) = ap is_found (found_more test k) ∙ by (test k) (found_any test k)
+  where
+    by : (b : Bool) → is_found (found_below test k Nothing) ≡ any_below test k
+        → is_found (if b then with_number k (found_below test k Nothing) else found_below test k Nothing) ≡ (b || any_below test k)
+    by true e = number_found k (found_below test k Nothing)
+    by false e = e
 
 -- a path goes on spelling its chain where there are more paths
 pub spells_more : (steps more : List Step) (at : Option ℕ) (chain : List Name) → Spells steps at chain → Spells (steps ++ more) at chain
@@ -168,6 +184,8 @@ path_made items steps paths ended step is_new kept = record {
   spelled = λ n lt. spells_more steps (step ∷ []) (Some (get_or paths n 0)) (chain_at items n) (kept.spelled n lt);
   once = once;
   ends = ends;
+  alone = kept.alone;
+  counted = kept.counted;
   all = kept.all;
   count = omega (arith, kept.count, length-append steps (step ∷ []), length-append ended (Nothing ∷ []));
 }
@@ -217,12 +235,15 @@ path_made items steps paths ended step is_new kept = record {
 -- an item more has a path
 pub path_more : (items : BlockItems) (steps : List Step) (paths : List ℕ) (ended : List Found) (i : Declared) (p : ℕ) → OwnersBefore (items ++ i ∷ [])
     → IfSome i.owner (λ o. o < length items) → p < length steps → step_at steps p ≡ record { name = i.name; above = option_map (λ o. get_or paths o 0) i.owner }
+    → (i.counts ≡ true → counts_over items i.owner ≡ true) → (i.counts ≡ true → is_found (get_or ended p Nothing) ≡ false)
     → ArePaths items steps paths ended
     → ArePaths (items ++ i ∷ []) steps (paths ++ p ∷ []) (if i.counts then set ended p (with_number (length items) (get_or ended p Nothing)) else ended)
-path_more items steps paths ended i p owners owned lt is kept = record {
+path_more items steps paths ended i p owners owned lt is over fresh kept = record {
   spelled = spelled;
   once = kept.once;
   ends = ends;
+  alone = alone;
+  counted = counted_more;
   all = omega (arith, kept.all, length-append items (i ∷ []), length-append paths (p ∷ []));
   count = counted i.counts;
 }
@@ -238,6 +259,56 @@ path_more items steps paths ended i p owners owned lt is kept = record {
       | inr last ↦ subst (λ c. Spells steps (Some (get_or (paths ++ p ∷ []) n 0)) c) (sym (ap (chain_at (items ++ i ∷ [])) last ∙ chain_last items i owners owned))
           (subst (λ (q : ℕ). Spells steps (Some q) (i.name ∷ chain_over items i.owner)) (sym (ap (λ k. get_or (paths ++ p ∷ []) k 0) (last ∙ sym kept.all) ∙ get_or-append_seam paths p [] 0))
           (lt, ap (λ (s : Step). s.name) is, subst (λ (s : Step). Spells steps s.above (chain_over items i.owner)) (sym is) (above i.owner owned)))
+    ]
+
+    counts_front : (owner : Option ℕ) → IfSome owner (λ o. o < length items) → counts_over (items ++ i ∷ []) owner ≡ counts_over items owner
+    counts_front None h = refl
+    counts_front (Some o) h = ap (λ (j : Declared). j.counts) (item_front items i o h)
+
+    owned_front : (owner : Option ℕ) (n : ℕ) → n < length items → IfSome owner (λ o. o < n) → IfSome owner (λ o. o < length items)
+    owned_front None n lt h = tt
+    owned_front (Some o) n lt h = omega (arith, h, lt)
+
+    counted_more : (n : ℕ) → n < length (items ++ i ∷ []) → (item_at (items ++ i ∷ []) n).counts ≡ true → counts_over (items ++ i ∷ []) (item_at (items ++ i ∷ []) n).owner ≡ true
+    counted_more n within c = elim (below_or_last n (length items) (omega (arith, within, length-append items (i ∷ [])))) [
+      | inl front ↦ (let same : item_at (items ++ i ∷ []) n ≡ item_at items n = item_front items i n front in
+          let before : IfSome (item_at items n).owner (λ o. o < n) = subst (λ (j : Declared). IfSome j.owner (λ o. o < n)) same (owners n within) in
+          ap (λ (j : Declared). counts_over (items ++ i ∷ []) j.owner) same ∙ counts_front (item_at items n).owner (owned_front (item_at items n).owner n front before)
+          ∙ kept.counted n front (ap (λ (j : Declared). j.counts) (sym same) ∙ c))
+      | inr last ↦ (let same : item_at (items ++ i ∷ []) n ≡ i = ap (item_at (items ++ i ∷ [])) last ∙ item_last items i in
+          ap (λ (j : Declared). counts_over (items ++ i ∷ []) j.owner) same ∙ counts_front i.owner owned ∙ over (ap (λ (j : Declared). j.counts) (sym same) ∙ c))
+    ]
+
+    path_front : (n : ℕ) → n < length items → get_or (paths ++ p ∷ []) n 0 ≡ get_or paths n 0
+    path_front n front = get_or-append paths (p ∷ []) 0 n (omega (arith, front, kept.all))
+
+    path_last : (n : ℕ) → n ≡ length items → get_or (paths ++ p ∷ []) n 0 ≡ p
+    path_last n last = ap (λ k. get_or (paths ++ p ∷ []) k 0) (last ∙ sym kept.all) ∙ get_or-append_seam paths p [] 0
+
+    item_before : (n : ℕ) → n < length items → (item_at (items ++ i ∷ []) n).counts ≡ true → (item_at items n).counts ≡ true
+    item_before n front c = ap (λ (j : Declared). j.counts) (sym (item_front items i n front)) ∙ c
+
+    item_there : (n : ℕ) → n ≡ length items → (item_at (items ++ i ∷ []) n).counts ≡ true → i.counts ≡ true
+    item_there n last c = ap (λ (j : Declared). j.counts) (sym (ap (item_at (items ++ i ∷ [])) last ∙ item_last items i)) ∙ c
+
+    free : (n : ℕ) → n < length items → (item_at items n).counts ≡ true → i.counts ≡ true → get_or paths n 0 ≡ p → ⊥
+    free n front c d e =
+        let test : ends_at items paths p n ≡ true = ap (λ b. b && nat_eq (get_or paths n 0) p) c ∙ (let same : nat_eq (get_or paths n 0) p ≡ true = grind (arith, nat_tests, e) in same) in
+        let bad : true ≡ false =
+        sym (any_from (ends_at items paths p) (length items) n front test) ∙ sym (found_any (ends_at items paths p) (length items)) ∙ ap is_found (sym (kept.ends p)) ∙ fresh d in
+        cc
+
+    alone : (m n : ℕ) → m < length (items ++ i ∷ []) → n < length (items ++ i ∷ []) → (item_at (items ++ i ∷ []) m).counts ≡ true → (item_at (items ++ i ∷ []) n).counts ≡ true
+        → get_or (paths ++ p ∷ []) m 0 ≡ get_or (paths ++ p ∷ []) n 0 → m ≡ n
+    alone m n lm ln cm cn e = elim (below_or_last m (length items) (omega (arith, lm, length-append items (i ∷ [])))) [
+      | inl fm ↦ elim (below_or_last n (length items) (omega (arith, ln, length-append items (i ∷ [])))) [
+        | inl fn ↦ kept.alone m n fm fn (item_before m fm cm) (item_before n fn cn) (sym (path_front m fm) ∙ e ∙ path_front n fn)
+        | inr en ↦ absurd (free m fm (item_before m fm cm) (item_there n en cn) (sym (path_front m fm) ∙ e ∙ path_last n en))
+      ]
+      | inr em ↦ elim (below_or_last n (length items) (omega (arith, ln, length-append items (i ∷ [])))) [
+        | inl fn ↦ absurd (free n fn (item_before n fn cn) (item_there m em cm) (sym (path_front n fn) ∙ sym e ∙ path_last m em))
+        | inr en ↦ em ∙ sym en
+      ]
     ]
 
     counted : (b : Bool) → length (if b then set ended p (with_number (length items) (get_or ended p Nothing)) else ended) ≡ length steps

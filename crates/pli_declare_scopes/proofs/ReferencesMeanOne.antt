@@ -223,7 +223,7 @@ module _ (block : BlockItems) (names : List Name) where
   decides_only out Ambiguous h = ap (meant_there out) (found_only Several h)
   decides_only out NotDeclared h = ap (meant_there out) (found_only Nothing h)
 
-any_to : (test : ℕ → Bool) (k : ℕ) → any_below test k ≡ true → (n : ℕ) × (n < k) × (test n ≡ true)
+pub any_to : (test : ℕ → Bool) (k : ℕ) → any_below test k ≡ true → (n : ℕ) × (n < k) × (test n ≡ true)
 any_to test zero h = cc
 any_to test (suc k) h = by (test k) refl (any_to test k) h
   where
@@ -231,7 +231,7 @@ any_to test (suc k) h = by (test k) refl (any_to test k) h
     by true e go g = (k, omega arith, e)
     by false e go g = let r = go g in (r.0, omega (arith, r.1), r.2)
 
-any_from : (test : ℕ → Bool) (k n : ℕ) → n < k → test n ≡ true → any_below test k ≡ true
+pub any_from : (test : ℕ → Bool) (k n : ℕ) → n < k → test n ≡ true → any_below test k ≡ true
 any_from test zero n lt h = absurd (omega arith)
 any_from test (suc k) n lt h = by (nat_lt n k) refl (any_from test k n)
   where

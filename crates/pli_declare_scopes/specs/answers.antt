@@ -3,3 +3,4 @@ pub mod Paths
 pub mod Leaps
 pub mod Reaches
 pub mod Remembered
+pub mod Judged

@@ -6,6 +6,8 @@ ghost use Rattle.pli_base.specs.Name.{Name as Characters};
 ghost use Rattle.pli_base.specs.Words.{same_name};
 ghost use Rattle.pli_declare_scopes.specs.Scopes.{declares, declares_first, is_named, item_at, chain_over, is_part};
 ghost use Rattle.pli_declare_scopes.specs.Scopes.{fits, fits_fully, found_below, found_in};
+ghost use Rattle.pli_declare_scopes.specs.Repeats.{judged};
+ghost use Rattle.pli_declare_scopes.specs.answers.Judged.{counts_over, declared_as, is_taken};
 ghost use Rattle.pli_declare_scopes.specs.declared.found.Found.TheVariants as variants;
 ghost use Rattle.pli_declare_scopes.specs.answers.Indexes.{last_below};
 ghost use Rattle.pli_declare_scopes.specs.answers.Leaps.{IsLastUpTo};
@@ -16,7 +18,8 @@ use crate::found::Found;
 use crate::leap::{Leap, leap_on};
 use crate::path::{Step, note_end, path_above, path_of};
 use crate::reach::{nearest_above, reach_on, reaches};
-use crate::remembered::{keep, recalled};
+use crate::remembered::{forget, keep, recalled};
+use crate::repeat::{Verdict, Written, declared_as, judge};
 use crate::room::{make_room, make_room_for, push_within};
 use indexmap::{IndexMap, IndexSet};
 use pli_base::Name;
@@ -159,12 +162,13 @@ impl BlockItems {
         self.items.len()
     }
 
-    /// One more item, which belongs to one that stands before it, if to any. Gives its number. Without memory for it
-    /// the block stays as it was, and can be used on.
-    pub fn declare(&mut self, item: Declared) -> Result<usize, AllocError>
-        requires { IfSome item.owner (λ o. o < length self.old) }
-        ensures number { IfOk result (λ n. n ≡ length self.old) }
-        ensures ok { OnOk result (self.new ≡ self.old ++ item ∷ []) }
+    /// One more item, which belongs to one that stands before it, if to any. Gives what becomes of it: of two of one
+    /// name at level 1, or in one structure, the later one is a fault, and neither it nor its members count (own).
+    /// Without memory for it the block stays as it was, and can be used on.
+    pub fn declare(&mut self, written: Written) -> Result<Verdict, AllocError>
+        requires { IfSome written.owner (λ o. o < length self.old) }
+        ensures judged { IfOk result (λ v. v ≡ judged (counts_over self.old written.owner) (is_taken self.old written)) }
+        ensures ok { IfOk result (λ v. self.new ≡ self.old ++ declared_as written v ∷ []) }
         ensures err { OnErr result (self.new ≡ self.old) }
     {
         let number = self.items.len();
@@ -177,10 +181,12 @@ impl BlockItems {
             &mut self.tops,
         )?;
         let step = Step {
-            name: item.name,
-            above: path_above(&self.paths, item.owner),
+            name: written.name,
+            above: path_above(&self.paths, written.owner),
         };
         let path = path_of(&mut self.steps, &mut self.ended, step)?;
+        let verdict = judge(&self.items, written.owner, self.ended[path]);
+        let item = declared_as(written, verdict);
         let before = note(&mut self.latest, &item, number)?;
         push_within(&mut self.earlier, before);
         push_within(&mut self.paths, path);
@@ -195,9 +201,9 @@ impl BlockItems {
             self.is_ordered,
         );
         push_within(&mut self.items, item);
-        self.remembered.clear();
-        self.tails.clear();
-        Ok(number)
+        forget(&mut self.remembered);
+        forget(&mut self.tails);
+        Ok(verdict)
     }
 
     /// Whether an item of this name is declared, at whatever level.

@@ -20,5 +20,5 @@ pub use laws::{
     examples_of_repeats, later_is_fault, levels_fall, meant_is_means, owners_are_nearest,
 };
 pub use level::{ItemStanding, Numbered, standings};
-pub use repeat::{Verdict, Written, verdicts};
+pub use repeat::{Verdict, Written};
 pub use scope::Scope;

@@ -40,3 +40,13 @@ pub(crate) fn keep(
     remembered.insert(names, found)?;
     Ok(())
 }
+
+/// Forgets what names were found to fit. Mostly nothing is remembered: items are declared before names are looked up.
+pub(crate) fn forget(remembered: &mut IndexMap<Vec<Name>, Found>)
+    ensures { (find : List Characters → What) → AreRemembered find remembered.new.entries }
+{
+    if remembered.is_empty() {
+        return;
+    }
+    remembered.clear();
+}

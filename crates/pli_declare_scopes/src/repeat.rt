@@ -1,13 +1,14 @@
 //! Names that are declared twice.
-ghost use Rattle.std.specs.Prelude.{◌≡◌, not, IfOk};
-ghost use Rattle.pli_declare_scopes.specs.Repeats.{counts_above, judged, verdicts_of};
+ghost use Rattle.std.specs.Prelude.{◌≡◌, ◌<◌, length, IfSome};
+ghost use Rattle.pli_declare_scopes.specs.Repeats.{judged};
+ghost use Rattle.pli_declare_scopes.specs.answers.Judged.{is_found, counts_over, declared_as};
 
-use indexmap::IndexSet;
+use crate::block::Declared;
+use crate::found::Found;
 use pli_base::Name;
-use std::alloc::{AllocError, AllocFailed, Global};
 
 /// An item as it is written: its name, and the number of the item that it is a member of.
-#[derive(Clone, Copy, PartialEq, Eq, Hash)]
+#[derive(Clone, Copy)]
 pub struct Written {
     pub name: Name,
     pub owner: Option<usize>,
@@ -25,39 +26,37 @@ pub enum Verdict {
 }
 
 /// Whether the item to which one belongs counts, if there is one.
-fn counts_above(verdicts: &[Verdict], owner: Option<usize>) -> bool
-    ensures { result ≡ counts_above verdicts.now owner }
+fn counts_over(items: &[Declared], owner: Option<usize>) -> bool
+    requires { IfSome owner (λ o. o < length items.now) }
+    ensures { result ≡ counts_over items.now owner }
 {
     match owner {
         None => true,
-        Some(number) => matches!(verdicts.get(number), Some(Verdict::Counts)),
+        Some(number) => items[number].counts,
     }
 }
 
-/// What becomes of an item that is new, or is not.
-fn judge(counts_above: bool, is_new: bool) -> Verdict
-    ensures { result ≡ judged counts_above (not is_new) }
+/// What becomes of an item after others, where this is what counts of its path so far.
+pub(crate) fn judge(items: &[Declared], owner: Option<usize>, found: Found) -> Verdict
+    requires { IfSome owner (λ o. o < length items.now) }
+    ensures { result ≡ judged (counts_over items.now owner) (is_found found) }
 {
-    if !counts_above {
-        Verdict::Beneath
-    } else if is_new {
-        Verdict::Counts
-    } else {
-        Verdict::Twice
+    if !counts_over(items, owner) {
+        return Verdict::Beneath;
+    }
+    match found {
+        Found::Nothing => Verdict::Counts,
+        Found::One(_) | Found::Several => Verdict::Twice,
     }
 }
 
-/// What becomes of the items of a block, each of which stands after its owner (own): of two items of one name at level
-/// 1, or in one structure, the later one is a fault, and neither it nor its members count.
-pub fn verdicts(alloc: Global, items: &[Written]) -> Result<Vec<Verdict>, AllocError>
-    ensures { IfOk result (λ verdicts. verdicts.items ≡ verdicts_of items.now) }
+/// An item that is judged.
+pub(crate) fn declared_as(item: Written, verdict: Verdict) -> Declared
+    ensures { result ≡ declared_as item verdict }
 {
-    let mut verdicts = Vec::with_capacity(alloc, items.len())?;
-    let mut seen = IndexSet::with_capacity(alloc, items.len())?;
-    for item in items {
-        let is_new = seen.insert(*item)?;
-        let above = counts_above(&verdicts, item.owner);
-        verdicts.push(judge(above, is_new))?;
+    Declared {
+        name: item.name,
+        owner: item.owner,
+        counts: matches!(verdict, Verdict::Counts),
     }
-    Ok(verdicts)
 }

@@ -1,12 +1,11 @@
 -- What blocks declare, one mark after another.
-use Rattle.std.proofs.Common.{◌≡◌, ◌≢◌, ℕ, suc, ◌+◌, ◌<◌, ◌==◌, ◌⊎◌, inl, inr, Bool, true, false, List, [], ◌∷◌, ◌++◌, length, map, get_or, set, append-nil, Option, None, Some, IfSome, if◌then◌else◌, Vec, Global, refl, sym, ap, ◌∙◌, arith}
+use Rattle.std.proofs.Common.{◌≡◌, ◌≢◌, ℕ, suc, ◌+◌, ◌<◌, ◌==◌, Bool, true, false, List, [], ◌∷◌, ◌++◌, length, map, get_or, set, append-nil, Option, None, Some, IfSome, if◌then◌else◌, Vec, Global, refl, sym, ap, ◌∙◌, arith}
 use Rattle.std.specs.Option.{unwrap_or}
 use Rattle.std.proofs.lemmas.Bool.Decides.{nat_tests}
 use Rattle.std.proofs.lemmas.List.{length-map, map-set, get_or-map, get_or-set_same, get_or-set_other}
 use Rattle.pli_declare_outline.specs.Outlines.{Region, PlacedMark}
 use Rattle.pli_declare_constructs.specs.Regions.{first_or_unit, block_of}
-use Rattle.pli_declare_scopes.specs.declared.repeat.Verdict.{Verdict}
-use Rattle.pli_declare.specs.Tables.{Entry, entries_of, entries_after, with_verdicts, numbers_from}
+use Rattle.pli_declare.specs.Tables.{Entry, entries_of, entries_after, numbers_from}
 use Rattle.pli_declare_tables.specs.views.TableView.{entries_view, blocks_view}
 use Rattle.pli_declare_tables.specs.declared.entry.Entry as declared
 
@@ -65,14 +64,3 @@ pub all_blocks : (f : ℕ → List Entry) (blocks : List (List Entry)) (n : ℕ)
     → blocks ≡ map f (numbers_from 0 n)
 all_blocks f blocks n count each =
     tabulated f blocks 0 (λ b lt. each b (omega (arith, lt)) ∙ ap f (let e : b ≡ 0 + b = omega arith in e)) ∙ ap (λ k. map f (numbers_from 0 k)) count
-
-no_verdicts : (es : List Entry) → with_verdicts es [] ≡ []
-no_verdicts [] = refl
-no_verdicts (e ∷ es) = refl
-
--- nothing is left where names or verdicts are at their end
-pub none_left : (es : List Entry) (vs : List Verdict) → (es ≡ []) ⊎ (vs ≡ []) → with_verdicts es vs ≡ []
-none_left es vs over = elim over [
-  | inl h ↦ ap (λ xs. with_verdicts xs vs) h
-  | inr h ↦ ap (with_verdicts es) h ∙ no_verdicts es
-]

@@ -1,2 +1,3 @@
 pub mod BlocksByMarks
+pub mod JudgedEntries
 pub mod TablesOfUnits

@@ -12,7 +12,7 @@ use crate::entries::{add_entry, declare};
 use crate::entry::{Entity, Entry};
 use pli_declare_constructs::Nesting;
 use pli_declare_outline::{Mark, Outline, PlacedMark};
-use pli_declare_scopes::{BlockItems, Declared, Verdict, Written, verdicts};
+use pli_declare_scopes::{BlockItems, Verdict, Written};
 use std::alloc::{AllocError, Global};
 
 /// What a block declares.
@@ -114,55 +114,26 @@ fn declared_outside<'a>(alloc: Global, outline: &Outline<'a>) -> Result<Vec<Entr
     Ok(entries)
 }
 
-/// Which of the names of a block count.
-fn verdicts_on(alloc: Global, entries: &[Entry<'_>]) -> Result<Vec<Verdict>, AllocError>
-    ensures { IfOk result (λ verdicts. verdicts.items ≡ verdicts_of (map written (entries_view entries.now))) }
-{
-    let mut items = Vec::with_capacity(alloc, entries.len())?;
-    for entry in entries {
-        items.push(Written {
-            name: entry.identifier.name,
-            owner: entry.owner,
-        })?;
-    }
-    verdicts(alloc, &items)
-}
-
-/// Declares the items of a block that declares nothing yet, as names are looked up in it.
+/// Declares the names of a block that declares nothing yet, as they are looked up in it. Gives which of them count.
 fn declare_names(
+    alloc: Global,
     block: &mut BlockItems,
     entries: &[Entry<'_>],
-    verdicts: &[Verdict],
-) -> Result<(), AllocError>
+) -> Result<Vec<Verdict>, AllocError>
     requires empty { block.old ≡ [] }
     requires after { AreAfterOwners (entries_view entries.now) }
-    ensures { OnOk result (block.new ≡ with_verdicts (entries_view entries.now) verdicts.now) }
+    ensures verdicts { IfOk result (λ verdicts. verdicts.items ≡ verdicts_of (map written (entries_view entries.now))) }
+    ensures block { IfOk result (λ verdicts. block.new ≡ with_verdicts (entries_view entries.now) verdicts.items) }
 {
-    for (entry, verdict) in entries.iter().zip(verdicts) {
-        block.declare(Declared {
+    let mut verdicts = Vec::with_capacity(alloc, entries.len())?;
+    for entry in entries {
+        let verdict = block.declare(Written {
             name: entry.identifier.name,
             owner: entry.owner,
-            counts: *verdict == Verdict::Counts,
         })?;
+        verdicts.push(verdict)?;
     }
-    Ok(())
-}
-
-/// The block, as names are looked up in it.
-fn block_with(
-    alloc: Global,
-    entries: &[Entry<'_>],
-    verdicts: &[Verdict],
-) -> Result<BlockItems, AllocError>
-    requires { AreAfterOwners (entries_view entries.now) }
-    ensures { IfOk result (λ block. block ≡ with_verdicts (entries_view entries.now) verdicts.now) }
-{
-    let mut block = BlockItems::with_room(alloc, entries.len())?;
-    if declare_names(&mut block, entries, verdicts).is_err() {
-        drop(block);
-        return Err(AllocError);
-    }
-    Ok(block)
+    Ok(verdicts)
 }
 
 impl<'a> Table<'a> {
@@ -171,8 +142,11 @@ impl<'a> Table<'a> {
         requires { AreAfterOwners (entries_view entries.items) }
         ensures { IfOk result (λ table. table_view table ≡ table_with (entries_view entries.entry.items)) }
     {
-        let verdicts = verdicts_on(alloc, &entries)?;
-        let block = block_with(alloc, &entries, &verdicts)?;
+        let mut block = BlockItems::with_room(alloc, entries.len())?;
+        let Ok(verdicts) = declare_names(alloc, &mut block, &entries) else {
+            drop(block);
+            return Err(AllocError);
+        };
         Ok(Table {
             entries,
             verdicts,

@@ -11,10 +11,8 @@ mod locators;
 mod places;
 mod returned;
 mod sizes;
-mod words;
 
 pub use declared::declare;
 pub use judged::{Judged, judge};
 pub use laws::descriptions_are_of_members;
 pub use returned::options_of;
-pub use words::is_built_in;

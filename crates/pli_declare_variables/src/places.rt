@@ -14,11 +14,10 @@ ghost use Rattle.pli_declare_variables.specs.answers.Walks.{has_members_at, abov
 ghost use Rattle.pli_declare_variables.specs.answers.Walks.{cut_place_in};
 
 use crate::items::{self, dimensions};
-use crate::words::is_built_in;
 use indexmap::IndexSet;
 use pli_base::Name;
 use pli_base::declaration::WrittenBounds;
-use pli_declare::{ItemPlace, Position};
+use pli_declare::{ItemPlace, Position, is_built_in};
 use pli_declare_attributes::elements_within;
 use pli_declare_tables::Entry;
 use std::alloc::{AllocError, AllocFailed, Global};

@@ -59,33 +59,32 @@ tables_are e [] = refl
 tables_are e (i ∷ is) = tables_are (with_instruction e i) is ∙ after_one e.tables i is
 
 -- a number that was given stays, whatever is numbered after it
-kept : (t : NumberedTables) (i : programs.Instruction) (is : List programs.Instruction) (n : ℕ) → Fits n i → emitted t i ≡ emitted (tables_after t (i ∷ is)) i
-kept t (op.Field offset d) is n h =
+kept : (t : NumberedTables) (i : programs.Instruction) (is : List programs.Instruction) → emitted t i ≡ emitted (tables_after t (i ∷ is)) i
+kept t (op.Field offset d) is =
     ap (λ k. op.Field offset (min k 65535)) (sym (first_number same_type same_type_decides t.descriptions (Stated d) (flat_map descriptions_named is)))
-kept t (op.Fit d) is n h = ap (λ k. op.Fit (min k 65535)) (sym (first_number same_type same_type_decides t.descriptions (Stated d) (flat_map descriptions_named is)))
-kept t (op.MakeDummy u) is n h =
+kept t (op.Fit d) is = ap (λ k. op.Fit (min k 65535)) (sym (first_number same_type same_type_decides t.descriptions (Stated d) (flat_map descriptions_named is)))
+kept t (op.MakeDummy u) is =
     ap (λ k. op.MakeDummy (min k 65535)) (sym (first_number same_template template_decides t.templates u (flat_map templates_named is)))
-kept t (op.Constant v) is n h =
+kept t (op.Constant v) is =
     ap (λ k. op.Constant (min k 65535)) (sym (first_number same_value value_decides t.values v (flat_map values_named is)))
-kept t (op.Based d) is n h = ap (λ k. op.Based (min k 65535)) (sym (first_number same_type same_type_decides t.descriptions (Stated d) (flat_map descriptions_named is)))
-kept t (op.FreeBased d) is n h = ap (λ k. op.FreeBased (min k 65535)) (sym (first_number same_type same_type_decides t.descriptions (Stated d) (flat_map descriptions_named is)))
-kept t (op.AllocateBased u) is n h =
+kept t (op.Based d) is = ap (λ k. op.Based (min k 65535)) (sym (first_number same_type same_type_decides t.descriptions (Stated d) (flat_map descriptions_named is)))
+kept t (op.FreeBased d) is = ap (λ k. op.FreeBased (min k 65535)) (sym (first_number same_type same_type_decides t.descriptions (Stated d) (flat_map descriptions_named is)))
+kept t (op.AllocateBased u) is =
     ap (λ k. op.AllocateBased (min k 65535)) (sym (first_number same_template template_decides t.templates u (flat_map templates_named is)))
-kept t (op.AllocateInArea u after) is n h =
-    ap (λ k. op.AllocateInArea (min k 65535) (min after 65535))
+kept t (op.AllocateInArea u target) is =
+    ap (λ k. op.AllocateInArea (min k 65535) (min target 65535))
     (sym (first_number same_template template_decides t.templates u (flat_map templates_named is)))
-kept t (op.Operate operation) is n h = refl
-kept t i is n h = refl
+kept t (op.Operate operation) is = refl
+kept t i is = refl
 
-pub code_is : (e : Emission) (is : List programs.Instruction) (n : ℕ) → AllByRecursion (Fits n) is
-    → (extended e is).code ≡ e.code ++ map (emitted (tables_after e.tables is)) is
+pub code_is : (e : Emission) (is : List programs.Instruction) → (extended e is).code ≡ e.code ++ map (emitted (tables_after e.tables is)) is
 unfolding with_instruction
-code_is e [] n h = sym (append-nil e.code)
-code_is e (i ∷ is) n h =
-    code_is (with_instruction e i) is n h.1
+code_is e [] = sym (append-nil e.code)
+code_is e (i ∷ is) =
+    code_is (with_instruction e i) is
     ∙ append_assoc e.code (emitted e.tables i ∷ []) (map (emitted (tables_after (tables_with e.tables i) is)) is)
     ∙ ap (λ t. e.code ++ emitted e.tables i ∷ map (emitted t) is) (after_one e.tables i is)
-    ∙ ap (λ x. e.code ++ x ∷ map (emitted (tables_after e.tables (i ∷ is))) is) (kept e.tables i is n h.0)
+    ∙ ap (λ x. e.code ++ x ∷ map (emitted (tables_after e.tables (i ∷ is))) is) (kept e.tables i is)
 
 -- GOTOs without targets
 abbrev pub gotos_in : List programs.Instruction → (at : ℕ) → List LabelJump
@@ -190,8 +189,8 @@ module _ (t : NumberedTables) (place : ℕ → ℕ) where
     whole (op.Fit d) h f = ap op.Fit (description_cut d)
     whole (op.FreeBased d) h f = ap op.FreeBased (description_cut d)
     whole (op.AllocateBased u) h f = ap op.AllocateBased (template_cut u)
-    whole (op.AllocateInArea u after) h f =
-        ap (λ n. op.AllocateInArea n (min after 65535)) (template_cut u) ∙ ap (op.AllocateInArea (number_in same_template t.templates u)) (cut after h)
+    whole (op.AllocateInArea u target) h f =
+        ap (λ n. op.AllocateInArea n (min target 65535)) (template_cut u) ∙ ap (op.AllocateInArea (number_in same_template t.templates u)) (cut target h)
     whole (op.MakeDummy u) h f = ap op.MakeDummy (template_cut u)
     whole (op.Constant v) h f = let k = number_within same_value t.values v in ap op.Constant (cut _ (omega (arith, k, few_values)))
     whole (op.AllocateControlled global) h f = ap op.AllocateControlled (cut_short global f)

@@ -5,6 +5,7 @@ pub mod FieldLemmas
 pub mod FormCode
 pub mod IterationCode
 pub mod LimitLemmas
+pub mod NumbersFound
 pub mod SimpleCode
 pub mod StepPlaces
 pub mod TablesLookUp

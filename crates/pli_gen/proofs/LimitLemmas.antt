@@ -10,7 +10,7 @@ use Rattle.pli_map.specs.Description as tree
 use Rattle.pli_map.specs.Description.{Description}
 use Rattle.pli_map.specs.ParameterTypes.{ParameterType, Stated, same_type, stated}
 use Rattle.pli_map.specs.laws.ParameterLaws.{same_type_decides}
-use Rattle.pli_program.specs.Program as op
+use Rattle.pli_program.specs.Program as programs
 use Rattle.pli_map.specs.declared.description.Description as program
 use Rattle.pli_map.specs.declared.description.Description.TheVariants as made
 use Rattle.pli_map.specs.declared.description.Description.TheFolds as folds
@@ -120,7 +120,7 @@ four_apart : (x y z w v : Bool) → (x || (y || z || w || v)) ≡ (x || y || z |
 four_apart x y z w v = or_apart x (y || z || w) v ∙ ap (λ c. c || v) (three_apart x y z w)
 
 -- the limits of a unit, in three parts
-module _ (t : NumberedTables) (u : TypedUnit) (bs : List BlockTree) (code : List op.Instruction) (stand : HaveDescriptions t) where
+module _ (t : NumberedTables) (u : TypedUnit) (bs : List BlockTree) (code : List programs.Instruction) (stand : HaveDescriptions t) where
   abbrev pub long_tables : Bool
   long_tables = is_over t.descriptions || is_over t.templates || is_over t.values
 
@@ -185,7 +185,7 @@ negated false h = absurd (true≢false h)
 pub few : (limit n : ℕ) → nat_lt limit n ≡ false → n ≤ limit
 few limit n h = grind (arith, nat_tests)
 
-pub record Short (t : NumberedTables) (u : TypedUnit) (bs : List BlockTree) (code : List op.Instruction) : Type 0 where
+pub record Short (t : NumberedTables) (u : TypedUnit) (bs : List BlockTree) (code : List programs.Instruction) : Type 0 where
   pub descriptions : length t.descriptions ≤ 65535
   pub templates : length t.templates ≤ 65535
   pub values : length t.values ≤ 65535
@@ -198,7 +198,7 @@ pub record Short (t : NumberedTables) (u : TypedUnit) (bs : List BlockTree) (cod
   pub block_numbers : list_all block_fits bs ≡ true
   pub code_numbers : list_all instruction_fits code ≡ true
 
-pub short_parts : (t : NumberedTables) (u : TypedUnit) (bs : List BlockTree) (code : List op.Instruction) → is_too_long (coded_unit t u bs code) ≡ false → Short t u bs code
+pub short_parts : (t : NumberedTables) (u : TypedUnit) (bs : List BlockTree) (code : List programs.Instruction) → is_too_long (coded_unit t u bs code) ≡ false → Short t u bs code
 short_parts t u bs code h =
     let c = coded_unit t u bs code in
     let no_wide = none_of _ _ h in

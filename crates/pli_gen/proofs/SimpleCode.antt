@@ -17,7 +17,7 @@ abbrev pub IsSimple : programs.Instruction → Type 0
 IsSimple (op.Step s) = ⊥
 IsSimple (op.Jump target) = ⊥
 IsSimple (op.JumpUnless target) = ⊥
-IsSimple (op.AllocateInArea t after) = ⊥
+IsSimple (op.AllocateInArea t target) = ⊥
 IsSimple i = Unit {0}
 
 abbrev pub AllSimple : List programs.Instruction → Type 0
@@ -123,7 +123,7 @@ skip_simple false = tt
 one_fits : (i : programs.Instruction) (n : ℕ) → IsSimple i → Fits n i
 one_fits (op.Jump target) n h = absurd h
 one_fits (op.JumpUnless target) n h = absurd h
-one_fits (op.AllocateInArea t after) n h = absurd h
+one_fits (op.AllocateInArea t target) n h = absurd h
 one_fits i n h = tt
 
 pub simple_fits : (is : List programs.Instruction) (n : ℕ) → AllSimple is → AllByRecursion (Fits n) is

@@ -80,7 +80,7 @@ module _ (tables : NumberedTables) (u : TypedUnit) (bs : List BlockTree) (code :
   instruction_there (op.Fit d) ds ts vs = ap (option_map op.Fit) (description_there d ds.0)
   instruction_there (op.Based d) ds ts vs = ap (option_map op.Based) (description_there d ds.0)
   instruction_there (op.AllocateBased t) ds ts vs = ap (option_map op.AllocateBased) (template_there t ts.0 ds.0)
-  instruction_there (op.AllocateInArea t after) ds ts vs = ap (option_map (λ t. op.AllocateInArea t after)) (template_there t ts.0 ds.0)
+  instruction_there (op.AllocateInArea t target) ds ts vs = ap (option_map (λ t. op.AllocateInArea t target)) (template_there t ts.0 ds.0)
   instruction_there (op.FreeBased d) ds ts vs = ap (option_map op.FreeBased) (description_there d ds.0)
   instruction_there i ds ts vs = refl
 

@@ -2,7 +2,7 @@
 use Rattle.std.proofs.Common.{◌≡◌, ◌++◌, ℕ, ◌≤◌, ◌∙◌, not, Bool, true, false, List, [], map, length, refl, sym, ap, subst, arith}
 use Rattle.std.specs.List.{flat_map, list_all}
 use Rattle.pli_map.specs.ParameterTypes.{Stated, same_type}
-use Rattle.pli_program.specs.Program as op
+use Rattle.pli_program.specs.Program as programs
 use Rattle.pli_type_keys.specs.Same.{same_template}
 use Rattle.pli_type_tree.specs.TypedTree.{TypedUnit}
 use Rattle.pli_code.specs.CodedInstruction.{Instruction}
@@ -30,7 +30,7 @@ module _ (u : TypedUnit) (e : Emitted) (made : IsEmitted u e) where
   abbrev pub blocks : List BlockTree
   blocks = block_trees e.blocks.items
 
-  abbrev pub code : List op.Instruction
+  abbrev pub code : List programs.Instruction
   code = blocks_code blocks 0
 
   abbrev pub tables : NumberedTables
@@ -87,7 +87,7 @@ module _ (u : TypedUnit) (e : Emitted) (made : IsEmitted u e) where
       let all = map (emitted tables) code in
       let place : ℕ → ℕ = λ n. first_step all 0 n 0 in
       let emitted_so : mid ≡ all =
-      is ∙ ap (λ (s : Emission). s.code) made.code ∙ code_is before code 65535 fits ∙ ap (λ t. map (emitted t) code) (sym after) in
+      is ∙ ap (λ (s : Emission). s.code) made.code ∙ code_is before code ∙ ap (λ t. map (emitted t) code) (sym after) in
       let gotos : e.emitter.gotos.items ≡ gotos_in code 0 = ap (λ (s : Emission). s.gotos) made.code ∙ gotos_are before code in
       let begin : (n : ℕ) → place n ≡ step_place code 0 n 0 = λ n. steps_emitted tables code 0 n 0 in
       let near : (n : ℕ) → place n ≤ 65535 = λ n. subst (λ k. k ≤ 65535) (sym (begin n)) (places_fit code n 65535 s.instructions) in

@@ -59,7 +59,7 @@ module _ (ds : List ParameterType) where
   templates_stand [] h = tt
   templates_stand (op.MakeDummy t ∷ is) h = (h.0, templates_stand is h.1)
   templates_stand (op.AllocateBased t ∷ is) h = (h.0, templates_stand is h.1)
-  templates_stand (op.AllocateInArea t after ∷ is) h = (h.0, templates_stand is h.1)
+  templates_stand (op.AllocateInArea t target ∷ is) h = (h.0, templates_stand is h.1)
   templates_stand (i ∷ is) h = templates_stand is (all_back (Has same_type same_type_decides ds) (descriptions_named i) (flat_map descriptions_named is) h)
 
 -- each template's description is in its table

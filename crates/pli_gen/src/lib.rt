@@ -13,4 +13,4 @@ mod unit;
 
 pub use examples::worked_examples;
 pub use generating::{GenerateError, generate};
-pub use laws::code_is_looked_up;
+pub use laws::{code_is_looked_up, numbers_are_found};

@@ -10,6 +10,7 @@ use Rattle.pli_value.specs.Value.{Value}
 use Rattle.pli_operation.specs.declared.operation.Operation.TheVariants.{Add, Within}
 use Rattle.pli_run.specs.declared.ending.RunError.TheVariants.{NoReturnedValue}
 use Rattle.pli_program.specs.Program as programs
+use Rattle.pli_program.specs.Templates.{dummy}
 use Rattle.pli_program.specs.declared.instruction.Instruction.TheVariants as op
 use Rattle.pli_type_tree.specs.Iterations.{kept_by, limit_number, step_number, is_iterated}
 use Rattle.pli_type_tree.specs.Templates.{Template}
@@ -19,7 +20,7 @@ use Rattle.pli_type_tree.specs.TypedTree.{TypedExpression, TypedReference, Root,
 use Rattle.pli_code.specs.CodedInstruction.{Instruction}
 use Rattle.pli_gen_emit.specs.BlockTrees.{BlockTree, argument_count, blocks_of}
 use Rattle.pli_gen_emit.specs.Items.{Entry, NoEntry, OfDescription, OfTemplate, OfValue, Target, NoTarget, Ahead, Back, Labelled, Item, Label, Make, plain, leading, size, label_place, place_of}
-use Rattle.pli_gen_emit.specs.Tables.{NumberedTables, numbered, dummy, signature_descriptions, global_descriptions, global_templates, block_templates, template_number, coded_block}
+use Rattle.pli_gen_emit.specs.Tables.{NumberedTables, numbered, signature_descriptions, global_descriptions, global_templates, block_templates, template_number, coded_block}
 use Rattle.pli_gen_emit.specs.Translation as items
 use Rattle.pli_gen_emit.specs.Coding.{description_in, template_in, value_in, tables_of, entry_number, instructions_from, blocks_from, unit_of}
 use Rattle.pli_gen_emit.specs.Coding as by_items
@@ -184,7 +185,7 @@ is_plain (op.Constant v) = false
 is_plain (op.MakeDummy t) = false
 is_plain (op.Fit d) = false
 is_plain (op.AllocateBased t) = false
-is_plain (op.AllocateInArea t after) = false
+is_plain (op.AllocateInArea t target) = false
 is_plain (op.FreeBased d) = false
 is_plain other = true
 
@@ -201,7 +202,7 @@ plain_makes p (op.Constant v) h = absurd cc
 plain_makes p (op.MakeDummy t) h = absurd cc
 plain_makes p (op.Fit d) h = absurd cc
 plain_makes p (op.AllocateBased t) h = absurd cc
-plain_makes p (op.AllocateInArea t after) h = absurd cc
+plain_makes p (op.AllocateInArea t target) h = absurd cc
 plain_makes p (op.FreeBased d) h = absurd cc
 plain_makes p other h = record { description = refl; template = refl; value = refl; makes = λ tables all places agree. refl }
 

@@ -1,6 +1,6 @@
 -- Instructions that name entries of tables.
 use Rattle.std.proofs.Common.{◌≡◌, ◌++◌, ◌∷◌, [], ◌||◌, not, Bool, true, false, List, length, ap, ◌∙◌}
-use Rattle.pli_program.specs.Program as op
+use Rattle.pli_program.specs.Program as programs
 use Rattle.pli_code.specs.CodedInstruction.{Instruction}
 use Rattle.pli_gen_emit.specs.Encoding.{NumberedTables, descriptions_named, templates_named, values_named}
 use Rattle.pli_gen_emit.specs.answers.Emitting.{Emission, tables_with, emitted, gotos_with, with_instruction, Emits, Puts}
@@ -12,7 +12,7 @@ use Rattle.pli_gen_emit.specs.views.TableView.{tables_view}
 use Rattle.pli_gen_emit.proofs.KeyLemmas.{same_tables}
 
 -- what it names is numbered, and then it is put
-pub named_emitted : (old mid new : Emitter) (i : op.Instruction) (x : Instruction)
+pub named_emitted : (old mid new : Emitter) (i : programs.Instruction) (x : Instruction)
     → Numbers old.tables mid.tables (descriptions_named i) (templates_named i) (values_named i)
     → (mid.tables.lacks_memory ≡ false → x ≡ emitted (tables_view old.tables) i)
     → mid.code.items ≡ old.code.items → mid.gotos.items ≡ gotos_with old.gotos.items (length old.code.items) i

@@ -3,6 +3,7 @@ use Rattle.std.proofs.Common.{◌≡◌, ◌++◌, ◌∷◌, [], ℕ, suc, List
 use Rattle.std.proofs.lemmas.List.{append-nil, append_assoc}
 use Rattle.pli_map.specs.declared.description.Description.{Description}
 use Rattle.pli_map.specs.views.DescriptionView.{description_view}
+use Rattle.pli_program.specs.Templates.{dummy}
 use Rattle.pli_program.specs.declared.instruction.Instruction.TheVariants as op
 use Rattle.pli_type_tree.specs.TypedTree.{TypedArguments, NoArgument}
 use Rattle.pli_type_tree.specs.views.TypedView.{root_view, callee_view, operation_view, expression_view, reference_view, argument_before, operands_view, subscripts_view, arguments_view}
@@ -14,7 +15,6 @@ use Rattle.pli_type_tree.specs.declared.expression.TypedOperation.{TypedOperatio
 use Rattle.pli_type_tree.specs.declared.expression.TypedReference.{TypedReference, Part, ElementOf}
 use Rattle.pli_type_tree.specs.declared.expression.TypedSubscript.{TypedSubscript}
 use Rattle.pli_type_tree.specs.declared.expression.TypedArgument.{TypedArgument, ByPlace, ByDummy, ByString}
-use Rattle.pli_gen_emit.specs.Tables.{dummy}
 use Rattle.pli_gen_emit.specs.TreeTranslation.{argument_count, root_code, call_instruction, operation_code, value_code, place_code, operands_code, subscripts_code, dimensions_code, arguments_code}
 
 pub operation_code_made : (operation : TypedOperation) (operands : Vec TypedExpression Global)

@@ -11,7 +11,7 @@ use Rattle.pli_type_tree.specs.TypedTree.{TypedUnit}
 use Rattle.pli_type_keys.specs.Same.{same_value, same_template}
 use Rattle.pli_code.specs.Decks.{CodedBlock, Code}
 use Rattle.pli_code.specs.CodedInstruction.{Instruction}
-pub use Rattle.pli_gen_emit.specs.Tables.{numbered, number_in, dummy, signature_descriptions}
+pub use Rattle.pli_gen_emit.specs.Tables.{numbered, number_in, signature_descriptions}
 pub use Rattle.pli_gen_emit.specs.Tables.{global_descriptions, global_templates, block_templates}
 pub use Rattle.pli_gen_emit.specs.Tables.{NumberedTables, description_number, stated_number}
 pub use Rattle.pli_gen_emit.specs.Tables.{template_number, template_code, signature_code, global_code}
@@ -25,7 +25,7 @@ descriptions_named (op.Based d) = Stated d ∷ []
 descriptions_named (op.MakeDummy t) = Stated t.description ∷ []
 descriptions_named (op.Fit d) = Stated d ∷ []
 descriptions_named (op.AllocateBased t) = Stated t.description ∷ []
-descriptions_named (op.AllocateInArea t after) = Stated t.description ∷ []
+descriptions_named (op.AllocateInArea t target) = Stated t.description ∷ []
 descriptions_named (op.FreeBased d) = Stated d ∷ []
 descriptions_named i = []
 
@@ -33,7 +33,7 @@ descriptions_named i = []
 abbrev pub templates_named : programs.Instruction → List Template
 templates_named (op.MakeDummy t) = t ∷ []
 templates_named (op.AllocateBased t) = t ∷ []
-templates_named (op.AllocateInArea t after) = t ∷ []
+templates_named (op.AllocateInArea t target) = t ∷ []
 templates_named i = []
 
 -- the values that it names
@@ -59,7 +59,7 @@ module _ (tables : NumberedTables) where
   -- an instruction with numbers in place of what it names
   abbrev pub instruction_code : programs.Instruction → Instruction
   instruction_code i =
-      named (λ X. X) (λ X x. x) (λ X Y f x. f x) (stated_number tables) (template_number tables)
+      named (λ X. X) (λ j. j) (λ X f x. f x) (stated_number tables) (template_number tables)
       (number_in same_value tables.values) i
 
   -- blocks whose code stands one after the other

@@ -3,7 +3,6 @@
 use Rattle.std.specs.Prelude.{ℕ, suc, Bool, option_map, List, [], ◌∷◌, ◌++◌, map, if◌then◌else◌}
 use Rattle.std.specs.List.{flat_map, list_any}
 use Rattle.pli_map.specs.Description.{Description}
-pub use Rattle.pli_program.specs.Templates.{dummy}
 use Rattle.pli_map.specs.ParameterTypes.{ParameterType, Stated, same_type}
 use Rattle.pli_value.specs.Value.{Value}
 use Rattle.pli_type_tree.specs.Templates.{Template}

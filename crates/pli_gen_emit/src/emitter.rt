@@ -3,12 +3,12 @@
 
 ghost use Rattle.std.specs.Prelude.{◌≡◌, ◌+◌, ◌∷◌, [], length, min, pos, true};
 ghost use Rattle.pli_map.specs.views.DescriptionView.{description_view};
+ghost use Rattle.pli_program.specs.Templates.{dummy};
 ghost use Rattle.pli_program.specs.declared.instruction.Instruction.TheVariants as op;
 ghost use Rattle.pli_type_tree.specs.views.TemplateView.{template_view};
 ghost use Rattle.pli_type_tree.specs.views.TypedView.{callee_view, operation_view};
 ghost use Rattle.pli_value.specs.Value.{Number, value_view};
 ghost use Rattle.pli_code.specs.CodeTables.{there};
-ghost use Rattle.pli_gen_emit.specs.Tables.{dummy};
 ghost use Rattle.pli_gen_emit.specs.TreeTranslation.{call_instruction, operation_code};
 ghost use Rattle.pli_gen_emit.specs.answers.Emitting.{Puts, Emits, Lands, LandsGuard, shared, is_shared};
 
@@ -230,11 +230,11 @@ impl<'a> Emitter<'a> {
 
     /// Appends what makes a block of an area for a BASED variable. After a unit of the AREA condition the code at this
     /// place goes on.
-    pub(crate) fn allocate_in_area(&mut self, template: &'a Template, after: usize)
-        ensures { Emits self.old self.new (op.AllocateInArea (template_view template.now) after ∷ []) }
+    pub(crate) fn allocate_in_area(&mut self, template: &'a Template, target: usize)
+        ensures { Emits self.old self.new (op.AllocateInArea (template_view template.now) target ∷ []) }
     {
         let template = number_used(&mut self.tables, template);
-        let target = short(after);
+        let target = short(target);
         self.put(true, Instruction::AllocateInArea { template, target });
     }
 

@@ -9,7 +9,7 @@ use Rattle.pli_program.specs.declared.instruction.Instruction.TheVariants as op
 use Rattle.pli_base.specs.Name.{Name}
 use Rattle.pli_base.specs.declared.statement.Condition.{Condition}
 use Rattle.pli_operation.specs.declared.operation.Operation.TheVariants.{Add, Within}
-use Rattle.pli_program.specs.Program.{is_on_unit, Instruction, Block, UnitCode, instruction_at}
+use Rattle.pli_program.specs.Program.{is_on_unit, Instruction, Block, UnitCode, performed_at}
 use Rattle.pli_program.specs.Templates.{dummy}
 use Rattle.pli_type_tree.specs.TypedTree.{TypedOperation, Fit, Operate, Root, InSlot, OfProgram, NewestOf, Located, TypedExpression, Literal, Held, Calculated, Called, Generations, Address, AsPointer, AsOffset, Bounded, TypedReference, Whole, Part, ElementOf, Operands, NoOperand, OperandThen}
 use Rattle.pli_type_tree.specs.TypedTree.{Subscripts, NoSubscript, SubscriptThen, TypedArguments, NoArgument, ByPlace, ByDummy, ByString, TypedStatement, Statement}
@@ -17,9 +17,9 @@ use Rattle.pli_type_tree.specs.TypedTree.{Conversion, ByOperations, AsPointerIn,
 use Rattle.pli_type_tree.specs.Iterations.{kept_by, limit_number, step_number, is_iterated}
 use Rattle.pli_type_tree.specs.TypedTree.{Iteration, TypedRange, Once, ToBy, ByTo, Repeated, RepeatedString}
 use Rattle.pli_type_tree.specs.TypedTree.{Callee, OfBlock, OfEntry, Global, OwnVariable, ExternalVariable, EntryPoint}
-use Rattle.pli_type_tree.specs.TypedTree.{OtherWise, NoElse, Else, TypedStatements, NoStatement, StatementThen, TypedProcedure, TypedUnit}
+use Rattle.pli_type_tree.specs.TypedTree.{NoElse, Else, TypedStatements, NoStatement, StatementThen, TypedProcedure, TypedUnit}
 use Rattle.pli_gen_emit.specs.TreeTranslation.{argument_count, root_code, call_instruction, operation_code, value_code, place_code, operands_code, subscripts_code, dimensions_code, arguments_code, call_code, skip_code, items_code, operations_code, conversion_code, allocation_code, allocations_code, freeing_code, freeings_code, place_after}
-use Rattle.pli_gen_emit.specs.TreeTranslation.{statement_code, form_code, list_code, places_in, places_in_form, places_in_else, places_among, statement_place, with_target, BlockTree, begin_block}
+use Rattle.pli_gen_emit.specs.TreeTranslation.{statement_code, form_code, list_code, places_in, places_in_form, places_among, statement_place, with_target, BlockTree, begin_block}
 use Rattle.pli_gen_emit.specs.TreeTranslation.{blocks_in, blocks_of_form, blocks_among, blocks_of_procedure, blocks_of, end_code, block_code, blocks_code, places_of, block_at, blocks_at, instructions_of, globals_code, unit_code}
 use Rattle.pli_gen_emit.specs.TreeTranslation.{keeps_code, sets_code, start_code, test_against, limit_test, while_test, guarded, tests_code, advances_code, back_code}
 use Rattle.pli_gen_emit.specs.TreeTranslation.{turn_place, list_place}
@@ -60,7 +60,7 @@ module _ (u : UnitCode) (places : List (ℕ × ℕ)) (unit : ℕ) (at : Label �
   -- this code stands at a place, with the targets of its jumps
   abbrev Stand : List Instruction → ℕ → Type 0
   Stand [] p = Unit {0}
-  Stand (i ∷ is) p = (instruction_at u p ≡ Some (with_target places i)) × Stand is (suc p)
+  Stand (i ∷ is) p = (performed_at u p ≡ Some (with_target places i)) × Stand is (suc p)
 
   split : (xs ys : List Instruction) (p : ℕ) → Stand (xs ++ ys) p → Stand xs p × Stand ys (place_after xs p)
   split [] ys p h = (tt, h)
@@ -110,8 +110,8 @@ module _ (u : UnitCode) (places : List (ℕ × ℕ)) (unit : ℕ) (at : Label �
 
   -- a call after its arguments
   called : (callee : Callee) (args : TypedArguments) → Made (call_instruction callee (argument_count args) ∷ []) (stand.Is u (stand.call_of callee (arguments_in args)))
-  called (OfBlock block) args p h = record { here = subst (λ n. instruction_at u p ≡ Some (op.Call block n)) (counts args) h.0; ends = refl }
-  called (OfEntry number) args p h = record { here = subst (λ n. instruction_at u p ≡ Some (op.CallExternal number n)) (counts args) h.0; ends = refl }
+  called (OfBlock block) args p h = record { here = subst (λ n. performed_at u p ≡ Some (op.Call block n)) (counts args) h.0; ends = refl }
+  called (OfEntry number) args p h = record { here = subst (λ n. performed_at u p ≡ Some (op.CallExternal number n)) (counts args) h.0; ends = refl }
 
   call_stands : (callee : Callee) (args : TypedArguments) → Made (arguments_code args) (stand.ArgumentsStand u args)
       → Made (call_code callee args) (Then (stand.ArgumentsStand u args) (stand.Is u (stand.call_of callee (arguments_in args))))
@@ -189,7 +189,7 @@ module _ (u : UnitCode) (places : List (ℕ × ℕ)) (unit : ℕ) (at : Label �
 
   -- a condition, whose jump leads to a place that is no earlier
   test_stands : (e : TypedExpression) (target p : ℕ) → suc (place_after (value_code e) p) ≤ target → Stand (value_code e) p
-      → instruction_at u (place_after (value_code e) p) ≡ Some (op.JumpUnless target)
+      → performed_at u (place_after (value_code e) p) ≡ Some (op.JumpUnless target)
       → stand.ConditionStands u e target p (suc (place_after (value_code e) p))
   test_stands e target p le test jump =
       record { middle = place_after (value_code e) p; fst = value_stands e p test; snd = record { is = record { here = jump; ends = refl }; on = le } }
@@ -410,7 +410,7 @@ module _ (u : UnitCode) (places : List (ℕ × ℕ)) (unit : ℕ) (at : Label �
                 fst = record { here = s.1.1.1.1.0; ends = refl };
                 snd = record {
                   is = record {
-                    here = subst (λ k. instruction_at u k ≡ Some (op.JumpUnless target)) e r.1.0;
+                    here = subst (λ k. performed_at u k ≡ Some (op.JumpUnless target)) e r.1.0;
                     ends = sym (after_both (place ++ four) jump p ∙ ap suc e);
                   };
                   on = le;
@@ -459,7 +459,7 @@ module _ (u : UnitCode) (places : List (ℕ × ℕ)) (unit : ℕ) (at : Label �
   turns_stand : (iterated : Bool) (i : Iteration) (number : ℕ) (between : List Instruction) (B : Span) → Made between B → (list : Context → Span) (c : Context) (p q finish : ℕ)
       → q ≤ finish → suc (place_after (tests_code i (place_after (back_code iterated number between p) finish)) p) ≡ q
       → Stand (tests_code i (place_after (back_code iterated number between p) finish)) p
-      → instruction_at u (place_after (tests_code i (place_after (back_code iterated number between p) finish)) p) ≡ Some (op.Step number)
+      → performed_at u (place_after (tests_code i (place_after (back_code iterated number between p) finish)) p) ≡ Some (op.Step number)
       → Turned iterated list c q finish → Stand (back_code iterated number between p) finish
       → stand.TurnsStand u iterated (stand.TestStands u i) (λ c. Then (stand.Is u (op.Step number)) (list c)) (Then (stand.Is u (op.Line number)) B) c
       p (place_after (back_code iterated number between p) finish)
@@ -507,12 +507,12 @@ module _ (u : UnitCode) (places : List (ℕ × ℕ)) (unit : ℕ) (at : Label �
   end_stands (Some s) = before (op.Line s) (op.Raise NoReturnedValue ∷ []) (stand.Is u (op.Raise NoReturnedValue)) (one (op.Raise NoReturnedValue))
 
   -- code that a unit has from a place on
-  stand_all : (is : List Instruction) (p : ℕ) → ((k : ℕ) → instruction_at u (p + k) ≡ slice_get (map (with_target places) is) k) → Stand is p
+  stand_all : (is : List Instruction) (p : ℕ) → ((k : ℕ) → performed_at u (p + k) ≡ slice_get (map (with_target places) is) k) → Stand is p
   stand_all [] p h = tt
   stand_all (i ∷ is) p h =
       let here : p ≡ p + 0 = omega arith in
       let next : (k : ℕ) → suc p + k ≡ p + suc k = λ k. omega arith in
-      (ap (instruction_at u) here ∙ h 0, stand_all is (suc p) (λ k. ap (instruction_at u) (next k) ∙ h (suc k)))
+      (ap (performed_at u) here ∙ h 0, stand_all is (suc p) (λ k. ap (performed_at u) (next k) ∙ h (suc k)))
 
   -- among all blocks of a unit, each of which is found by its number
   module _ (all : List BlockTree) (find : (i : ℕ) (b : BlockTree) → slice_get all i ≡ Some b → Found (slice_get u.blocks i) b) where
@@ -749,7 +749,7 @@ unit_stands program names at unit t links well linked lead =
     let u = unit_code t links in
     let code = blocks_code bs 0 in
     let zero_and : (k : ℕ) → 0 + k ≡ k = λ k. omega arith in
-    let all = stand_all u places unit at lead code 0 (λ k. ap (instruction_at u) (zero_and k) ∙ each_there (instructions_of bs) k) in
+    let all = stand_all u places unit at lead code 0 (λ k. ap (performed_at u) (zero_and k) ∙ each_there (instructions_of bs) k) in
     let find = found u places unit at lead bs 0 (slice_get u.blocks) all (λ i. refl) (each_has_its_place places (subst AreDistinct (sym (numbered_blocks bs 0)) well.statements)) in
     record {
       names = refl;

@@ -27,6 +27,7 @@ use std::alloc::Global;
 const BLOCK_BYTES: u64 = 16_777_216;
 
 /// What lives at a position of a generation: at 0 the generation. `DeadLocator` where nothing does.
+#[inline(always)]
 fn living_at<'m>(
     storage: &Storage<'m>,
     generation: u32,
@@ -42,6 +43,7 @@ fn living_at<'m>(
 }
 
 /// What lives, if it has this whole description; `DescriptionMismatch` where it has another.
+#[inline(always)]
 fn of_description<'m>(
     living: Target<'m>,
     description: &Description,
@@ -59,6 +61,7 @@ fn of_description<'m>(
 /// What a locator leads to, where a variable of this description is asked for. `NullLocator` for the null pointer,
 /// `DeadLocator` where nothing lives there, `DescriptionMismatch` where what lives has another whole description;
 /// `NoRule` for an offset.
+#[inline(always)]
 fn located<'m>(
     storage: &Storage<'m>,
     description: &Description,
@@ -78,6 +81,7 @@ fn located<'m>(
 }
 
 /// The pointer to what a place is the whole of.
+#[inline(always)]
 fn pointer_to(place: Place<'_>) -> Locator
     ensures { result ≡ pointer_to (place_view place.entry) }
 {
@@ -90,6 +94,7 @@ fn pointer_to(place: Place<'_>) -> Locator
 /// The place of a BASED variable of this description by a locator. `NullLocator` for the null pointer, `DeadLocator`
 /// where nothing lives there, `DescriptionMismatch` where what lives has another whole description; `NoRule` for an
 /// offset.
+#[inline]
 pub fn based<'m>(
     storage: &Storage<'m>,
     description: &Description,
@@ -106,6 +111,7 @@ pub fn based<'m>(
 /// Its scalars begin with these initial values, and those without one as their types have it; where the bytes of all
 /// that were laid before, they are handed over and copied. `StorageLimit` where there is no room for the generation, or
 /// `OutOfMemory`. After an error nothing has changed.
+#[inline]
 pub fn allocate_based<'m>(
     alloc: Global,
     storage: &mut Storage<'m>,
@@ -135,6 +141,7 @@ pub fn allocate_based<'m>(
 /// the block that the place leads into, `DescriptionMismatch` where a block has another whole description, `NoRule`
 /// where the place is no whole area; else `Area` where no position fits, and `OutOfMemory`. After an error nothing has
 /// changed.
+#[inline]
 pub fn allocate_in<'m>(
     alloc: Global,
     storage: &mut Storage<'m>,
@@ -190,12 +197,13 @@ fn allocate_anew_in<'m>(
 }
 
 /// What a place is the whole of ends: a generation, with all that lies in it, or a block of one.
+#[inline(always)]
 fn end_whole(storage: &mut Storage<'_>, place: Place<'_>)
     ensures storage { storage_view storage.new ≡ without_whole (place_view place.entry) (storage_view storage.old) }
     ensures made { made_count storage.new ≡ made_count storage.old }
 {
     if place.position == 0 {
-        storage.end(&[place.generation]);
+        storage.end_one(place.generation);
     } else {
         storage.free_block(place);
     }
@@ -204,6 +212,7 @@ fn end_whole(storage: &mut Storage<'_>, place: Place<'_>)
 /// FREE of a BASED variable of this description by a locator: the generation or the block to which it leads ends.
 /// `NullLocator`, `DeadLocator`, `DescriptionMismatch` and `NoRule` as for the place, and `DescriptionMismatch` where
 /// no ALLOCATE of a BASED variable has made the generation. After an error nothing has changed.
+#[inline]
 pub fn free_based(
     storage: &mut Storage<'_>,
     description: &Description,

@@ -1,5 +1,8 @@
 pub mod Activated
 pub mod Begun
+pub mod DummyCalls
+pub mod EmptyLists
+pub mod Handing
 pub mod LaidTemplates
 pub mod Making
 pub mod Served

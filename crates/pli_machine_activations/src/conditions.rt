@@ -178,7 +178,7 @@ fn run_block<'m>(
 {
     match block_at(ready.code, handler.block) {
         Some(block) => {
-            let places = machine.spare.take_slots(alloc);
+            let lists = machine.spare.take(alloc)?;
             call_block(
                 alloc,
                 ready,
@@ -187,7 +187,7 @@ fn run_block<'m>(
                 handler.block,
                 block,
                 handler.link,
-                places,
+                lists,
                 again,
             )
         }

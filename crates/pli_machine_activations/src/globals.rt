@@ -54,6 +54,7 @@ pub fn static_place<'m>(unit: &ActiveUnit<'_, 'm>, number: usize) -> Option<Plac
 }
 
 /// The stack of the CONTROLLED variable of a number.
+#[inline(always)]
 fn stack_in(globals: &[LinkedGlobal<'_>], number: usize) -> Option<usize>
     ensures { result ≡ stack_at (standing_of (slice_get globals.now number)) }
 {
@@ -66,6 +67,7 @@ fn stack_in(globals: &[LinkedGlobal<'_>], number: usize) -> Option<usize>
 }
 
 /// The number of the stack of the CONTROLLED variable of a number among the globals of a unit.
+#[inline(always)]
 pub fn static_stack(unit: &ActiveUnit<'_, '_>, number: usize) -> Option<usize>
     ensures { stack_at (static_in (image_of unit.now.loaded.now).statics unit.now.number number) ≡ result }
 {

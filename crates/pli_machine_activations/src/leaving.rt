@@ -14,21 +14,30 @@ use std::alloc::{AllocError, Global};
 use std::mem;
 
 /// Ends the newest activation, where one waits for it, which is to go on as it waited; else the machine stays as it is.
+#[inline(always)]
+fn leave_at_once(machine: &mut Machine) -> bool
+    ensures leaves { Leaves result machine.old machine.new }
+    ensures fewer { result ≡ true → length machine.new.waiting.items < length machine.old.waiting.items }
+{
+    if machine.waiting.is_empty() {
+        return false;
+    }
+    machine.storage.end(&machine.here.room.pending);
+    machine.storage.end(&machine.here.room.owned);
+    let next = machine.waiting.take_last();
+    let ended = mem::replace(&mut machine.here, next);
+    machine.spare.keep(ended);
+    machine.display.turn(&machine.waiting, machine.here.link);
+    true
+}
+
+/// The same, where it is done seldom.
+#[inline(never)]
 pub fn leave(machine: &mut Machine) -> bool
     ensures leaves { Leaves result machine.old machine.new }
     ensures fewer { result ≡ true → length machine.new.waiting.items < length machine.old.waiting.items }
 {
-    match machine.waiting.pop() {
-        Some(next) => {
-            let ended = mem::replace(&mut machine.here, next);
-            machine.storage.end(&ended.pending);
-            machine.storage.end(&ended.owned);
-            machine.display.turn(&machine.waiting, machine.here.link);
-            machine.spare.keep(ended);
-            true
-        }
-        None => false,
-    }
+    leave_at_once(machine)
 }
 
 /// Lets the newest activation go on that has waited: by a step where it executes its next instruction again.
@@ -57,7 +66,7 @@ pub fn return_from(machine: &mut Machine, outward: u8) -> Option<Stop>
             return Some(Stop::Fault);
         }
     }
-    if leave(machine) {
+    if leave_at_once(machine) {
         resume(machine)
     } else {
         Some(Stop::Ended)
@@ -79,7 +88,7 @@ pub fn give_back(
             return Ok(Some(Stop::Fault));
         }
     }
-    if !leave(machine) {
+    if !leave_at_once(machine) {
         return Ok(Some(Stop::Fault));
     }
     push(&mut machine.here.operands, Operand::OfValue(value))?;

@@ -4,12 +4,12 @@ ghost use Rattle.pli_machine_activations.specs.views.DisplayView.{IsDisplay};
 
 use crate::display::Display;
 use crate::on_units::OnUnits;
+use crate::room::Room;
 use crate::spare::Spare;
 use pli_machine_operate::Operand;
 use pli_run::RunError;
 use pli_stacks::Stacks;
 use pli_store::{Place, Storage};
-use pli_value::Value;
 
 /// Why a run stops: the main procedure ended, no step is left, an error, or no rule fits.
 #[derive(Clone, Copy)]
@@ -33,15 +33,12 @@ pub struct Activation<'m> {
     pub link: u32,
     /// Where parameters and AUTOMATIC variables are.
     pub slots: Vec<Place<'m>>,
-    /// The generations of dummy arguments of calls that are being prepared.
-    pub pending: Vec<u32>,
-    /// The generations that end with the activation.
-    pub owned: Vec<u32>,
     /// The next instruction.
     pub next: usize,
     /// The newest operand is the last.
     pub operands: Vec<Operand<'m>>,
-    pub temporaries: Vec<Option<Value>>,
+    /// Its generations and temporaries.
+    pub room: Box<Room>,
     /// How many backward jumps were made since the step of the number `stamp`.
     pub jumps: u32,
     pub stamp: u64,
@@ -69,11 +66,14 @@ pub struct Machine<'m> {
     pub steps: u64,
     /// How many steps may be taken.
     pub limit: u64,
+    /// Up to how many are taken together before it is seen whether output is to be put.
+    pub pause: u64,
     /// What activations have left that have ended.
     pub(crate) spare: Spare<'m>,
     /// Where those stand that wait and are outward from the newest one.
     pub(crate) display: Display,
     ghost on_line: { column ≤ 121 },
+    ghost paused: { pause ≤ limit },
     ghost few: { length waiting.items ≤ 1000 },
     ghost displayed: { IsDisplay waiting.items display.link display.places.items },
 }

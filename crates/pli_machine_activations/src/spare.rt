@@ -1,103 +1,112 @@
 //! The memory of activations that have ended, kept for those that begin.
-ghost use Rattle.std.specs.Prelude.{◌≡◌, []};
+ghost use Rattle.std.specs.Prelude.{◌≡◌, ◌<◌, [], vec_len, IfOk};
+ghost use Rattle.pli_machine_activations.specs.answers.EmptyLists.{AreEmpty};
 
 use crate::machine::Activation;
+use crate::room::Room;
 use pli_machine_operate::Operand;
 use pli_store::Place;
-use pli_value::Value;
-use std::alloc::Global;
+use std::alloc::{AllocError, Global};
 
-/// Memory for what an activation works on.
+/// What an activation works on.
 #[derive(Drop)]
-pub struct Room<'m> {
+pub struct Lists<'m> {
+    pub slots: Vec<Place<'m>>,
     pub operands: Vec<Operand<'m>>,
-    pub pending: Vec<u32>,
-    pub owned: Vec<u32>,
-    pub temporaries: Vec<Option<Value>>,
+    pub room: Box<Room>,
 }
 
-impl<'m> Room<'m> {
-    /// None yet.
-    #[inline]
-    pub fn new(alloc: Global) -> Room<'m>
-        ensures operands { result.operands.items ≡ [] }
-        ensures pending { result.pending.items ≡ [] }
-        ensures owned { result.owned.items ≡ [] }
-        ensures temporaries { result.temporaries.items ≡ [] }
+/// Takes all operands away, one after another, since there are few.
+#[inline(always)]
+fn take_all(operands: &mut Vec<Operand>)
+    ensures { operands.new.items ≡ [] }
+{
+    'operands: while let Some(_newest) = operands.pop() {}
+}
+
+impl<'m> Lists<'m> {
+    /// Nothing yet.
+    #[inline(never)]
+    pub fn new(alloc: Global) -> Result<Lists<'m>, AllocError>
+        ensures slots { IfOk result (λ lists. lists.slots.items ≡ []) }
+        ensures owned { IfOk result (λ lists. lists.room.value.owned.items ≡ []) }
+        ensures empty { IfOk result (λ lists. AreEmpty lists.operands.items lists.room.value.pending.items) }
     {
-        Room {
+        let room = Room::boxed(alloc)?;
+        Ok(Lists {
+            slots: Vec::new(alloc),
             operands: Vec::new(alloc),
-            pending: Vec::new(alloc),
-            owned: Vec::new(alloc),
-            temporaries: Vec::new(alloc),
-        }
+            room,
+        })
+    }
+
+    /// Empties what may be left of an activation that has ended; temporaries stay.
+    #[inline(always)]
+    fn empty(&mut self)
+        ensures slots { self.new.slots.items ≡ [] }
+        ensures owned { self.new.room.value.owned.items ≡ [] }
+        ensures empty { AreEmpty self.new.operands.items self.new.room.value.pending.items }
+    {
+        self.slots.clear();
+        take_all(&mut self.operands);
+        let room = &mut *self.room;
+        room.pending.clear();
+        room.owned.clear();
     }
 }
 
 /// Memory for activations. Nothing that it holds is ever read.
 #[derive(Drop)]
 pub struct Spare<'m> {
-    rooms: Vec<Room<'m>>,
-    slots: Vec<Vec<Place<'m>>>,
+    lists: Vec<Lists<'m>>,
 }
 
 impl<'m> Spare<'m> {
     /// None yet.
     pub fn new(alloc: Global) -> Spare<'m> {
         Spare {
-            rooms: Vec::new(alloc),
-            slots: Vec::new(alloc),
+            lists: Vec::new(alloc),
         }
     }
 
-    /// Room in which no generation is, with memory if there is any; of operands and temporaries it may have some.
-    #[inline(always)]
-    pub fn take_room(&mut self, alloc: Global) -> Room<'m>
-        ensures pending { result.pending.items ≡ [] }
-        ensures owned { result.owned.items ≡ [] }
+    /// Has lists of which there is no memory yet.
+    #[inline(never)]
+    fn fill(&mut self, alloc: Global) -> Result<(), AllocError>
+        ensures { IfOk result (λ _. 0 < vec_len self.new.lists) }
     {
-        match self.rooms.pop() {
-            Some(mut room) => {
-                room.pending.clear();
-                room.owned.clear();
-                room
-            }
-            None => Room::new(alloc),
-        }
+        let lists = Lists::new(alloc)?;
+        self.lists.push(lists)?;
+        Ok(())
     }
 
-    /// No slots, with memory for some if there is any.
+    /// Lists in which no slot, no operand and no generation is, with memory if there is any; temporaries may be there.
     #[inline(always)]
-    pub fn take_slots(&mut self, alloc: Global) -> Vec<Place<'m>>
-        ensures { result.items ≡ [] }
+    pub fn take(&mut self, alloc: Global) -> Result<Lists<'m>, AllocError>
+        ensures slots { IfOk result (λ lists. lists.slots.items ≡ []) }
+        ensures owned { IfOk result (λ lists. lists.room.value.owned.items ≡ []) }
+        ensures empty { IfOk result (λ lists. AreEmpty lists.operands.items lists.room.value.pending.items) }
     {
-        match self.slots.pop() {
-            Some(mut slots) => {
-                slots.clear();
-                slots
-            }
-            None => Vec::new(alloc),
+        if self.lists.is_empty() {
+            self.fill(alloc)?;
         }
+        let mut lists = self.lists.take_last();
+        lists.empty();
+        Ok(lists)
     }
 
-    /// Keeps the memory of an activation that has ended; lets it go where there is none to note it.
+    /// Keeps the memory of an activation that has ended; drops it where there is none to note it.
     #[inline(always)]
     pub fn keep(&mut self, ended: Activation<'m>) {
         let Activation {
             slots,
-            pending,
-            owned,
             operands,
-            temporaries,
+            room,
             ..
         } = ended;
-        let room = Room {
+        let _lists = self.lists.push(Lists {
+            slots,
             operands,
-            pending,
-            owned,
-            temporaries,
-        };
-        let _room = self.rooms.push(room);
-        let _slots = self.slots.push(slots);
+            room,
+        });
     }
 }

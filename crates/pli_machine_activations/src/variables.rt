@@ -43,7 +43,7 @@ fn add_slot<'m>(here: &mut Activation<'m>, place: Place<'m>) -> Result<(), Alloc
     ensures statement { here.new.statement ≡ here.old.statement }
 {
     here.slots.push(place)?;
-    here.owned.push(place.generation)?;
+    here.room.owned.push(place.generation)?;
     Ok(())
 }
 
@@ -135,7 +135,8 @@ fn make_numbered<'m>(
     }
 }
 
-/// Makes the variables of these templates, one after another, as variables of the newest activation.
+/// Makes the variables of these templates, one after another, as variables of the newest activation. Where there are
+/// none, no call is made.
 #[inline(always)]
 pub fn make_variables<'m>(
     alloc: Global,
@@ -148,8 +149,27 @@ pub fn make_variables<'m>(
         (Yields tt (world_of image machine.new put)) (world_of image machine.new put) }
     ensures same { SameFrames machine.old machine.new }
 {
+    if variables.is_empty() {
+        return Ok(());
+    }
+    make_some(alloc, *ready, machine, variables)
+}
+
+/// The same where there may be some.
+#[inline(never)]
+fn make_some<'m>(
+    alloc: Global,
+    ready: ReadyCode<'_, 'm>,
+    machine: &mut Machine<'m>,
+    variables: &[u16],
+) -> Result<(), StoreFault>
+    ensures made { (image : Image) (put : List ℕ) → GoesOn result
+        (made_all (variables_at (code_view ready.entry.code.now) variables.now) (world_of image machine.old put))
+        (Yields tt (world_of image machine.new put)) (world_of image machine.new put) }
+    ensures same { SameFrames machine.old machine.new }
+{
     for variable in variables {
-        match make_numbered(alloc, ready, machine, *variable) {
+        match make_numbered(alloc, &ready, machine, *variable) {
             Ok(()) => {}
             Err(fault) => return Err(fault),
         }

@@ -3,7 +3,7 @@ use Rattle.std.proofs.Common.{◌≡◌, ◌<◌, ◌≤◌, ◌+◌, ℕ, true,
 use Rattle.std.proofs.lemmas.Bool.{cases_lt}
 use Rattle.std.proofs.lemmas.Option.{same_Some, slice_get_within}
 use Rattle.pli_code.specs.CodedInstruction.{Instruction}
-use Rattle.pli_program.specs.declared.instruction.Instruction.TheVariants as coded
+use Rattle.pli_program.specs.declared.instruction.Instruction.TheVariants as op
 use Rattle.pli_code.specs.declared.module.Member.{Member}
 use Rattle.pli_map.specs.declared.parameter.StringForm.{StringForm}
 use Rattle.pli_store.specs.answers.Strings.{asks_for, has_form}
@@ -14,7 +14,7 @@ use Rattle.pli_machine_loading.specs.answers.AskedForms.{is_asked, UnitsAsked, A
 
 -- what one asks is asked still with more forms
 pub still_asked : (f g : StringForms) (i : Instruction) → AreAmong f g → is_asked f i ≡ true → is_asked g i ≡ true
-still_asked f g (coded.MakeStringDummy form) among asked = among form asked
+still_asked f g (op.MakeStringDummy form) among asked = among form asked
 still_asked f g i among asked = asked
 
 -- what holds of the first so many, and of the next, holds of one more
@@ -39,5 +39,5 @@ pub all_there : (units : List Member) (f : StringForms) (s : StringDescriptions)
 all_there units f s asked has number u at k i here = by i (asked number u at k i here)
   where
     by : (i : Instruction) → is_asked f i ≡ true → is_served s i ≡ true
-    by (coded.MakeStringDummy form) asks = has form asks
+    by (op.MakeStringDummy form) asks = has form asks
     by i asks = asks

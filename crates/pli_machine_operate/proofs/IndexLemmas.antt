@@ -1,5 +1,5 @@
 -- INDEX is at most as many as the string has elements.
-use Rattle.std.proofs.Common.{ℕ, zero, suc, ◌≤◌, nat_eq, Bool, true, false, List, [], ◌∷◌, length, map, ap, arith, if◌then◌else◌}
+use Rattle.std.proofs.Common.{ℕ, zero, suc, ◌≤◌, nat_eq, Bool, true, false, List, [], ◌∷◌, length, map, arith, if◌then◌else◌}
 use Rattle.std.proofs.lemmas.List.{length-map}
 use Rattle.std.specs.List.{starts_with}
 use Rattle.pli_value.specs.Conversions.{bit_character, bit_characters}

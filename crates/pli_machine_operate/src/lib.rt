@@ -11,6 +11,7 @@ pub use calculation::{
 };
 pub use operand::{
     Operand, Taken, TakenPlace, newest_place, pop_locator, pop_number, pop_three, pop_truth,
-    pop_two, pop_value, push, take_place, take_three_numbers, take_two_numbers, take_value,
+    pop_two, pop_value, push, push_dummy, push_place, take_place, take_three_numbers,
+    take_two_numbers, take_value,
 };
 pub use texts::{compare_texts, text_index, text_length, text_part};

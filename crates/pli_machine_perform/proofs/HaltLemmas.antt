@@ -2,7 +2,7 @@
 use Rattle.std.proofs.Common.{◌≡◌, ℕ, Option, Some, None, Result, Err, IfOk, List, refl, sym, ap, subst, ◌∙◌}
 use Rattle.pli_base.specs.declared.statement.Condition.{Condition}
 use Rattle.pli_run.specs.declared.ending.RunError.{RunError}
-use Rattle.pli_program.specs.Program as op
+use Rattle.pli_program.specs.Program as programs
 use Rattle.pli_program.specs.Program.{Program}
 use Rattle.std.specs.Prelude.{option_map}
 use Rattle.pli_world.specs.Conditions.{condition_of}
@@ -66,11 +66,11 @@ module _ (p : Program) (wait : Frame → Frame) (here : Frame) (frames : List Fr
   refused_halts view fault.OutOfMemory h w v other a go halts output column is = absurd halts
 
 -- an instruction that names an entry of a table does what it does with the entry
-pub done_found : {X E : Type 0} (with : X → op.Instruction) (image : Image) (o : Option X) (x : X) (old new : Machine) (r : Result (Option Stop) E)
+pub done_found : {X E : Type 0} (with : X → programs.Instruction) (image : Image) (o : Option X) (x : X) (old new : Machine) (r : Result (Option Stop) E)
     → o ≡ Some x → IfOk r (DoesIn image (with x) old new) → IfOk r (DoesFoundIn image (option_map with o) old new)
 done_found with image o x old new r e does = subst (λ o. IfOk r (DoesFoundIn image (option_map with o) old new)) (sym e) does
 
 -- where the table has none, it is a fault
-pub done_none : {X : Type 0} (with : X → op.Instruction) (image : Image) (o : Option X) (m : Machine)
+pub done_none : {X : Type 0} (with : X → programs.Instruction) (image : Image) (o : Option X) (m : Machine)
     → o ≡ None → DoesFoundIn image (option_map with o) m m (Some stop.Fault)
 done_none with image o m e = subst (λ o. DoesFoundIn image (option_map with o) m m (Some stop.Fault)) (sym e) (λ u put. refl)

@@ -7,7 +7,7 @@ ghost use Rattle.pli_program.specs.declared.instruction.Instruction.TheVariants.
 ghost use Rattle.pli_stacks.specs.answers.LaidBytes.{IsLaid};
 ghost use Rattle.pli_type_tree.specs.views.TemplateView.{initial_view};
 ghost use Rattle.pli_code.specs.CodeTables.{looked_up};
-ghost use Rattle.pli_program.specs.declared.instruction.Instruction.TheVariants as coded;
+ghost use Rattle.pli_program.specs.declared.instruction.Instruction.TheVariants as op;
 ghost use Rattle.pli_code.specs.views.CodeView.{code_view};
 ghost use Rattle.pli_machine_activations.specs.views.ImageView.{image_of};
 ghost use Rattle.pli_machine_activations.specs.views.MachineView.{Does};
@@ -105,7 +105,7 @@ pub fn allocate_in_area<'m>(
     target: u16,
 ) -> Result<Option<Stop>, AllocError>
     ensures { IfOk result (DoesFoundIn (image_of unit.now.loaded.now)
-        (looked_up (code_view unit.now.linked.now.deck.code) (coded.AllocateInArea template target)) machine.old
+        (looked_up (code_view unit.now.linked.now.deck.code) (op.AllocateInArea template target)) machine.old
         machine.new) }
 {
     match template_of(&unit.linked.deck.code, template) {

@@ -1,6 +1,6 @@
 //! ON, REVERT and SIGNAL.
 ghost use Rattle.std.specs.Prelude.{◌≡◌, IfOk};
-ghost use Rattle.pli_program.specs.declared.instruction.Instruction.TheVariants as coded;
+ghost use Rattle.pli_program.specs.declared.instruction.Instruction.TheVariants as op;
 ghost use Rattle.pli_code.specs.views.CodeView.{member_view};
 ghost use Rattle.pli_program.specs.declared.instruction.Instruction.TheVariants.{Revert, Signal};
 ghost use Rattle.pli_machine_activations.specs.views.ImageView.{image_of};
@@ -19,7 +19,7 @@ pub fn establish<'m>(
     block: u16,
 ) -> Option<Stop>
     ensures { Performs (image_of unit.now.loaded.now) (member_view unit.now.linked.now)
-        (coded.On condition block) machine.old machine.new result }
+        (op.On condition block) machine.old machine.new result }
 {
     pli_machine_activations::establish(unit, machine, condition, block)
 }

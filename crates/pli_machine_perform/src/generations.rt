@@ -11,6 +11,7 @@ ghost use Rattle.pli_program.specs.declared.instruction.Instruction.TheVariants.
 ghost use Rattle.pli_code.specs.Modules.{program_of};
 ghost use Rattle.pli_machine_activations.specs.views.ImageView.{image_of};
 ghost use Rattle.pli_machine_activations.specs.views.MachineView.{Moves, world_of};
+ghost use Rattle.pli_machine_perform.specs.answers.AtOnce.{MovesOrStays};
 ghost use Rattle.pli_machine_perform.specs.views.HaltView.{DoesIn, Settles, giving_zero};
 
 use crate::halting::{Halt, halt_at};
@@ -20,6 +21,7 @@ use pli_value::Value;
 use std::alloc::{AllocError, Global};
 
 /// The stack of a CONTROLLED variable, by its number among the globals of the newest activation's unit.
+#[inline(always)]
 fn named_stack<'m>(
     unit: &ActiveUnit<'_, 'm>,
     _machine: &Machine<'m>,
@@ -33,6 +35,7 @@ fn named_stack<'m>(
 }
 
 /// ALLOCATE of a CONTROLLED variable, by its number among the globals of the newest activation's unit.
+#[inline(never)]
 pub fn allocate_controlled<'m>(
     alloc: Global,
     unit: &ActiveUnit<'_, 'm>,
@@ -57,6 +60,7 @@ pub fn allocate_controlled<'m>(
 }
 
 /// FREE of a CONTROLLED variable, by its number among the globals of the newest activation's unit.
+#[inline(never)]
 pub fn free_controlled<'m>(
     unit: &ActiveUnit<'_, 'm>,
     machine: &mut Machine<'m>,
@@ -73,6 +77,63 @@ pub fn free_controlled<'m>(
     match machine.stacks.free_controlled(&mut machine.storage, stack) {
         Ok(()) => Ok(None),
         Err(fault) => Ok(Some(stop_at(fault)?)),
+    }
+}
+
+/// ALLOCATE of a CONTROLLED variable, by its number among the globals of the newest activation's unit, after which the
+/// instruction of a number is the next one; `false` where there is none, and nothing has changed then.
+#[inline(never)]
+pub fn allocate_at_once<'m>(
+    alloc: Global,
+    unit: &ActiveUnit<'_, 'm>,
+    machine: &mut Machine<'m>,
+    global: usize,
+    next: usize,
+) -> bool
+    requires { machine.old.here.unit ≡ unit.now.number }
+    ensures done { (u : UnitCode) → MovesOrStays result (image_of unit.now.loaded.now)
+        (act (program_of (image_of unit.now.loaded.now).linked) u (Some (AllocateControlled global))) machine.old next
+        machine.new }
+    ensures unit { machine.new.here.unit ≡ machine.old.here.unit }
+{
+    let Some(stack) = named_stack(unit, machine, global) else {
+        return false;
+    };
+    match machine
+        .stacks
+        .allocate_controlled(alloc, &mut machine.storage, stack)
+    {
+        Ok(()) => {
+            machine.here.next = next;
+            true
+        }
+        Err(_fault) => false,
+    }
+}
+
+/// The same of FREE.
+#[inline(never)]
+pub fn free_at_once<'m>(
+    unit: &ActiveUnit<'_, 'm>,
+    machine: &mut Machine<'m>,
+    global: usize,
+    next: usize,
+) -> bool
+    requires { machine.old.here.unit ≡ unit.now.number }
+    ensures done { (u : UnitCode) → MovesOrStays result (image_of unit.now.loaded.now)
+        (act (program_of (image_of unit.now.loaded.now).linked) u (Some (FreeControlled global))) machine.old next
+        machine.new }
+    ensures unit { machine.new.here.unit ≡ machine.old.here.unit }
+{
+    let Some(number) = named_stack(unit, machine, global) else {
+        return false;
+    };
+    match machine.stacks.free_controlled(&mut machine.storage, number) {
+        Ok(()) => {
+            machine.here.next = next;
+            true
+        }
+        Err(_fault) => false,
     }
 }
 

@@ -5,7 +5,7 @@ ghost use Rattle.pli_program.specs.declared.instruction.Instruction.TheVariants.
 ghost use Rattle.pli_program.specs.declared.instruction.Instruction.TheVariants.{Store, Copy, Field};
 ghost use Rattle.pli_program.specs.declared.instruction.Instruction.TheVariants.{Subscript, Fit, Operate};
 ghost use Rattle.pli_code.specs.CodeTables.{looked_up};
-ghost use Rattle.pli_program.specs.declared.instruction.Instruction.TheVariants as coded;
+ghost use Rattle.pli_program.specs.declared.instruction.Instruction.TheVariants as op;
 ghost use Rattle.pli_code.specs.views.CodeView.{code_view};
 ghost use Rattle.pli_machine_activations.specs.views.ImageView.{image_of};
 ghost use Rattle.pli_value.specs.Value.{value_view};
@@ -71,7 +71,7 @@ pub fn field<'m>(
     offset: u32,
     description: u16,
 ) -> Result<Option<Stop>, AllocError>
-    ensures { IfOk result (DoesFound (looked_up (code_view code.now) (coded.Field offset description)) machine.old
+    ensures { IfOk result (DoesFound (looked_up (code_view code.now) (op.Field offset description)) machine.old
         machine.new) }
 {
     match code.description(description) {
@@ -113,7 +113,7 @@ pub fn constant<'m>(
     machine: &mut Machine<'m>,
     value: u16,
 ) -> Result<Option<Stop>, AllocError>
-    ensures { IfOk result (DoesFound (looked_up (code_view code.now) (coded.Constant value)) machine.old machine.new) }
+    ensures { IfOk result (DoesFound (looked_up (code_view code.now) (op.Constant value)) machine.old machine.new) }
 {
     match code.values.get(value as usize) {
         Some(value) => put_constant(machine, value),
@@ -188,14 +188,14 @@ pub fn copy(machine: &mut Machine) -> Result<Option<Stop>, AllocError>
     Ok(stop)
 }
 
-/// A dummy argument of a template of the tables.
+/// Makes a dummy argument of the newest operand, from the template of this number in the tables.
 pub fn make_dummy<'m>(
     alloc: Global,
     code: &'m Code,
     machine: &mut Machine<'m>,
     template: u16,
 ) -> Result<Option<Stop>, AllocError>
-    ensures { IfOk result (DoesFound (looked_up (code_view code.now) (coded.MakeDummy template)) machine.old
+    ensures { IfOk result (DoesFound (looked_up (code_view code.now) (op.MakeDummy template)) machine.old
         machine.new) }
 {
     match template_of(code, template) {
@@ -227,7 +227,7 @@ pub fn fit<'m>(
     description: u16,
 ) -> Result<Option<Stop>, AllocError>
     ensures { IfOk result (DoesFoundIn (image_of unit.now.loaded.now)
-        (looked_up (code_view unit.now.linked.now.deck.code) (coded.Fit description)) machine.old machine.new) }
+        (looked_up (code_view unit.now.linked.now.deck.code) (op.Fit description)) machine.old machine.new) }
 {
     match unit.linked.deck.code.description(description) {
         Some(description) => fit_at(alloc, unit, machine, description),

@@ -56,10 +56,11 @@ pub fn set_temporary(
     let Some(value) = pop_value(alloc, &mut machine.here.operands)? else {
         return Ok(Some(Stop::Fault));
     };
-    if number >= machine.here.temporaries.len() {
+    let room = &mut *machine.here.room;
+    if number >= room.temporaries.len() {
         return Ok(Some(Stop::Fault));
     }
-    keep(&mut machine.here.temporaries, number, value);
+    keep(&mut room.temporaries, number, value);
     Ok(None)
 }
 
@@ -71,7 +72,8 @@ pub fn take_temporary(
 ) -> Result<Option<Stop>, AllocError>
     ensures { IfOk result (Does (TakeTemporary number) machine.old machine.new) }
 {
-    let copy = match machine.here.temporaries.get(number) {
+    let room = &*machine.here.room;
+    let copy = match room.temporaries.get(number) {
         Some(Some(value)) => copied(alloc, value)?,
         _ => return Ok(Some(Stop::Fault)),
     };

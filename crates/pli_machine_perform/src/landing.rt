@@ -14,8 +14,9 @@ fn arrive(machine: &mut Machine, target: usize) -> Option<Stop>
     ensures { (image : Image) →
         Moves image (λ here frames w. counted_jump target [] here frames (cleared w)) machine.old machine.new result }
 {
-    machine.storage.end(&machine.here.pending);
-    machine.here.pending.clear();
+    let room = &mut *machine.here.room;
+    machine.storage.end(&room.pending);
+    room.pending.clear();
     machine.here.operands.clear();
     count_jump(&mut machine.here, machine.steps, target)
 }

@@ -6,7 +6,7 @@ ghost use Rattle.pli_program.specs.declared.instruction.Instruction.TheVariants.
 ghost use Rattle.pli_stacks.specs.answers.LaidBytes.{IsLaid};
 ghost use Rattle.pli_type_tree.specs.views.TemplateView.{initial_view};
 ghost use Rattle.pli_code.specs.CodeTables.{looked_up};
-ghost use Rattle.pli_program.specs.declared.instruction.Instruction.TheVariants as coded;
+ghost use Rattle.pli_program.specs.declared.instruction.Instruction.TheVariants as op;
 ghost use Rattle.pli_code.specs.views.CodeView.{code_view};
 ghost use Rattle.pli_machine_activations.specs.views.MachineView.{Does, DoesFound};
 
@@ -34,7 +34,7 @@ pub fn based(
     machine: &mut Machine,
     description: u16,
 ) -> Result<Option<Stop>, AllocError>
-    ensures { IfOk result (DoesFound (looked_up (code_view code.now) (coded.Based description)) machine.old
+    ensures { IfOk result (DoesFound (looked_up (code_view code.now) (op.Based description)) machine.old
         machine.new) }
 {
     match code.description(description) {
@@ -93,7 +93,7 @@ pub fn allocate_based<'m>(
     machine: &mut Machine<'m>,
     template: u16,
 ) -> Result<Option<Stop>, AllocError>
-    ensures { IfOk result (DoesFound (looked_up (code_view unit.now.linked.now.deck.code) (coded.AllocateBased template))
+    ensures { IfOk result (DoesFound (looked_up (code_view unit.now.linked.now.deck.code) (op.AllocateBased template))
         machine.old machine.new) }
 {
     match template_of(&unit.linked.deck.code, template) {
@@ -122,7 +122,7 @@ pub fn free_based(
     machine: &mut Machine,
     description: u16,
 ) -> Result<Option<Stop>, AllocError>
-    ensures { IfOk result (DoesFound (looked_up (code_view code.now) (coded.FreeBased description)) machine.old
+    ensures { IfOk result (DoesFound (looked_up (code_view code.now) (op.FreeBased description)) machine.old
         machine.new) }
 {
     match code.description(description) {

@@ -1,5 +1,5 @@
 -- Counts of elements that stop over the limit.
-use Rattle.std.proofs.Common.{◌≡◌, ℕ, zero, suc, ◌+◌, ◌*◌, ◌≤◌, min, arith, refl, ap, sym, ◌∙◌, ◌⊎◌, inl, inr, List, [], ◌∷◌, length, Option, Some, None, option_map, option_and_then, ℤ, ◌≢◌}
+use Rattle.std.proofs.Common.{◌≡◌, ℕ, zero, suc, ◌+◌, ◌*◌, ◌≤◌, min, arith, refl, ap, sym, ◌∙◌, ◌⊎◌, inl, inr, List, [], ◌∷◌, length, get_or, Option, Some, None, option_map, option_and_then, ℤ, ◌≢◌}
 use Rattle.std.proofs.lemmas.Bool.{cases_lt}
 use Rattle.pli_map.specs.declared.description.Bounds.{Bounds}
 use Rattle.pli_map.specs.Sizes.{extent_of, count_of}
@@ -83,3 +83,9 @@ count_left whole count extent others left next next_is left_is so_far =
     let same : count * extent * others + 0 ≡ count * left = rw left_is (omega arith) in
     let plain : min (count * extent) 1000001 * others + 0 ≡ next * others = rw next_is (omega arith) in
     ap (λ n. min n 1000001) (sym plain) ∙ cut ∙ ap (λ n. min n 1000001) same ∙ so_far
+
+-- an array of one dimension has as many elements as that has subscripts
+pub one_dimension : (bounds : List Bounds) (none : Bounds) → length bounds ≡ 1 → extent_of (get_or bounds 0 none) ≡ count_of bounds
+one_dimension [] none one = absurd (omega (arith, one))
+one_dimension (b ∷ []) none one = omega arith
+one_dimension (b ∷ c ∷ bs) none one = absurd (omega (arith, one))

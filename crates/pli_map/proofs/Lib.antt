@@ -6,8 +6,10 @@ pub mod FarSizes
 pub mod FirstHeld
 pub mod FirstValues
 pub mod FoundScalars
+pub mod MarkLemmas
 pub mod Members
 pub mod MultipleLemmas
+pub mod NearScalars
 pub mod Paths
 pub mod PlaceLaws
 pub mod Places

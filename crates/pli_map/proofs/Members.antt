@@ -1,7 +1,8 @@
 -- Members one after the other.
-use Rattle.std.proofs.Common.{◌≡◌, ℕ, zero, suc, ◌+◌, ◌<◌, ◌≤◌, max, List, [], ◌∷◌, length, get_or, take, drop, Some, None, refl, ap, sym, ◌∙◌, arith}
+use Rattle.std.proofs.Common.{◌≡◌, ℕ, zero, suc, ◌+◌, ◌<◌, ◌≤◌, max, List, [], ◌∷◌, length, get_or, take, drop, Some, None, slice_get, refl, ap, sym, ◌∙◌, arith}
 use Rattle.std.specs.Int.{next_multiple_of}
 use Rattle.std.proofs.lemmas.List.{at_drop_more}
+use Rattle.std.proofs.lemmas.Option.{none-some, same_Some}
 use Rattle.pli_map.specs.Description as tree
 use Rattle.pli_map.specs.views.DescriptionView.{description_view, members_view}
 use Rattle.pli_map.specs.Parts.{PlacedPart, member_after}
@@ -62,3 +63,8 @@ alignment_by_member before now left d ds greatest alignment left_is all alignmen
 pub next_member : (xs : List Description) (i : ℕ) (x : Description) → i < length xs → x ≡ get_or xs i x
     → members_view (drop i xs) ≡ tree.MemberThen (description_view x) (members_view (drop (i + 1) xs))
 next_member xs i x within is = at_drop_more members_view xs i x within ∙ ap (λ y. members_view (y ∷ drop (i + 1) xs)) (sym is)
+
+-- the first member, and those after it
+pub first_member : (xs : List Description) (x : Description) → slice_get xs 0 ≡ Some x → members_view xs ≡ tree.MemberThen (description_view x) (members_view (drop 1 xs))
+first_member [] x is = absurd (none-some x is)
+first_member (y ∷ ys) x is = ap (λ z. tree.MemberThen (description_view z) (members_view ys)) (same_Some y x is)

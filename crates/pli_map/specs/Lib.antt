@@ -2,6 +2,7 @@ pub mod Description
 pub mod Digests
 pub mod Dimensions
 pub mod Layouts
+pub mod Marks
 pub mod ParameterTypes
 pub mod Parts
 pub mod PlacedParts

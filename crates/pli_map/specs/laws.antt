@@ -1,4 +1,5 @@
 pub mod Laws
+pub mod MarkLaws
 pub mod ParameterLaws
 pub mod SameLaws
 pub mod ScalarLaws

@@ -124,19 +124,37 @@ impl Description {
     ghost use Rattle.std.specs.Prelude.{◌≡◌, ◌↔◌, IsTrue};
     ghost use Rattle.pli_map.specs.views.DescriptionView.{description_view};
 
-    /// The same as `equals`; structures of scalars alone take the short way.
+    /// The same as `equals`; scalars, structures of scalars alone and arrays of either take the short way.
     #[inline]
     pub fn is_same(&self, other: &Description) -> bool
         ensures { IsTrue result ↔ (description_view self.now ≡ description_view other.now) }
     {
-        if are_same_structures(self, other) {
+        if are_same_arrays(self, other) {
             return true;
         }
         self.equals(other)
     }
 }
 
-/// Whether both are structures of the same scalars. What has other members is left open.
+/// Whether both are arrays of the same bounds, whose elements are the same scalars or structures of the same scalars,
+/// or are such themselves. All else is left open.
+#[inline(always)]
+fn are_same_arrays(left: &Description, right: &Description) -> bool
+    ensures { result ≡ true → description_view left.now ≡ description_view right.now }
+{
+    match (left, right) {
+        (
+            Description::Array { bounds, element },
+            Description::Array {
+                bounds: other_bounds,
+                element: other_element,
+            },
+        ) => { same_bounds(bounds, other_bounds) && are_same_structures(element, other_element) }
+        _ => are_same_structures(left, right),
+    }
+}
+
+/// Whether both are structures of the same scalars, or the same scalar. All else is left open.
 #[inline(always)]
 fn are_same_structures(left: &Description, right: &Description) -> bool
     ensures { result ≡ true → description_view left.now ≡ description_view right.now }
@@ -145,7 +163,7 @@ fn are_same_structures(left: &Description, right: &Description) -> bool
         (Description::Structure(members), Description::Structure(others)) => {
             are_all_same(members, others)
         }
-        _ => false,
+        _ => are_same_scalars(left, right),
     }
 }
 
@@ -204,6 +222,7 @@ pub fn are_same_scalars(left: &Description, right: &Description) -> bool
     }
 }
 
+/// Whether two arrays have the same bounds.
 pub(crate) fn same_bounds(left: &[Bounds], right: &[Bounds]) -> bool
     ensures { IsTrue result ↔ (left.now ≡ right.now) }
 {

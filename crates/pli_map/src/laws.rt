@@ -7,6 +7,7 @@ ghost use Rattle.pli_map.specs.laws.Laws.{ElementsAreCounted, SameIsEqual};
 ghost use Rattle.pli_map.specs.examples.ParameterExamples.{StringsAgree, ArraysAgree, ElementsAreOpen};
 ghost use Rattle.pli_map.specs.examples.ParameterExamples.{DimensionsAreKnown};
 ghost use Rattle.pli_map.specs.examples.ScalarExamples.{CountedScalars, FoundScalars, NamedSubscripts};
+ghost use Rattle.pli_map.specs.laws.MarkLaws.{MarksDiffer};
 ghost use Rattle.pli_map.specs.laws.ScalarLaws.{PartsAreFound, PartsAreDetermined, FoundIsPlaced, ScalarsLieWithin};
 ghost use Rattle.pli_map.specs.laws.ScalarLaws.{PartsOfParts, FilledPartsTakeBytes};
 ghost use Rattle.pli_map.specs.examples.StoredExamples.{StoredNumbers, StoredStrings, StoredLocators};
@@ -61,6 +62,12 @@ pub fn elements_are_in_row_major_order()
 #[tactic(auto, using(crate::specs::laws::SameLaws::same_decides))]
 pub fn same_is_equal()
     ensures { SameIsEqual }
+{}
+
+/// A law: no two descriptions that are marked have one mark.
+#[tactic(auto, using(crate::proofs::MarkLemmas::same_from_mark))]
+pub fn marks_differ()
+    ensures { MarksDiffer }
 {}
 
 /// A law: which scalars a part has is determined by where it stands and by its description, and only parts are found.

@@ -2,15 +2,16 @@
 ghost use Rattle.std.specs.Prelude.{◌≡◌, ◌+◌, ◌*◌, ◌/◌, ◌%◌, ◌≤◌, ◌<◌, min, nat_lt, true, if◌then◌else◌, IfSome, None};
 ghost use Rattle.std.specs.Prelude.{option_map};
 ghost use Rattle.std.specs.Option.{is_some};
-ghost use Rattle.pli_map.specs.Description.{Array, Structure};
+ghost use Rattle.pli_map.specs.Description.{Array, FixedBinary, Structure};
 ghost use Rattle.pli_map.specs.Scalars.{is_aggregate, is_area, is_scalar, scalars_in, scalars_among, stands_here};
 ghost use Rattle.pli_map.specs.Scalars.{first_scalar, scalar_after};
-ghost use Rattle.pli_map.specs.Sizes.{alignment_of, count_of, size_of, stride_of};
+ghost use Rattle.pli_map.specs.Sizes.{alignment_of, count_of, number_bytes, size_of, stride_of};
+ghost use Rattle.std.specs.Int.{next_multiple_of};
 ghost use Rattle.pli_map.specs.views.DescriptionView.{description_view, members_view};
 
 use crate::description::{Bounds, Description, are_same_scalars};
 use crate::extents::{every_element, far_size, far_stride};
-use crate::sizes::{aligned, alignment, fixed_binary_size};
+use crate::sizes::{aligned, alignment};
 
 /// Whether a description is an array or a structure.
 #[inline]
@@ -109,17 +110,13 @@ pub fn stands_among(members: &[Description], offset: u32, part: &Description) ->
     let wanted = u64::from(offset);
     let mut at: u64 = 0;
     for member in members {
-        let Some(room) = scalar_room(member) else {
+        let Some(room) = room_after(at, member) else {
             return false;
         };
-        let start = aligned(at, room.1);
-        if wanted == start && room.0 > 0 {
-            return are_same_scalars(member, part);
+        if wanted < room.1 {
+            return wanted == room.0 && are_same_scalars(member, part);
         }
-        at = start + room.0;
-        if wanted < at {
-            return false;
-        }
+        at = room.1;
     }
     false
 }
@@ -162,7 +159,7 @@ fn stands_in_elements(
     ensures { result ≡ true → is_some (first_scalar (Array bounds.now (description_view element.now)) offset
         (description_view part.now)) ≡ true }
 {
-    let count = every_element(bounds);
+    let count = element_count(bounds);
     if count == 0 {
         return false;
     }
@@ -171,6 +168,132 @@ fn stands_in_elements(
         return false;
     }
     stands_in_element(element, inner, part)
+}
+
+/// Whether an array of one dimension takes so many bytes where its elements are so far from one another, and one of them
+/// has this index, counted from 0.
+#[inline(always)]
+fn has_stride(bounds: &[Bounds], size: u64, stride: u32, index: u32) -> bool
+    ensures below { result ≡ true → index < count_of bounds.now }
+    ensures sized { result ≡ true → size ≡ count_of bounds.now * stride }
+{
+    if bounds.len() != 1 {
+        return false;
+    }
+    let extent = bounds[0].extent();
+    if index >= extent {
+        return false;
+    }
+    u64::from(extent) * u64::from(stride) == size
+}
+
+/// Whether a number of so many binary digits, which the part is, stands so many bytes after the beginning of the element
+/// of this index in a whole of so many bytes, where that is an array of one dimension of structures this far from one
+/// another, in which it stands after other scalars; `false` leaves it open. Nothing is divided.
+#[inline(always)]
+pub fn stands_in_structure(
+    whole: &Description,
+    size: usize,
+    stride: u32,
+    index: u32,
+    inner: u32,
+    part: &Description,
+    precision: u8,
+) -> bool
+    requires size { size ≡ size_of (description_view whole.now) }
+    requires number { description_view part.now ≡ FixedBinary precision }
+    ensures { result ≡ true → is_some (first_scalar (description_view whole.now) (index * stride + inner)
+        (description_view part.now)) ≡ true }
+{
+    match whole {
+        Description::Array { bounds, element } => stands_in_row(
+            bounds,
+            element,
+            size as u64,
+            stride,
+            index,
+            inner,
+            part,
+            precision,
+        ),
+        _ => false,
+    }
+}
+
+/// The same of an array of so many bytes.
+#[inline(always)]
+fn stands_in_row(
+    bounds: &[Bounds],
+    element: &Description,
+    size: u64,
+    stride: u32,
+    index: u32,
+    inner: u32,
+    part: &Description,
+    precision: u8,
+) -> bool
+    requires size { size ≡ count_of bounds.now * stride_of (description_view element.now) }
+    requires number { description_view part.now ≡ FixedBinary precision }
+    ensures { result ≡ true → is_some (first_scalar (Array bounds.now (description_view element.now))
+        (index * stride + inner) (description_view part.now)) ≡ true }
+{
+    if inner >= stride {
+        return false;
+    }
+    if !has_stride(bounds, size, stride, index) {
+        return false;
+    }
+    number_among_members(element, inner, part, precision)
+}
+
+/// Whether a number of so many binary digits, which the part is, stands so many bytes after the beginning of a structure,
+/// first or after other scalars; `false` leaves it open.
+#[inline(always)]
+fn number_among_members(whole: &Description, offset: u32, part: &Description, precision: u8) -> bool
+    requires { description_view part.now ≡ FixedBinary precision }
+    ensures { result ≡ true → is_some (first_scalar (description_view whole.now) offset (description_view part.now))
+        ≡ true }
+{
+    match whole {
+        Description::Structure(members) => { number_among(members, offset, part, precision) }
+        _ => false,
+    }
+}
+
+/// The same among these members. The first is found at once.
+#[inline(always)]
+fn number_among(members: &[Description], offset: u32, part: &Description, precision: u8) -> bool
+    requires { description_view part.now ≡ FixedBinary precision }
+    ensures { result ≡ true → is_some (first_scalar (Structure (members_view members.now)) offset
+        (description_view part.now)) ≡ true }
+{
+    if offset == 0 && is_first_number(members, precision) {
+        return true;
+    }
+    stands_among(members, offset, part)
+}
+
+/// Whether a number of so many binary digits is the first of some members.
+#[inline(always)]
+fn is_first_number(members: &[Description], precision: u8) -> bool
+    ensures { result ≡ true → is_some (first_scalar (Structure (members_view members.now)) 0 (FixedBinary precision))
+        ≡ true }
+{
+    match members.first() {
+        Some(member) => is_number_of(member, precision),
+        None => false,
+    }
+}
+
+/// Whether a description is of numbers of so many binary digits.
+#[inline(always)]
+fn is_number_of(description: &Description, precision: u8) -> bool
+    ensures { result ≡ true → description_view description.now ≡ FixedBinary precision }
+{
+    match description {
+        Description::FixedBinary(has) => *has == precision,
+        _ => false,
+    }
 }
 
 /// Whether a scalar stands so in one of them; `false` leaves it open.
@@ -197,26 +320,52 @@ fn is_itself(whole: &Description, offset: u32, part: &Description) -> bool
     are_same_scalars(whole, part)
 }
 
-/// How many bytes a scalar takes, and its alignment; `None` for what is none.
+/// Where a scalar begins that is a member after so many bytes, and where it ends; `None` for what is none.
 #[inline(always)]
-#[tactic(auto, using(crate::proofs::Alignments::alignment_positive, crate::proofs::Alignments::alignment_small))]
-fn scalar_room(description: &Description) -> Option<(u64, u64)>
-    ensures size { IfSome result (λ r. r.0 ≡ size_of (description_view description.now)) }
-    ensures alignment { IfSome result (λ r. r.1 ≡ alignment_of (description_view description.now)) }
-    ensures bounds { IfSome result (λ r. (r.0 ≤ 65537) × (0 < r.1) × (r.1 ≤ 8)) }
+fn room_after(at: u64, description: &Description) -> Option<(u64, u64)>
+    requires { at ≤ 4294967295 }
+    ensures start { IfSome result (λ r. r.0 ≡ next_multiple_of at (alignment_of (description_view description.now))) }
+    ensures end { IfSome result (λ r. r.1 ≡ r.0 + size_of (description_view description.now)) }
 {
     match description {
-        Description::FixedBinary(precision) => {
-            let bytes = u64::from(fixed_binary_size(u64::from(*precision)));
-            Some((bytes, bytes))
+        Description::FixedBinary(precision) => Some(number_after(at, *precision)),
+        Description::Character(length) => Some(room_at(at.next_multiple_of(1), u64::from(*length))),
+        Description::Varying(length) => {
+            Some(room_at(at.next_multiple_of(2), 2 + u64::from(*length)))
         }
-        Description::Character(length) => Some((u64::from(*length), 1)),
-        Description::Varying(length) => Some((2 + u64::from(*length), 2)),
-        Description::Bit(length) => Some((u64::from(length.div_ceil(8)), 1)),
-        Description::Pointer => Some((8, 4)),
-        Description::Offset => Some((4, 4)),
+        Description::Bit(length) => Some(room_at(
+            at.next_multiple_of(1),
+            u64::from(length.div_ceil(8)),
+        )),
+        Description::Pointer => Some(room_at(at.next_multiple_of(4), 8)),
+        Description::Offset => Some(room_at(at.next_multiple_of(4), 4)),
         Description::Area(_) | Description::Array { .. } | Description::Structure(_) => None,
     }
+}
+
+/// The same of a number of so many binary digits.
+#[inline(always)]
+fn number_after(at: u64, precision: u8) -> (u64, u64)
+    requires { at ≤ 4294967295 }
+    ensures start { result.0 ≡ next_multiple_of at (number_bytes precision) }
+    ensures end { result.1 ≡ result.0 + number_bytes precision }
+{
+    match precision {
+        0..=15 => room_at(at.next_multiple_of(2), 2),
+        16..=31 => room_at(at.next_multiple_of(4), 4),
+        _ => room_at(at.next_multiple_of(8), 8),
+    }
+}
+
+/// Where so many bytes begin and end.
+#[inline(always)]
+fn room_at(start: u64, bytes: u64) -> (u64, u64)
+    requires near { start ≤ 4294967303 }
+    requires few { bytes ≤ 65537 }
+    ensures start { result.0 ≡ start }
+    ensures end { result.1 ≡ start + bytes }
+{
+    (start, start + bytes)
 }
 
 #[cycle(first_scalar)]
@@ -277,4 +426,15 @@ fn scalar_of_member(members: &[Description], offset: u32, part: &Description) ->
         before = before.saturating_add(scalars_in(member));
     }
     None
+}
+
+/// How many elements an array of these bounds has, as `every_element` counts them; those of one dimension at once.
+#[inline(always)]
+fn element_count(bounds: &[Bounds]) -> u64
+    ensures { result ≡ min (count_of bounds.now) 18446744073709551615 }
+{
+    if bounds.len() == 1 {
+        return u64::from(bounds[0].extent());
+    }
+    every_element(bounds)
 }

@@ -9,7 +9,7 @@ use Rattle.pli_world.specs.Conditions.{Handler, handler}
 use Rattle.pli_world.specs.Storage.{Place}
 use Rattle.pli_world.specs.World.{World, entered, left_by, stepped}
 use Rattle.pli_value.specs.Value.{Value}
-use Rattle.pli_program.specs.Program as op
+use Rattle.pli_program.specs.Program as programs
 use Rattle.pli_program.specs.Program.{Procedure, OnUnit, is_procedure, is_external, Block, UnitCode, Program}
 use Rattle.pli_machine_step.specs.Machine as machine
 use Rattle.pli_machine_step.specs.Machine.{Operand, Locals, Frame, At, Move, Steps, calm, fresh, places_off, called, link_of, enters, faulty, raises, act, resume}
@@ -164,11 +164,11 @@ pub unit_there : (program : List TypedUnit) (names : List Name) (at : Label → 
 unit_there program names at ts us k stand = unit_after program names at 0 ts us k k (omega arith) stand
 
 -- a global of a unit, and its code
-abbrev HasCode : List TypedUnit → List Name → Option Global → List op.GlobalCode → ℕ → Type 0
+abbrev HasCode : List TypedUnit → List Name → Option Global → List programs.GlobalCode → ℕ → Type 0
 HasCode program names None gs n = Unit
-HasCode program names (Some x) gs n = (g : op.GlobalCode) × (slice_get gs n ≡ Some g) × GlobalStands program names x g
+HasCode program names (Some x) gs n = (g : programs.GlobalCode) × (slice_get gs n ≡ Some g) × GlobalStands program names x g
 
-global_there : (program : List TypedUnit) (names : List Name) (xs : List Global) (gs : List op.GlobalCode) (n : ℕ) → GlobalsStand program names xs gs → HasCode program names (slice_get xs n) gs n
+global_there : (program : List TypedUnit) (names : List Name) (xs : List Global) (gs : List programs.GlobalCode) (n : ℕ) → GlobalsStand program names xs gs → HasCode program names (slice_get xs n) gs n
 global_there program names [] gs zero stand = tt
 global_there program names [] gs (suc n) stand = tt
 global_there program names (x ∷ xs) [] n stand = absurd stand

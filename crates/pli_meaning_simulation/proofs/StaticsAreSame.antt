@@ -10,7 +10,7 @@ use Rattle.std.proofs.lemmas.Iterator.Adapters.{position_from-zero}
 use Rattle.pli_base.specs.Name.{Name}
 use Rattle.pli_base.specs.Words.{same_name}
 use Rattle.pli_world.specs.World.{Standing, World, Answer, Yields, Raises, Wrong, further, made_once, with_static, statics_made}
-use Rattle.pli_program.specs.Program as op
+use Rattle.pli_program.specs.Program as programs
 use Rattle.pli_program.specs.Program.{UnitCode}
 use Rattle.pli_machine_step.specs.Runs.{all_statics_made}
 use Rattle.pli_type_tree.specs.Globals.{global_variable}
@@ -101,25 +101,25 @@ module _ (names : List Name) where
     once_same (Raises e w) f g h = refl
     once_same Wrong f g h = refl
 
-    unit_same : (program : List TypedUnit) (unit number : ℕ) (ts : List Global) (gs : List op.GlobalCode) → GlobalsStand program names ts gs
+    unit_same : (program : List TypedUnit) (unit number : ℕ) (ts : List Global) (gs : List programs.GlobalCode) → GlobalsStand program names ts gs
         → (xs : List (Name × Standing)) (ys : List (ℕ × Standing)) → AreShared xs ys → (w : World)
-        → further (statics_made nat_eq unit number (map op.global_variable gs) ys w) by_number ≡ further (statics_made same_name unit number (map global_variable ts) xs w) by_name
+        → further (statics_made nat_eq unit number (map programs.global_variable gs) ys w) by_number ≡ further (statics_made same_name unit number (map global_variable ts) xs w) by_name
     unit_same program unit number [] [] stand xs ys all w = alike xs ys all w
     unit_same program unit number [] (g ∷ gs) stand xs ys all w = absurd stand
     unit_same program unit number (t ∷ ts) [] stand xs ys all w = absurd stand
     unit_same program unit number (OwnVariable kind t ∷ ts) (g ∷ gs) stand xs ys all w =
-        ap (λ g. further (statics_made nat_eq unit number (op.global_variable g ∷ map op.global_variable gs) ys w) by_number) stand.0
+        ap (λ g. further (statics_made nat_eq unit number (programs.global_variable g ∷ map programs.global_variable gs) ys w) by_number) stand.0
         ∙ once_same (made_once kind (variable_of t) None w) _ _ (λ s v. unit_same program unit (suc number) ts gs stand.1 xs ys all (with_static unit number s v))
     unit_same program unit number (ExternalVariable name kind t ∷ ts) (g ∷ gs) stand xs ys all w =
         let k = stand.0.external in
         let is = stand.0.named in
-        ap (λ g. further (statics_made nat_eq unit number (op.global_variable g ∷ map op.global_variable gs) ys w) by_number) stand.0.is
+        ap (λ g. further (statics_made nat_eq unit number (programs.global_variable g ∷ map programs.global_variable gs) ys w) by_number) stand.0.is
         ∙ ap (λ o. further (further (made_once kind (variable_of t) o w)
-        (λ s w. statics_made nat_eq unit (suc number) (map op.global_variable gs) (ys ++ (k, s) ∷ []) (with_static unit number s w))) by_number) (found_same xs ys all name k is)
+        (λ s w. statics_made nat_eq unit (suc number) (map programs.global_variable gs) (ys ++ (k, s) ∷ []) (with_static unit number s w))) by_number) (found_same xs ys all name k is)
         ∙ once_same (made_once kind (variable_of t) (lookup (same_name name) xs) w) _ _
         (λ s v. unit_same program unit (suc number) ts gs stand.1 (xs ++ (name, s) ∷ []) (ys ++ (k, s) ∷ []) (shared_more xs ys all name k is s) (with_static unit number s v))
     unit_same program unit number (EntryPoint name signature ∷ ts) (g ∷ gs) stand xs ys all w =
-        ap (λ g. further (statics_made nat_eq unit number (op.global_variable g ∷ map op.global_variable gs) ys w) by_number) stand.0.is
+        ap (λ g. further (statics_made nat_eq unit number (programs.global_variable g ∷ map programs.global_variable gs) ys w) by_number) stand.0.is
         ∙ unit_same program unit (suc number) ts gs stand.1 xs ys all w
 
   pub statics_same : (program : List TypedUnit) (at : Label → ℕ) (unit : ℕ) (ts : List TypedUnit) (us : List UnitCode) → UnitsStand program names at unit ts us

@@ -10,7 +10,7 @@ use Rattle.pli_run.specs.declared.ending.RunError.TheVariants.{NoReturnedValue}
 use Rattle.pli_program.specs.Program as programs
 use Rattle.pli_program.specs.declared.instruction.Instruction.TheVariants as op
 use Rattle.pli_program.specs.Program.{Instruction, BlockKind, BeginBlock, is_on_unit}
-use Rattle.pli_program.specs.Program.{Block, UnitCode, Program, instruction_at}
+use Rattle.pli_program.specs.Program.{Block, UnitCode, Program, performed_at}
 use Rattle.pli_program.specs.Templates.{dummy}
 use Rattle.pli_program.specs.declared.kind.VariableKind.{VariableKind}
 use Rattle.pli_operation.specs.declared.operation.Operation.TheVariants.{Add, Within}
@@ -117,7 +117,7 @@ block_of kind parent parameters head entry =
 module _ (u : UnitCode) where
   -- this instruction stands here
   pub record Is (i : Instruction) (p q : ℕ) : Type 0 where
-    pub here : instruction_at u p ≡ Some i
+    pub here : performed_at u p ≡ Some i
     pub ends : suc p ≡ q
 
   -- a jump forward to a place

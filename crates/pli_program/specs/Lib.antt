@@ -2,3 +2,4 @@ pub mod Kinds
 pub mod Naming
 pub mod Program
 pub mod Templates
+pub mod laws

@@ -3,12 +3,13 @@ use pli_base::statement::Condition;
 use pli_map::{StringForm, WhichBound};
 use pli_operation::Operation;
 use pli_run::RunError;
+use std::alloc::AllocError;
 
 /// An instruction of the stack machine, by what it names (own): `D` is a description, `T` a template and `V` a value,
 /// each itself or the number of an entry of the unit's tables. Operands on the machine's list are values and places, of
 /// which the newest is taken first. A target is the place of an instruction in its unit, counted from 0; blocks and
 /// globals are numbers of entries in the unit's tables. Numbers are as wide as an instruction's bytes have them.
-#[derive(Clone, Copy)]
+#[derive(Copy)]
 pub enum Instruction<D, T, V> {
     /// A step; the activation's statement is this one.
     Step {
@@ -82,7 +83,7 @@ pub enum Instruction<D, T, V> {
         high: i32,
         multiplier: u32,
     },
-    /// The value.
+    /// Gives the value.
     Constant {
         value: V,
     },
@@ -92,7 +93,8 @@ pub enum Instruction<D, T, V> {
     Store,
     /// Takes a source's place and a target's, of aggregates, and copies what the source holds.
     Copy,
-    /// Takes a value and gives the place of a dummy argument.
+    /// Takes a value and gives the place of a dummy argument, which is made from the template and has the value. Initial
+    /// values of the template are not used.
     MakeDummy {
         template: T,
     },
@@ -179,4 +181,10 @@ pub enum Instruction<D, T, V> {
     },
     /// Fits a string to the place of a string that lies below it.
     FitToPlace,
+}
+
+impl<D: Copy, T: Copy, V: Copy> Clone for Instruction<D, T, V> {
+    fn clone(&self) -> Result<Self, AllocError> {
+        Ok(*self)
+    }
 }

@@ -3,6 +3,8 @@
 
 mod instruction;
 mod kind;
+mod laws;
 
 pub use instruction::Instruction;
 pub use kind::VariableKind;
+pub use laws::named_by_itself;

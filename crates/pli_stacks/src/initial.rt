@@ -132,6 +132,7 @@ pub fn first_bytes(
 /// Makes a generation of this description. Its scalars begin with these initial values, and those without one as their
 /// types have it; where the bytes of all that were laid before, they are handed over and copied. `StorageLimit` where
 /// there is no room for the generation.
+#[inline(always)]
 pub fn make_initial<'m>(
     alloc: Global,
     storage: &mut Storage<'m>,
@@ -158,6 +159,7 @@ pub fn make_initial<'m>(
 }
 
 /// The same where nothing was laid before.
+#[inline(never)]
 fn make_anew<'m>(
     alloc: Global,
     storage: &mut Storage<'m>,

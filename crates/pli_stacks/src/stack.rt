@@ -28,6 +28,7 @@ pub struct Stack<'m> {
 
 impl<'m> Stack<'m> {
     /// The bytes with which each generation begins, where they are few.
+    #[inline(always)]
     pub fn laid_bytes(&self) -> Option<&[u8]>
         ensures { IfSome result (λ bytes. IsLaid (record {
           description = description_view self.now.description.now;

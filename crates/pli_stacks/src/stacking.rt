@@ -38,6 +38,7 @@ pub fn count_of(stack: &Stack<'_>) -> Result<u16, StoreFault>
 }
 
 /// Makes a generation of the stack's variable, which is the newest from then on. After an error nothing has changed.
+#[inline(always)]
 pub fn push_made<'m>(
     alloc: Global,
     stack: &mut Stack<'m>,
@@ -65,6 +66,7 @@ pub fn push_made<'m>(
 }
 
 /// Takes the newest place off a stack, if it has one.
+#[inline(always)]
 pub fn pop_newest<'m>(stack: &mut Stack<'m>) -> Option<Place<'m>>
     ensures { MatchOption result (((stack_view stack.old).places ≡ []) × (stack_view stack.new ≡ stack_view stack.old))
         (λ place. stack_view stack.old ≡ record (stack_view stack.new) {

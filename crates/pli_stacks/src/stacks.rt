@@ -93,6 +93,7 @@ impl<'m> Stacks<'m> {
     /// ALLOCATE of a CONTROLLED variable: a new generation, with its initial values, which is its newest from then on.
     /// `NoRule` where no stack has the number; else `StorageLimit` where there is no room for it, or `OutOfMemory`.
     /// After an error nothing has changed.
+    #[inline(always)]
     pub fn allocate_controlled(
         &mut self,
         alloc: Global,
@@ -114,6 +115,7 @@ impl<'m> Stacks<'m> {
 
     /// FREE of a CONTROLLED variable: its newest generation ends. `NoGeneration` where it has none, `NoRule` where no
     /// stack has the number; then nothing has changed.
+    #[inline(always)]
     pub fn free_controlled(
         &mut self,
         storage: &mut Storage<'m>,
@@ -131,7 +133,7 @@ impl<'m> Stacks<'m> {
         let Some(place) = pop_newest(&mut self.stacks[number]) else {
             return Err(StoreFault::Raised(RunError::NoGeneration));
         };
-        storage.end(&[place.generation]);
+        storage.end_one(place.generation);
         Ok(())
     }
 }

@@ -230,7 +230,7 @@ impl<'m> Tested<'m> {
         let number = self.storage.number_at(place);
         assert!(rt; self.storage.element_number(place) == number);
         if let Some(lone) = self.storage.lone_number(place) {
-            assert!(rt; self.storage.number_alone(place, lone) == number);
+            assert!(rt; Some(self.storage.number_alone(place, lone)) == number);
         }
         match number {
             Some(number) => Answer::Gives(Item::Number(number)),
@@ -238,7 +238,8 @@ impl<'m> Tested<'m> {
         }
     }
 
-    /// Puts a number at a place, one way or another.
+    /// Puts a number at a place. An even number goes the general way, and an odd one the way of a number that stands
+    /// alone, or else that of an element.
     fn put(&mut self, place: Place<'m>, number: i64) -> bool {
         if number % 2 == 0 {
             return self.storage.put_number(place, number);

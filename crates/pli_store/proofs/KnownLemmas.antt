@@ -1,5 +1,5 @@
 -- Known parts of generations to which locators lead.
-use Rattle.std.proofs.Common.{◌≡◌, ℕ, ◌+◌, List, length, map, get_or, Some, option_and_then, if◌then◌else◌, refl, sym, ap, subst, ◌∙◌, arith}
+use Rattle.std.proofs.Common.{◌≡◌, ℕ, ◌+◌, Bool, true, false, List, length, map, get_or, Some, option_and_then, if◌then◌else◌, refl, sym, ap, subst, ◌∙◌, arith}
 use Rattle.std.specs.Option.{is_some}
 use Rattle.std.proofs.lemmas.Option.{same_Some, slice_get_read}
 use Rattle.pli_map.specs.Description.{Description}
@@ -18,15 +18,16 @@ use Rattle.pli_world.specs.Storage.{whole_at}
 use Rattle.pli_world.specs.World.{World, Yields, Raises, further, held, led_on}
 use Rattle.pli_world.specs.laws.OperationLaws.{led_near}
 use Rattle.pli_store.specs.answers.Found.{LeadsTo, StandsAt}
-use Rattle.pli_store.specs.answers.Known.{IsOutside, ReadBy}
+use Rattle.pli_store.specs.answers.Known.{IsOutside, PutBy, ReadBy, StandsBy}
 use Rattle.pli_store.specs.declared.generation.Generation.{Generation}
 use Rattle.pli_store.specs.declared.known.KnownPart.{KnownPart}
+use Rattle.pli_store.specs.declared.part.GenerationPart.{GenerationPart}
 use Rattle.pli_store.specs.declared.storage.Storage.{Storage}
 use Rattle.pli_store.specs.views.GenerationView.{generation_view}
-use Rattle.pli_store.specs.views.StorageView.{storage_view, with_storage}
+use Rattle.pli_store.specs.views.StorageView.{ValuePut, storage_view, with_storage}
 use Rattle.pli_store.proofs.PartAnswers.{number_found}
 use Rattle.pli_store.proofs.PlaceLemmas.{leads_to, within_store}
-use Rattle.pli_store.proofs.Searches.{stands_in_view}
+use Rattle.pli_store.proofs.Searches.{stands_in_store, stands_in_view}
 use Rattle.pli_world.specs.World.{unless_dead}
 
 -- a locator leads to one generation
@@ -88,3 +89,26 @@ module _ (s : Storage) (k : KnownPart) (l : Locator) (at : ℕ) (o : IsOutside (
   -- what it holds is read by the locator
   pub read_by : (v : Value) → ((w : World) → held part_place (with_storage s w) ≡ Yields v (with_storage s w)) → ReadBy s l k v
   read_by v holds = record { whole = whole_place; part = part_place; leads = leads_there; led = leads_on; holds = holds }
+
+  -- the part's place leads there
+  pub part_stands : LeadsTo (storage_view s) part_place (record { at = at; offset = k.offset })
+  part_stands =
+      let items = s.generations.items in
+      let found = stands_in_store items at o.stands.generation o.stands.stands in
+      let g = found.0 in
+      let whole = description_view k.whole.now in
+      let part = description_view k.description.now in
+      let described : (generation_view g).description ≡ whole =
+      ap (λ (x : plain.Generation). x.description) (sym (same_Some o.stands.generation (generation_view g) (sym o.stands.stands ∙ stands_in_view items at g found.1))) ∙ o.described in
+      let begins : 0 + k.offset ≡ k.offset = omega arith in
+      subst (λ n. LeadsTo (storage_view s) part_place (record { at = at; offset = n })) begins
+      (leads_to items part_place at o.stands refl g found.1
+      (ap (λ d. is_some (first_scalar d (0 + k.offset) part)) described ∙ ap (λ n. is_some (first_scalar whole n part)) begins ∙ k.stands))
+
+  pub stands_by : StandsBy s l k (record { at = at; offset = k.offset })
+  stands_by = record { whole = whole_place; part = part_place; leads = leads_there; led = leads_on; described = refl; there = part_stands }
+
+-- what is put there is put by the locator
+pub put_by : (b : Bool) (old new : Storage) (l : Locator) (k : KnownPart) (stands : GenerationPart) (s : StandsBy old l k stands) (v : Value) → ValuePut b old new s.part v → PutBy b old new l k v
+put_by true old new l k stands s v put = record { whole = s.whole; part = s.part; leads = s.leads; led = s.led; puts = put }
+put_by false old new l k stands s v same = same

@@ -9,6 +9,7 @@ pub mod FarPlaces
 pub mod HeldScalars
 pub mod KnownLemmas
 pub mod LivingTargets
+pub mod LoneLemmas
 pub mod MakingLemmas
 pub mod OneMore
 pub mod PartAnswers
@@ -20,5 +21,6 @@ pub mod ReadParts
 pub mod RisingNumbers
 pub mod SameStorages
 pub mod Searches
+pub mod SpareLemmas
 pub mod StandingParts
 pub mod StringLemmas

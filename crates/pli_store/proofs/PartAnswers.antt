@@ -1,5 +1,5 @@
 -- What operations on a place answer where it leads to a part, where it leads nowhere, and where it is dead.
-use Rattle.std.proofs.Common.{◌≡◌, ℕ, Bool, true, false, nat_eq, List, [], ◌∷◌, ◌++◌, set, Some, None, MatchOption, Result, Ok, Err, if◌then◌else◌, refl, sym, ap, ◌∙◌, subst}
+use Rattle.std.proofs.Common.{◌≡◌, ℕ, zero, suc, Bool, true, false, nat_eq, List, [], ◌∷◌, ◌++◌, ◌+◌, take, drop, set, Some, None, MatchOption, Result, Ok, Err, if◌then◌else◌, refl, sym, ap, ◌∙◌, subst}
 use Rattle.std.specs.Result.{result_ok}
 use Rattle.std.proofs.lemmas.Bool.{eqb-true}
 use Rattle.std.proofs.lemmas.Option.{same_Some, none-some}
@@ -132,8 +132,38 @@ number_found (x ∷ gs) number g h = by (nat_eq x.number number) refl h (number_
     by true e found rest = ap (λ (y : Generation). y.number) (sym (same_Some x g found)) ∙ eqb-true x.number number e
     by false e found rest = rest found
 
+-- the generation of a number, of which values have changed
+found_changed : (gs : List Generation) (number : ℕ) (vs : List Value) (g : Generation) → generation_in gs number ≡ Some g
+    → generation_in (with_values gs number vs) number ≡ Some (record g { values = vs })
+found_changed [] number vs g h = absurd (none-some g h)
+found_changed (x ∷ gs) number vs g h = by (nat_eq x.number number) refl h (found_changed gs number vs g)
+  where
+    by : (b : Bool) → nat_eq x.number number ≡ b → (if b then Some x else generation_in gs number) ≡ Some g
+        → (generation_in gs number ≡ Some g → generation_in (with_values gs number vs) number ≡ Some (record g { values = vs }))
+        → generation_in (if b then record x { values = vs } ∷ gs else x ∷ with_values gs number vs) number ≡ Some (record g { values = vs })
+    by true e found rest =
+        ap (λ c. if c then Some (record x { values = vs }) else generation_in gs number) e
+        ∙ ap (λ (y : Generation). Some (record y { values = vs })) (same_Some x g found)
+    by false e found rest = ap (λ c. if c then Some x else generation_in (with_values gs number vs) number) e ∙ rest found
+
+-- a value in the place of one that stands among others
+put_among : (k : ℕ) (vs rest : List Value) (u v : Value) → take 1 (drop k vs) ≡ u ∷ [] → take 1 (drop k ((take k vs ++ (v ∷ [])) ++ rest)) ≡ v ∷ []
+put_among zero vs rest u v e = refl
+put_among (suc k) [] rest u v e = absurd (let none : [] ≡ u ∷ [] = e in cc)
+put_among (suc k) (x ∷ vs) rest u v e = put_among k vs rest u v e
+
+put_then : (k : ℕ) (vs : List Value) (u v : Value) → values_from k 1 vs ≡ u ∷ [] → values_from k 1 (with_values_at k (v ∷ []) vs) ≡ v ∷ []
+put_then k vs u v e = put_among k vs _ u v e
+
+-- what a place holds, by its generation
+held_changed : (p : Place) (w : World) (g : Generation) (k : ℕ) (v : Value) → p.position ≡ 0 → generation_in w.storage p.generation ≡ Some g
+    → first_scalar g.description p.offset p.description ≡ Some k → is_scalar p.description ≡ true → values_from k 1 g.values ≡ v ∷ [] → held p w ≡ Yields v w
+unfolding held parts_held
+held_changed p w g k v outside found first scalar one =
+    rw (found, outside, first) (rw scalar (rw (one_scalar p.description scalar) (rw one refl)))
+
 -- one part that stands there is the other
-same_part : (gs : List Generation) (part : GenerationPart) (d : Description) (s t : PartStands gs part d) (vs : List Value)
+pub same_part : (gs : List Generation) (part : GenerationPart) (d : Description) (s t : PartStands gs part d) (vs : List Value)
     → record s.generation { values = with_values_at s.scalar vs s.generation.values } ≡ record t.generation { values = with_values_at t.scalar vs t.generation.values }
 same_part gs part d s t vs =
     let same : s.generation ≡ t.generation = same_Some s.generation t.generation (sym s.stands ∙ t.stands) in
@@ -152,6 +182,17 @@ module _ (p : Place) (w : World) (part : GenerationPart) (l : LeadsTo w.storage 
 
   pub stored_done : (v : Value) → holds p.description v ≡ true → ValuesPut w.storage new part p.description (v ∷ []) → stored p v w ≡ Yields tt (record w { storage = new })
   stored_done v fits put = stored_there p w part l v fits ∙ ap (λ s. Yields tt (record w { storage = s })) (put_there (v ∷ []) put)
+
+  -- what is put is held in every world with that storage, where a value was held before
+  pub held_then : (u v : Value) → is_scalar p.description ≡ true → values_from l.there.scalar 1 l.there.generation.values ≡ u ∷ [] → ValuesPut w.storage new part p.description (v ∷ [])
+      → (later : World) → later.storage ≡ new → held p later ≡ Yields v later
+  held_then u v scalar one put later is =
+      let g = l.there.generation in
+      let k = l.there.scalar in
+      let vs = with_values_at k (v ∷ []) g.values in
+      held_changed p later (record g { values = vs }) k v l.outside
+      (ap (λ gs. generation_in gs p.generation) (is ∙ sym (put_there (v ∷ []) put)) ∙ found_changed w.storage p.generation vs g l.found)
+      l.first scalar (put_then k g.values u v one)
 
 -- ---- what is kept
 

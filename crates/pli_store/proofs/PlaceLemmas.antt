@@ -1,6 +1,6 @@
 -- Where places lead.
-use Rattle.std.proofs.Common.{◌≡◌, ◌≢◌, ℕ, ◌<◌, true, false, List, length, map, Option, Some, None, slice_get, refl, sym, ap, ◌∙◌, arith}
-use Rattle.std.specs.Option.{is_some}
+use Rattle.std.proofs.Common.{◌≡◌, ◌≢◌, ℕ, ◌<◌, ◌≤◌, true, false, List, length, map, Option, Some, None, slice_get, refl, sym, ap, ◌∙◌, arith}
+use Rattle.std.specs.Option.{is_some, unwrap_or}
 use Rattle.std.proofs.lemmas.Option.{slice_get_within}
 use Rattle.std.proofs.lemmas.List.{length-map}
 use Rattle.pli_map.specs.Description.{Description, FixedBinary, Character, Varying, Bit, Pointer, Offset, Area, Array, Structure}
@@ -21,6 +21,14 @@ within_store items number at s =
 -- the generation that stands in the store
 pub stored_one : (items : List Generation) (number at : ℕ) (g : Generation) → StandsAt (map generation_view items) number at → slice_get items at ≡ Some g → generation_in (map generation_view items) number ≡ Some (generation_view g)
 stored_one items number at g s h = s.found ∙ sym s.stands ∙ stands_in_view items at g h
+
+-- one item stands there
+pub one_there : {X : Type 0} (xs : List X) (at : ℕ) (x y : X) → slice_get xs at ≡ Some x → slice_get xs at ≡ Some y → x ≡ y
+one_there xs at x y h k = ap (λ o. unwrap_or o x) (sym h ∙ k)
+
+-- none stands past the last
+pub none_there : {X : Type 0} (xs : List X) (at : ℕ) (x : X) → length xs ≤ at → slice_get xs at ≡ Some x → ⊥
+none_there xs at x past h = let within = slice_get_within xs at x h in absurd (omega (arith, past, within))
 
 pub nothing_found : (o : Option ℕ) → is_some o ≡ false → o ≡ None
 nothing_found None e = refl

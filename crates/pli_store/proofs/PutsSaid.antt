@@ -7,6 +7,7 @@ use Rattle.pli_bytes.specs.Changes.{IsPut, PutOrSame, AppendedOrSame}
 use Rattle.pli_bytes.specs.Contents.{value_of, value_in, values_of, bytes_from, with_bytes_at}
 use Rattle.pli_bytes.proofs.PartsOfBytes.{scalar_put, part_copied, part_put}
 use Rattle.pli_map.specs.Description.{Description, Varying}
+use Rattle.pli_map.specs.Marks.{HasElements, HasMark}
 use Rattle.pli_map.specs.Scalars.{is_area, is_scalar, scalars_in}
 use Rattle.pli_map.specs.Sizes.{size_of}
 use Rattle.pli_map.specs.views.DescriptionView.{description_view}
@@ -86,9 +87,9 @@ varying_short greatest bytes text size held = omega (arith, some_taken _ (drop 2
 module _ (items : List Generation) (part : GenerationPart) (d : Description) (s : PartStands (map generation_view items) part d)
     (g : Generation) (read : g ≡ get_or items part.at g) (was new : List ℕ) (value : was ≡ g.bytes.items) (len : length new ≡ length was)
     (sized : length (with_items g.bytes new).items ≡ size_of (description_view g.description.now)) (inhabited : is_some g.area ≡ is_area (description_view g.description.now))
-    (alone : g.digits ≡ digits_in (description_view g.description.now)) (roomy : is_area (description_view g.description.now) ≡ true → capacity_in g.area ≡ size_of (description_view g.description.now)) where
+    (alone : g.digits ≡ digits_in (description_view g.description.now)) (marked : HasMark (description_view g.description.now) g.mark) (alike : HasElements (description_view g.description.now) g.elements) (roomy : is_area (description_view g.description.now) ≡ true → capacity_in g.area ≡ size_of (description_view g.description.now)) where
   abbrev changed : Generation
-  changed = record g { bytes = with_items g.bytes new; sized = sized; inhabited = inhabited; alone = alone; roomy = roomy }
+  changed = record g { bytes = with_items g.bytes new; sized = sized; inhabited = inhabited; alone = alone; marked = marked; alike = alike; roomy = roomy }
 
   here : slice_get items part.at ≡ Some g
   here = read_there items part d s g read
@@ -110,21 +111,26 @@ module _ (items : List Generation) (part : GenerationPart) (d : Description) (s 
       nothing_put items part d s g changed here
       (ap (λ b. holding (generation_view g) (values_of (generation_view g).description b)) (bytes_are ∙ same ∙ value))
 
+  -- only where something is put, a scalar has to stand there
+  pub put_or_same_where : (b : Bool) (v : Value) → (b ≡ true → is_scalar d ≡ true) → PutOrSame b d v part.offset was new
+      → ValuesPutOrSame b (map generation_view items) (map generation_view (set items part.at changed)) part d (v ∷ [])
+  put_or_same_where true v scalar put = scalar_is_put v (scalar refl) put
+  put_or_same_where false v scalar same = same_is_left same
+
   pub put_or_same : (b : Bool) (v : Value) → is_scalar d ≡ true → PutOrSame b d v part.offset was new
       → ValuesPutOrSame b (map generation_view items) (map generation_view (set items part.at changed)) part d (v ∷ [])
-  put_or_same true v scalar put = scalar_is_put v scalar put
-  put_or_same false v scalar same = same_is_left same
+  put_or_same b v scalar put = put_or_same_where b v (λ e. scalar) put
 
 -- characters put after those of the string that was read there
 module _ (items : List Generation) (part : GenerationPart) (greatest : ℕ) (s : PartStands (map generation_view items) part (Varying greatest))
     (g : Generation) (read : g ≡ get_or items part.at g) (was new : List ℕ) (value : was ≡ g.bytes.items) (len : length new ≡ length was)
     (sized : length (with_items g.bytes new).items ≡ size_of (description_view g.description.now)) (inhabited : is_some g.area ≡ is_area (description_view g.description.now))
-    (alone : g.digits ≡ digits_in (description_view g.description.now)) (roomy : is_area (description_view g.description.now) ≡ true → capacity_in g.area ≡ size_of (description_view g.description.now)) where
+    (alone : g.digits ≡ digits_in (description_view g.description.now)) (marked : HasMark (description_view g.description.now) g.mark) (alike : HasElements (description_view g.description.now) g.elements) (roomy : is_area (description_view g.description.now) ≡ true → capacity_in g.area ≡ size_of (description_view g.description.now)) where
   pub lengthened_or_same : (b : Bool) (more : List ℕ) (room : ℕ) → AppendedOrSame b greatest part.offset more room was new
-      → LengthenedOrSame b (map generation_view items) (map generation_view (set items part.at (record g { bytes = with_items g.bytes new; sized = sized; inhabited = inhabited; alone = alone; roomy = roomy }))) part greatest more room
+      → LengthenedOrSame b (map generation_view items) (map generation_view (set items part.at (record g { bytes = with_items g.bytes new; sized = sized; inhabited = inhabited; alone = alone; marked = marked; alike = alike; roomy = roomy }))) part greatest more room
   lengthened_or_same true more room a = record {
     text = a.text;
-    puts = scalar_is_put items part (Varying greatest) s g read was new value len sized inhabited alone roomy (Characters (a.text ++ more)) refl a.put;
+    puts = scalar_is_put items part (Varying greatest) s g read was new value len sized inhabited alone marked alike roomy (Characters (a.text ++ more)) refl a.put;
     was = λ there.
         held_there items part (Varying greatest) there g (read_there items part (Varying greatest) s g read) refl
         ∙ ap (λ l. value_in l (record { offset = part.offset; description = Varying greatest }) ∷ []) (sym value)
@@ -132,4 +138,4 @@ module _ (items : List Generation) (part : GenerationPart) (greatest : ℕ) (s :
     short = varying_short greatest a.put.bytes (a.text ++ more) a.put.size a.put.hold;
     fits = a.fits;
   }
-  lengthened_or_same false more room a = same_is_left items part (Varying greatest) s g read was new value len sized inhabited alone roomy a
+  lengthened_or_same false more room a = same_is_left items part (Varying greatest) s g read was new value len sized inhabited alone marked alike roomy a

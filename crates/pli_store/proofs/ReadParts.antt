@@ -1,5 +1,5 @@
 -- What is read in the bytes of the store is what places hold.
-use Rattle.std.specs.Prelude.{⊤}
+use Rattle.std.specs.Prelude.{⊤, IsSome}
 use Rattle.std.proofs.Common.{◌≡◌, ◌≢◌, ℕ, ◌+◌, ◌≤◌, true, List, [], ◌∷◌, length, get_or, Option, None, Some, IfSome, MatchOption, Bor, refl, sym, ap, ◌∙◌, arith}
 use Rattle.pli_bytes.specs.Contents.{bytes_from, value_in}
 use Rattle.pli_map.specs.Description.{Description}
@@ -28,6 +28,11 @@ pub if_found : {X : Type 0} (r : Option X) (Found : X → Type 0) → MatchOptio
 if_found None Found h = tt
 if_found (Some x) Found h = h
 
+-- something is found where nothing can't be
+pub must_be : {X : Type 0} (r : Option X) (Found : X → Type 0) → MatchOption r ⊥ Found → IsSome r
+must_be None Found h = absurd h
+must_be (Some x) Found h = refl
+
 module _ (s : Storage) (p : plain.Place) (part : GenerationPart) (l : LeadsTo (storage_view s) p part)
     (g : Generation) (read : g ≡ get_or s.generations.items part.at g) (bytes : List ℕ) (same : bytes ≡ g.bytes.items) where
   pub value_read : (v : Value) → is_scalar p.description ≡ true → value_in bytes (record { offset = part.offset; description = p.description }) ≡ v
@@ -38,7 +43,7 @@ module _ (s : Storage) (p : plain.Place) (part : GenerationPart) (l : LeadsTo (s
       ∙ ap (λ b. value_in b (record { offset = part.offset; description = p.description }) ∷ []) (sym same)
       ∙ ap (λ (u : Value). u ∷ []) value)
 
-  within : (d : Description) → p.description ≡ d → part.offset + size_of d ≤ length bytes
+  pub within : (d : Description) → p.description ≡ d → part.offset + size_of d ≤ length bytes
   within d is =
       let there = read_there s.generations.items part p.description l.there g read in
       omega (arith, bytes_within s.generations.items part p.description l.there g there, ap size_of is, ap length same)

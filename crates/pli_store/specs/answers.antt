@@ -8,6 +8,8 @@ pub mod Kinds
 pub mod Known
 pub mod LedOn
 pub mod Lone
+pub mod Near
 pub mod Puts
+pub mod Rows
 pub mod StringLists
 pub mod Strings

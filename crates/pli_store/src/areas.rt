@@ -27,6 +27,7 @@ impl<'m> Storage<'m> {
     /// Where the area of a place stands. `DeadLocator` where its generation has ended or the block that it leads into,
     /// `DescriptionMismatch` where a block has another whole description, else `NoRule` where the place is no whole
     /// area.
+    #[inline(always)]
     fn area_at(&self, place: Place<'_>) -> Result<usize, StoreFault>
         ensures { AreaLeads self.now (place_view place.entry) result }
     {
@@ -43,7 +44,7 @@ impl<'m> Storage<'m> {
         if !is_area(place.description) {
             return Err(StoreFault::NoRule);
         }
-        if !self.generations[at].description.equals(place.description) {
+        if !self.generations[at].description.is_same(place.description) {
             return Err(StoreFault::NoRule);
         }
         Ok(at)
@@ -144,6 +145,7 @@ impl<'m> Storage<'m> {
 
     /// The block at the position of a place ends; where none lives there, nothing changes. No search is needed where
     /// the generation stands where it stood as the place was made.
+    #[inline]
     pub fn free_block(&mut self, block: Place<'_>)
         ensures storage { let p = place_view block.entry in storage_view self.new
             ≡ with_blocks (storage_view self.old) p.generation (λ bs. without_block bs p.position) }

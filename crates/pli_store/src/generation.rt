@@ -2,6 +2,7 @@
 ghost use Rattle.std.specs.Prelude.{◌≡◌, ◌<◌, true, length, get_or};
 ghost use Rattle.std.specs.List.{remove};
 ghost use Rattle.std.specs.Option.{is_some};
+ghost use Rattle.pli_map.specs.Marks.{HasElements, HasMark};
 ghost use Rattle.pli_map.specs.Scalars.{is_area};
 ghost use Rattle.pli_map.specs.Sizes.{size_of};
 ghost use Rattle.pli_map.specs.views.DescriptionView.{description_view};
@@ -33,8 +34,12 @@ pub struct Generation<'m> {
     pub number: u32,
     /// How many binary digits it has, where it is a number; 0 where it is none.
     pub digits: u8,
-    pub description: &'m Description,
     pub made: Made,
+    /// The mark of the scalars of which it is an array, or 0.
+    pub elements: u16,
+    /// The mark of its description, or 0.
+    pub mark: u64,
+    pub description: &'m Description,
     /// As many as the size of the description.
     pub bytes: Vec<u8>,
     /// The blocks of an area, which have bytes of their own.
@@ -42,6 +47,8 @@ pub struct Generation<'m> {
     ghost sized: { length bytes.items ≡ size_of (description_view description.now) },
     ghost inhabited: { is_some area ≡ is_area (description_view description.now) },
     ghost alone: { digits ≡ digits_in (description_view description.now) },
+    ghost marked: { HasMark (description_view description.now) mark },
+    ghost alike: { HasElements (description_view description.now) elements },
     ghost roomy: { is_area (description_view description.now) ≡ true →
         capacity_in area ≡ size_of (description_view description.now) },
 }

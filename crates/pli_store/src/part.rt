@@ -1,5 +1,5 @@
 //! Where a place leads in storage.
-ghost use Rattle.std.specs.Prelude.{◌≡◌, ◌≢◌, ◌↔◌, ℕ, ◌≤◌, ◌<◌, ◌/◌, ◌%◌, ◌∷◌, [], ◌&&◌, true, nat_eq, nat_lt};
+ghost use Rattle.std.specs.Prelude.{◌≡◌, ◌≢◌, ◌↔◌, ℕ, ◌+◌, ◌*◌, ◌≤◌, ◌<◌, ◌/◌, ◌%◌, ◌∷◌, [], ◌&&◌, true, nat_eq, nat_lt};
 ghost use Rattle.std.specs.Prelude.{IsTrue, IfSome, MatchOption};
 ghost use Rattle.std.specs.Option.{is_some};
 ghost use Rattle.pli_map.specs.Description as tree;
@@ -8,8 +8,10 @@ ghost use Rattle.pli_map.specs.Sizes.{number_bytes, size_of};
 ghost use Rattle.pli_map.specs.views.DescriptionView.{description_view, members_view};
 ghost use Rattle.pli_store.specs.answers.Kinds.{are_numbers};
 
+use crate::element_place::ElementPlace;
 use pli_map::{
     Bounds, Description, are_same_scalars, first_scalar, stands_among, stands_in, stands_in_array,
+    stands_in_structure,
 };
 use pli_value::short::SHORT_LIMIT;
 
@@ -124,12 +126,126 @@ pub fn is_number_at(whole: &Description, size: usize, offset: usize, precision: 
     }
 }
 
+/// Whether an element that is a number of so many binary digits stands in a whole of so many bytes: that number, an array
+/// of such, or an array of structures in which it stands after other scalars. `false` leaves it open.
+#[inline(always)]
+pub fn is_number_in_row(
+    whole: &Description,
+    size: usize,
+    element: &ElementPlace<'_>,
+    precision: u8,
+) -> bool
+    requires size { size ≡ size_of (description_view whole.now) }
+    requires number { description_view element.now.place.description.now ≡ tree.FixedBinary precision }
+    ensures { result ≡ true → is_some (first_scalar (description_view whole.now) element.now.place.offset
+        (description_view element.now.place.description.now)) ≡ true }
+{
+    if is_number_at(whole, size, element.place.offset as usize, precision) {
+        return true;
+    }
+    stands_in_structure(
+        whole,
+        size,
+        element.stride,
+        element.above,
+        element.first,
+        element.place.description,
+        precision,
+    )
+}
+
+/// Whether a string of one bit stands so many bytes after the beginning of a whole of so many bytes, which is an array of
+/// such. `false` leaves it open.
+#[inline(always)]
+pub fn is_bit_at(whole: &Description, size: usize, offset: usize) -> bool
+    requires { size ≡ size_of (description_view whole.now) }
+    ensures { result ≡ true → is_some (first_scalar (description_view whole.now) offset (tree.Bit 1)) ≡ true }
+{
+    match whole {
+        Description::Array { element, .. } => match &**element {
+            Description::Bit(1) => offset < size,
+            _ => false,
+        },
+        _ => false,
+    }
+}
+
+/// Whether a pointer stands so many bytes after the beginning of a whole of so many bytes: alone, or as an element of an
+/// array. Whether it stands in any other whole is not asked.
+#[inline(always)]
+pub fn is_pointer_at(whole: &Description, size: usize, offset: usize) -> bool
+    requires { size ≡ size_of (description_view whole.now) }
+    ensures { result ≡ true → is_some (first_scalar (description_view whole.now) offset tree.Pointer) ≡ true }
+{
+    match whole {
+        Description::Pointer => offset == 0,
+        Description::Array { element, .. } => match &**element {
+            Description::Pointer => offset % 8 == 0 && offset < size,
+            _ => false,
+        },
+        _ => false,
+    }
+}
+
 /// Whether both are the same scalar: the second then stands where the first begins.
 #[inline(always)]
 fn is_itself(whole: &Description, part: &Description) -> bool
     ensures { result ≡ true → is_some (first_scalar (description_view whole.now) 0 (description_view part.now)) ≡ true }
 {
     are_same_scalars(whole, part)
+}
+
+/// How many characters both have, where both are of CHARACTER of as many.
+#[inline(always)]
+fn common_length(left: &Description, right: &Description) -> Option<u16>
+    ensures { IfSome result (λ count. (description_view left.now ≡ tree.Character count)
+        × (description_view right.now ≡ tree.Character count)) }
+{
+    match (left, right) {
+        (Description::Character(has), Description::Character(wanted)) if *has == *wanted => {
+            Some(*has)
+        }
+        _ => None,
+    }
+}
+
+/// Whether a string of so many characters is an element of an array of such that takes so many bytes, and stands so many
+/// bytes after its beginning; `false` leaves it open.
+#[inline(always)]
+fn is_text_in(_bounds: &[Bounds], count: u16, size: usize, offset: u32) -> bool
+    requires { size ≡ size_of (tree.Array _bounds.now (tree.Character count)) }
+    ensures { result ≡ true → is_some (first_scalar (tree.Array _bounds.now (tree.Character count)) offset
+        (tree.Character count)) ≡ true }
+{
+    if count == 0 {
+        return false;
+    }
+    if offset as usize >= size {
+        return false;
+    }
+    offset % u32::from(count) == 0
+}
+
+/// Whether a scalar stands so many bytes after the beginning of a whole of so many bytes: alone, or, of CHARACTER, as an
+/// element of an array; `false` leaves it open.
+#[inline(always)]
+pub fn is_alone_or_element(
+    whole: &Description,
+    size: usize,
+    offset: u32,
+    part: &Description,
+) -> bool
+    requires { size ≡ size_of (description_view whole.now) }
+    ensures { result ≡ true → is_some (first_scalar (description_view whole.now) offset (description_view part.now))
+        ≡ true }
+{
+    match whole {
+        Description::Array { bounds, element } => match common_length(element, part) {
+            Some(count) => is_text_in(bounds, count, size, offset),
+            None => false,
+        },
+        _ => offset == 0 && is_itself(whole, part),
+    }
 }
 
 /// Whether an element begins so many bytes after the beginning of an array of so many that each take so many bytes.

@@ -1,5 +1,6 @@
 //! Places: where references lead.
-ghost use Rattle.std.specs.Prelude.{◌≡◌, ◌≢◌, ◌*◌, ◌≤ℤ◌, ◌-ℤ◌, unsigned_abs};
+ghost use Rattle.std.specs.Prelude.{IfSome, unsigned_abs, ◌*◌, ◌+◌, ◌-ℤ◌, ◌≡◌, ◌≢◌, ◌≤ℤ◌};
+ghost use Rattle.pli_map.specs.Description.{FixedBinary};
 ghost use Rattle.pli_map.specs.views.DescriptionView.{description_view};
 ghost use Rattle.pli_world.specs.Storage.{whole_at};
 ghost use Rattle.pli_world.specs.World.{led_on};
@@ -66,12 +67,35 @@ impl<'m> Place<'m> {
         }
     }
 
+    /// The whole of a generation that is a number of so many binary digits, and stands there among those that live.
+    #[inline(always)]
+    pub(crate) fn of_number(
+        generation: u32,
+        hint: u32,
+        digits: u8,
+        whole: &'m Description,
+    ) -> Place<'m>
+        requires { description_view whole.now ≡ FixedBinary digits }
+        ensures { place_view result ≡ whole_at generation 0 (description_view whole.now) }
+    {
+        Place {
+            generation,
+            position: 0,
+            offset: 0,
+            hint,
+            digits,
+            description: whole,
+            whole,
+        }
+    }
+
     /// The part of this description that stands so many bytes further. `None` where that is more than 1,000,000 bytes
     /// after the beginning.
     #[inline(always)]
     #[tactic(auto, using(pli_world::specs::laws::OperationLaws::led_near, pli_world::specs::laws::OperationLaws::led_too_far))]
-    fn advanced(self, offset: u64, description: &'m Description) -> Option<Place<'m>>
-        ensures { LedOn (led_on offset (description_view description.now) (place_view self.entry)) result }
+    pub(crate) fn advanced(self, offset: u64, description: &'m Description) -> Option<Place<'m>>
+        ensures led { LedOn (led_on offset (description_view description.now) (place_view self.entry)) result }
+        ensures sum { IfSome result (λ p. p.offset ≡ self.entry.offset + offset) }
     {
         let sum = u64::from(self.offset).checked_add(offset)?;
         if sum > u64::from(OFFSET_LIMIT) {

@@ -1,5 +1,6 @@
 //! Values put into generations.
 ghost use Rattle.std.specs.Prelude.{◌≡◌, ◌↔◌, ◌≤◌, ◌∷◌, [], map, true, IsTrue, IsFalse};
+ghost use Rattle.pli_bytes.specs.Changes.{text_fitted};
 ghost use Rattle.pli_map.specs.Description.{FixedBinary, Varying, Bit, Pointer};
 ghost use Rattle.pli_map.specs.Values.{holds};
 ghost use Rattle.pli_map.specs.views.DescriptionView.{description_view};
@@ -7,13 +8,15 @@ ghost use Rattle.pli_store.specs.answers.Found.{PartStands};
 ghost use Rattle.pli_store.specs.answers.Puts.{ValuesPut, ValuesPutOrSame, LengthenedOrSame, IsTooLong};
 ghost use Rattle.pli_store.specs.views.GenerationView.{generation_view};
 ghost use Rattle.pli_value.specs.Short.{short_view};
-ghost use Rattle.pli_value.specs.Value.{value_view, Number, Bits, Located};
+ghost use Rattle.pli_value.specs.Value.{value_view, Number, Characters, Bits, Located};
 
 use crate::bits::put_bit_at;
 use crate::generation::Generation;
 use crate::part::GenerationPart;
 use crate::pointers::put_pointer_at;
-use pli_bytes::{append_at, put_number_at, put_short_at, put_value_at};
+use pli_bytes::{
+    append_at, put_known_number, put_number_at, put_short_at, put_text_at, put_value_at,
+};
 use pli_map::Description;
 use pli_value::{Locator, ShortBits, Value, number};
 
@@ -58,6 +61,20 @@ pub fn put_number(
 {
     let generation = &mut generations[part.at];
     put_number_at(&mut generation.bytes, part.offset, precision, number)
+}
+
+/// The same of a number that may be one of so many binary digits, and stands alone in its generation.
+#[inline(always)]
+pub fn put_alone(generations: &mut Vec<Generation<'_>>, at: usize, precision: u8, number: i64)
+    requires stands { PartStands (map generation_view generations.old.items) (record { at = at; offset = 0 })
+        (FixedBinary precision) }
+    requires few { precision ≤ 63 }
+    requires held { holds (FixedBinary precision) (Number number) ≡ true }
+    ensures { ValuesPut (map generation_view generations.old.items) (map generation_view generations.new.items)
+        (record { at = at; offset = 0 }) (FixedBinary precision) (Number number ∷ []) }
+{
+    let generation = &mut generations[at];
+    put_known_number(&mut generation.bytes, precision, number);
 }
 
 /// The same of a string of one bit, for which there always is room.
@@ -105,6 +122,27 @@ pub fn put_pointer(
 {
     let generation = &mut generations[part.at];
     put_pointer_at(&mut generation.bytes, part.offset, locator)
+}
+
+/// Puts characters in the place of those of a string of CHARACTER or CHARACTER VARYING, cut on the right or extended
+/// there with blanks to what it holds; `false` under any other description.
+#[inline(always)]
+pub fn put_text(
+    generations: &mut Vec<Generation<'_>>,
+    part: GenerationPart,
+    description: &Description,
+    text: &[u8],
+) -> bool
+    requires { PartStands (map generation_view generations.old.items) part (description_view description.now) }
+    ensures put { ValuesPutOrSame result (map generation_view generations.old.items)
+        (map generation_view generations.new.items)
+        part (description_view description.now)
+        (Characters (text_fitted (description_view description.now) text.now) ∷ []) }
+    ensures held { IsTrue result → holds (description_view description.now)
+        (Characters (text_fitted (description_view description.now) text.now)) ≡ true }
+{
+    let generation = &mut generations[part.at];
+    put_text_at(&mut generation.bytes, part.offset, description, text)
 }
 
 /// Puts characters after those of a string of CHARACTER VARYING of so many at most, where both are no more than that

@@ -1,5 +1,5 @@
 //! The memory of generations that have ended, kept for those that are made.
-ghost use Rattle.std.specs.Prelude.{◌≡◌, length, IfOk};
+ghost use Rattle.std.specs.Prelude.{IfOk, IfSome, drop, length, take, ◌++◌, ◌≡◌, ◌≤◌};
 
 use std::alloc::{AllocError, Global};
 
@@ -8,6 +8,50 @@ const KEPT_LIMIT: usize = 16_384;
 
 /// How many bytes a generation takes at most whose memory is kept (own).
 const KEPT_BYTES: usize = 256;
+
+/// As many bytes as that, whatever they are.
+#[inline(never)]
+fn resized(mut bytes: Vec<u8>, size: usize) -> Result<Vec<u8>, AllocError>
+    ensures { IfOk result (λ bytes. length bytes.items ≡ size) }
+{
+    bytes.resize(size, 0)?;
+    Ok(bytes)
+}
+
+/// Puts four bytes in the place of the first four.
+#[inline(always)]
+fn put_four(own: &mut [u8], bytes: &[u8])
+    requires own { 4 ≤ length own.old }
+    requires bytes { 4 ≤ length bytes.now }
+    ensures { own.new ≡ take 4 bytes.now ++ drop 4 own.old }
+{
+    own[..4].copy_from_slice(&bytes[..4]);
+}
+
+/// The same of eight.
+#[inline(always)]
+fn put_eight(own: &mut [u8], bytes: &[u8])
+    requires own { 8 ≤ length own.old }
+    requires bytes { 8 ≤ length bytes.now }
+    ensures { own.new ≡ take 8 bytes.now ++ drop 8 own.old }
+{
+    own[..8].copy_from_slice(&bytes[..8]);
+}
+
+/// Puts bytes in the place of as many. Four and eight, as numbers and pointers have, take a short way.
+#[inline(always)]
+fn put_all(own: &mut [u8], bytes: &[u8])
+    requires { length own.old ≡ length bytes.now }
+    ensures { own.new ≡ bytes.now }
+{
+    if bytes.len() == 4 {
+        put_four(own, bytes);
+    } else if bytes.len() == 8 {
+        put_eight(own, bytes);
+    } else {
+        own.copy_from_slice(bytes);
+    }
+}
 
 /// Memory of small generations. What stood in it means nothing.
 #[derive(Drop)]
@@ -34,6 +78,35 @@ impl SpareBytes {
         };
         bytes.resize(size, 0)?;
         Ok(bytes)
+    }
+
+    /// The same in memory that was kept for as many, if the next that was kept is.
+    #[inline(always)]
+    pub fn take_kept(&mut self, size: usize) -> Option<Vec<u8>>
+        ensures { IfSome result (λ bytes. length bytes.items ≡ size) }
+    {
+        let mut bytes = self.kept.pop()?;
+        if bytes.len() < size {
+            return None;
+        }
+        bytes.truncate(size);
+        Some(bytes)
+    }
+
+    /// A copy of these bytes, in memory that was kept if there is any.
+    #[inline(always)]
+    pub fn copied(&mut self, alloc: Global, bytes: &[u8]) -> Result<Vec<u8>, AllocError>
+        ensures { IfOk result (λ own. own.items ≡ bytes.now) }
+    {
+        let mut own = match self.kept.pop() {
+            Some(kept) => kept,
+            None => Vec::new(alloc),
+        };
+        if own.len() != bytes.len() {
+            own = resized(own, bytes.len())?;
+        }
+        put_all(&mut own, bytes);
+        Ok(own)
     }
 
     /// Keeps the memory of a small generation; any other is dropped, and also this where there is none to note it.

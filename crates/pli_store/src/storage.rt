@@ -4,44 +4,39 @@ ghost use Rattle.std.specs.Prelude.{IsTrue, IsFalse, IfOk, IfSome, MatchOption, 
 ghost use Rattle.std.specs.Option.{option_map};
 ghost use Rattle.pli_bytes.specs.Contents.{values_of};
 ghost use Rattle.pli_map.specs.Description as tree;
-ghost use Rattle.pli_map.specs.Description.{Bit, FixedBinary, Pointer};
+ghost use Rattle.pli_map.specs.Description.{Bit, FixedBinary};
 ghost use Rattle.pli_map.specs.Scalars.{scalars_of};
 ghost use Rattle.pli_map.specs.Sizes.{size_of};
 ghost use Rattle.pli_map.specs.Values.{are_held, holds};
 ghost use Rattle.pli_map.specs.views.DescriptionView.{description_view};
 ghost use Rattle.pli_value.specs.Short.{short_view};
 ghost use Rattle.pli_value.specs.Value as plain;
-ghost use Rattle.pli_value.specs.Value.{value_view, Number, Characters, Bits, Located};
-ghost use Rattle.pli_world.specs.Storage.{generation_in, live_bytes, without};
+ghost use Rattle.pli_value.specs.Value.{Bits, Number, value_view};
+ghost use Rattle.pli_world.specs.Storage.{generation_in, live_bytes};
 ghost use Rattle.pli_world.specs.Targets.{target_at};
 ghost use Rattle.pli_world.specs.World.{World, Yields, held, stored, copied, made_of, dummy_of, in_newest};
 ghost use Rattle.pli_store.specs.answers.Answered.{Answered};
 ghost use Rattle.pli_store.specs.answers.Begins.{Begins, BeginsWith};
-ghost use Rattle.pli_store.specs.answers.Found.{StandsAt, Leads, LeadsTo, LeadsToNone};
+ghost use Rattle.pli_store.specs.answers.Found.{StandsAt, LeadsTo, LeadsToNone};
 ghost use Rattle.pli_store.specs.answers.Kept.{rise};
-ghost use Rattle.pli_store.specs.answers.Kinds.{are_characters};
 ghost use Rattle.pli_store.specs.views.GenerationView.{generation_view, made_view};
 
 use crate::bits::bit_at;
 use crate::blocks::{new_area, whole_at};
 use crate::copying::copy_part;
 use crate::fault::StoreFault;
-use crate::generation::{Generation, Made, take_out};
+use crate::generation::{Generation, Made};
 use crate::living::Target;
-use crate::part::{
-    GenerationPart, greatest_length, is_number_at, is_of_bits, is_one_bit, is_part_of, is_pointer,
-    number_precision, short_length,
-};
+use crate::part::{GenerationPart, is_of_bits, is_one_bit, number_precision, short_length};
 use crate::place::{Place, digits_of};
-use crate::pointers::pointer_at;
-use crate::putting::{
-    holds_number, lengthen, put_bit, put_number, put_pointer, put_short, put_value,
-};
+use crate::putting::{holds_number, put_bit, put_number, put_short, put_value};
 use crate::spare::SpareBytes;
-use pli_bytes::{holds, number_at, put_value_at, short_at, text_at, value_at};
-use pli_map::{Description, are_same_scalars, is_area, is_scalar, size_at_once};
+use pli_bytes::{holds, number_at, put_value_at, short_at, value_at};
+use pli_map::{
+    Description, are_same_scalars, is_area, is_scalar, mark_at_once, mark_of_elements, size_at_once,
+};
 use pli_run::RunError;
-use pli_value::{Locator, ShortBits, Value};
+use pli_value::{ShortBits, Value};
 use std::alloc::{AllocError, Global};
 
 /// How many bytes may live at once (own).
@@ -69,7 +64,7 @@ pub struct Storage<'m> {
 impl<'m> Storage<'m> {
     ghost use Rattle.pli_store.specs.views.StorageView.{place_view, target_view, storage_view, made_count};
     ghost use Rattle.pli_store.specs.views.StorageView.{with_storage, NumberPut, CannotPutNumber, ValuePut, CannotPut};
-    ghost use Rattle.pli_store.specs.views.StorageView.{Appended, CannotAppend, RoomFor, SameStorage};
+    ghost use Rattle.pli_store.specs.views.StorageView.{RoomFor, SameStorage};
 
     /// Storage in which nothing lives, before anything was made.
     pub fn new(alloc: Global) -> Storage<'m>
@@ -101,7 +96,7 @@ impl<'m> Storage<'m> {
 
     /// Where the generation of a number stands, if those that live are spread evenly over their numbers: a guess.
     #[inline]
-    pub(crate) fn even_guess(&self, number: u32) -> usize {
+    fn even_guess(&self, number: u32) -> usize {
         let Some(first) = self.generations.first() else {
             return 0;
         };
@@ -120,14 +115,47 @@ impl<'m> Storage<'m> {
         (ahead.saturating_mul(steps) / span) as usize
     }
 
+    /// Where the generation of a number stands; found at once where the numbers of those that live rise by one, or are
+    /// spread evenly.
+    #[inline(always)]
+    pub(crate) fn find_near(&self, number: u32) -> Option<usize>
+        ensures { MatchOption result (generation_in (storage_view self.now) number ≡ None)
+            (StandsAt (storage_view self.now) number) }
+    {
+        let guess = self.near_guess(number);
+        if guess < self.generations.len() && self.generations[guess].number == number {
+            return Some(guess);
+        }
+        self.find_far(number)
+    }
+
+    /// Where the generation of a number stands, if those before it have all numbers from the first one on: a guess.
+    #[inline(always)]
+    fn near_guess(&self, number: u32) -> usize {
+        match self.generations.first() {
+            Some(first) => number.wrapping_sub(first.number) as usize,
+            None => 0,
+        }
+    }
+
+    /// Where the generation of a number stands among those that live, guessed as if these were spread evenly.
+    #[inline(never)]
+    fn find_far(&self, number: u32) -> Option<usize>
+        ensures { MatchOption result (generation_in (storage_view self.now) number ≡ None)
+            (StandsAt (storage_view self.now) number) }
+    {
+        self.find(number, self.even_guess(number))
+    }
+
     /// What lives at a position of a generation, at 0 the generation; `None` where nothing does. Takes time logarithmic
     /// in the generations.
+    #[inline]
     pub fn living(&self, generation: u32, position: u32) -> Option<Target<'m>>
         ensures { option_map target_view result ≡ target_at generation position (storage_view self.now) }
     {
         // as many live at most as were made, so an index has 32 bits
         let _made = self.made;
-        let at = self.find(generation, self.even_guess(generation))?;
+        let at = self.find_near(generation)?;
         let lives = &self.generations[at];
         if position == 0 {
             let place = Place::of_whole(generation, 0, at as u32, lives.description);
@@ -140,33 +168,6 @@ impl<'m> Storage<'m> {
         Some(Target {
             place: Place::of_whole(generation, position, at as u32, whole),
             made: Made::Based,
-        })
-    }
-
-    /// The generation and the part of it to which a place outside areas leads. `DeadLocator` where the generation has
-    /// ended, `NoRule` where no such part stands there, and for a place in a block.
-    #[inline]
-    pub(crate) fn part(&self, place: Place<'_>) -> Result<GenerationPart, StoreFault>
-        ensures { Leads (storage_view self.now) (place_view place.entry) result }
-    {
-        let Some(at) = self.find(place.generation, place.hint as usize) else {
-            return Err(StoreFault::Raised(RunError::DeadLocator));
-        };
-        if place.position != 0 {
-            return Err(StoreFault::NoRule);
-        }
-        let generation = &self.generations[at];
-        if !is_part_of(
-            generation.description,
-            generation.bytes.len(),
-            place.offset,
-            place.description,
-        ) {
-            return Err(StoreFault::NoRule);
-        }
-        Ok(GenerationPart {
-            at,
-            offset: place.offset as usize,
         })
     }
 
@@ -191,25 +192,11 @@ impl<'m> Storage<'m> {
     /// The number of so many binary digits to which a place leads, if its generation stands where it was made and is
     /// that number or an array of such numbers: no search and no walk is needed then.
     #[inline(always)]
-    fn number_part(&self, place: Place<'_>, precision: u8) -> Option<GenerationPart>
-        requires { description_view place.description.now ≡ FixedBinary precision }
+    fn number_part(&self, place: Place<'_>, _precision: u8) -> Option<GenerationPart>
+        requires { description_view place.description.now ≡ FixedBinary _precision }
         ensures { IfSome result (λ part. LeadsTo (storage_view self.now) (place_view place.entry) part) }
     {
-        let at = place.hint as usize;
-        let generation = self.generations.get(at)?;
-        if generation.number != place.generation || place.position != 0 {
-            return None;
-        }
-        let offset = place.offset as usize;
-        if !is_number_at(
-            generation.description,
-            generation.bytes.len(),
-            offset,
-            precision,
-        ) {
-            return None;
-        }
-        Some(GenerationPart { at, offset })
+        self.near_part(place)
     }
 
     /// What the place of a scalar holds. Outside areas only a string takes memory. `DeadLocator` where the generation
@@ -238,7 +225,7 @@ impl<'m> Storage<'m> {
             (λ x. held (place_view place.entry) (with_storage self.now w)
             ≡ Yields (Number x) (with_storage self.now w)) }
     {
-        match self.part(place) {
+        match self.walked_part(place) {
             Ok(part) => number_at(&self.generations[part.at].bytes, part.offset, precision),
             Err(_fault) => None,
         }
@@ -313,7 +300,7 @@ impl<'m> Storage<'m> {
 
     /// The bits that the place of a scalar of BIT of so many bits holds, which are few; `None` where it holds none, and
     /// for a place in a block.
-    #[inline]
+    #[inline(always)]
     fn short_in(&self, place: Place<'_>, count: usize) -> Option<ShortBits>
         requires length { description_view place.description.now ≡ Bit count }
         requires few { count ≤ 63 }
@@ -329,7 +316,7 @@ impl<'m> Storage<'m> {
 
     /// The bits that the place of a scalar of BIT of at most 63 bits holds; `None` where it holds none, or nothing, and
     /// for a place in a block, of which `held` tells. Those of a string alone are found at once.
-    #[inline]
+    #[inline(always)]
     pub fn short_at(&self, place: Place<'_>) -> Option<ShortBits>
         ensures { (w : World) → MatchOption result ((count : ℕ) → count ≤ 63
             → description_view place.entry.description.now ≡ Bit count
@@ -340,75 +327,6 @@ impl<'m> Storage<'m> {
         match short_length(place.description) {
             Some(count) => self.short_in(place, count),
             None => None,
-        }
-    }
-
-    /// The pointer that the place of a scalar of POINTER holds, which is not alone.
-    #[inline(never)]
-    fn far_pointer(&self, place: Place<'_>) -> Option<Locator>
-        requires { description_view place.description.now ≡ Pointer }
-        ensures { (w : World) → MatchOption result (LeadsToNone (storage_view self.now) (place_view place.entry))
-            (λ l. held (place_view place.entry) (with_storage self.now w)
-            ≡ Yields (Located l) (with_storage self.now w)) }
-    {
-        match self.part(place) {
-            Ok(part) => pointer_at(&self.generations[part.at].bytes, part.offset),
-            Err(_fault) => None,
-        }
-    }
-
-    /// The pointer that the place of a scalar of POINTER holds; `None` where it holds none, or nothing, and for a place
-    /// in a block, of which `held` tells. That of a pointer alone is found at once.
-    #[inline]
-    pub fn pointer_at(&self, place: Place<'_>) -> Option<Locator>
-        ensures { (w : World) → MatchOption result (description_view place.entry.description.now ≡ Pointer
-            → LeadsToNone (storage_view self.now) (place_view place.entry))
-            (λ l. held (place_view place.entry) (with_storage self.now w)
-            ≡ Yields (Located l) (with_storage self.now w)) }
-    {
-        if !is_pointer(place.description) {
-            return None;
-        }
-        match self.lone(place) {
-            Some(at) => pointer_at(&self.generations[at].bytes, 0),
-            None => self.far_pointer(place),
-        }
-    }
-
-    /// The characters that the place of a scalar holds, lent as they lie; `None` where it holds none, or nothing, and
-    /// for a place in a block, of which `held` tells.
-    #[inline]
-    pub fn text_at(&self, place: Place<'_>) -> Option<&[u8]>
-        ensures { (w : World) → MatchOption result
-            (are_characters (description_view place.entry.description.now) ≡ true
-            → LeadsToNone (storage_view self.now) (place_view place.entry))
-            (λ text. held (place_view place.entry) (with_storage self.now w)
-            ≡ Yields (Characters text.now) (with_storage self.now w)) }
-    {
-        match self.part(place) {
-            Ok(part) => text_at(
-                &self.generations[part.at].bytes,
-                part.offset,
-                place.description,
-            ),
-            Err(_fault) => None,
-        }
-    }
-
-    /// Characters put after those that the place of a scalar of CHARACTER VARYING holds, where both are no more than
-    /// it may hold and than the room; where they are not put there, nothing has changed, and `held` and `stored` tell
-    /// why.
-    #[inline]
-    pub fn append(&mut self, place: Place<'_>, more: &[u8], room: usize) -> bool
-        ensures put { Appended result self.old self.new (place_view place.entry) more.now room }
-        ensures refused { IsFalse result → CannotAppend self.old (place_view place.entry) more.now room }
-    {
-        let Some(greatest) = greatest_length(place.description) else {
-            return false;
-        };
-        match self.part(place) {
-            Ok(part) => lengthen(&mut self.generations, part, greatest, more, room),
-            Err(_fault) => false,
         }
     }
 
@@ -459,7 +377,7 @@ impl<'m> Storage<'m> {
         ensures put { NumberPut result self.old self.new (place_view place.entry) number }
         ensures refused { IsFalse result → CannotPutNumber self.old (place_view place.entry) number }
     {
-        match self.part(place) {
+        match self.walked_part(place) {
             Ok(part) => self.put_number_in(place, part, precision, number),
             Err(_fault) => false,
         }
@@ -537,13 +455,13 @@ impl<'m> Storage<'m> {
     {
         match self.lone(place) {
             Some(at) => Some(GenerationPart { at, offset: 0 }),
-            None => self.part(place).ok(),
+            None => self.further_part(place),
         }
     }
 
     /// Bits put at the place of a scalar of BIT of as many; where they are not, nothing has changed, and `stored` tells
     /// why. At a string alone they are put at once.
-    #[inline]
+    #[inline(always)]
     pub fn put_short(&mut self, place: Place<'_>, bits: ShortBits) -> bool
         ensures put { ValuePut result self.old self.new (place_view place.entry) (Bits (short_view bits)) }
         ensures refused { IsFalse result → CannotPut self.old (place_view place.entry) (Bits (short_view bits)) }
@@ -553,23 +471,6 @@ impl<'m> Storage<'m> {
         }
         match self.scalar_part(place) {
             Some(part) => put_short(&mut self.generations, part, bits),
-            None => false,
-        }
-    }
-
-    /// A pointer put at the place of a scalar of POINTER; where it is not, nothing has changed, and `stored` tells why.
-    /// That of a pointer alone is found at once.
-    #[inline]
-    pub fn put_pointer(&mut self, place: Place<'_>, locator: Locator) -> bool
-        ensures put { ValuePut result self.old self.new (place_view place.entry) (Located locator) }
-        ensures refused { IsFalse result → description_view place.entry.description.now ≡ Pointer
-            → CannotPut self.old (place_view place.entry) (Located locator) }
-    {
-        if !is_pointer(place.description) {
-            return false;
-        }
-        match self.scalar_part(place) {
-            Some(part) => put_pointer(&mut self.generations, part, locator),
             None => false,
         }
     }
@@ -600,7 +501,7 @@ impl<'m> Storage<'m> {
 
     /// Whether there is room for a new generation of so many bytes; 2^32 stands for every greater number.
     #[inline(always)]
-    fn has_room_for(&self, size: u64) -> bool
+    pub(crate) fn has_room_for(&self, size: u64) -> bool
         ensures { (d : tree.Description) → min size 4294967296 ≡ min (size_of d) 4294967296
             → RoomFor result self.now d }
     {
@@ -668,7 +569,7 @@ impl<'m> Storage<'m> {
     /// A new generation, which begins with a copy of these bytes, an area without blocks. `StorageLimit` where there is
     /// no room for it, or `OutOfMemory`. After an error nothing has changed. Takes memory only where none is left of
     /// those that have ended.
-    #[inline]
+    #[inline(always)]
     pub fn make_copy(
         &mut self,
         alloc: Global,
@@ -686,8 +587,7 @@ impl<'m> Storage<'m> {
         if !self.has_room_for(bytes.len() as u64) {
             return Err(StoreFault::Raised(RunError::StorageLimit));
         }
-        let mut own = self.spare.take(alloc, bytes.len())?;
-        own.copy_from_slice(bytes);
+        let own = self.spare.copied(alloc, bytes)?;
         self.add(description, made, own)
     }
 
@@ -745,39 +645,15 @@ impl<'m> Storage<'m> {
         self.generations.push_reserved(Generation {
             number: self.made,
             digits: digits_of(description),
-            description,
             made,
+            elements: mark_of_elements(description),
+            mark: mark_at_once(description),
+            description,
             bytes,
             area,
         });
         self.made += 1;
         self.live += size;
         Ok(place)
-    }
-
-    /// The generations of these numbers end; a number of which none lives changes nothing. Fast where the newest stand
-    /// last among the numbers.
-    #[inline(always)]
-    pub fn end(&mut self, numbers: &[u32])
-        ensures storage { storage_view self.new ≡ without numbers.now (storage_view self.old) }
-        ensures made { made_count self.new ≡ made_count self.old }
-    {
-        for at in (0..numbers.len()).rev() {
-            self.end_one(numbers[at]);
-        }
-    }
-
-    /// The generation of this number ends, if it lives.
-    #[inline(never)]
-    fn end_one(&mut self, number: u32)
-        ensures storage { storage_view self.new ≡ without (number ∷ []) (storage_view self.old) }
-        ensures made { made_count self.new ≡ made_count self.old }
-    {
-        let last = self.generations.len().saturating_sub(1);
-        if let Some(at) = self.find(number, last) {
-            let ended = take_out(&mut self.generations, at);
-            self.live -= ended.bytes.len() as u32;
-            self.spare.keep(ended.bytes);
-        }
     }
 }

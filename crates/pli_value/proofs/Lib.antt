@@ -1,6 +1,7 @@
 pub mod BitLoopLemmas
 pub mod ByteLemmas
 pub mod ByteLoopLemmas
+pub mod CharacterLemmas
 pub mod OrderLemmas
 pub mod PackedLaws
 pub mod PackingLaws

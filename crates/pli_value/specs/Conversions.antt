@@ -1,5 +1,6 @@
 -- Numbers and bits as characters, by their codes (X3.74).
-use Rattle.std.specs.Prelude.{ℕ, ◌-◌, Bool, ℤ, List, [], ◌∷◌, ◌++◌, length, map, replicate, if◌then◌else◌}
+use Rattle.std.specs.Prelude.{◌≡◌, ◌≤◌, ℕ, ◌-◌, Bool, true, false, ℤ, List, [], ◌∷◌, ◌++◌, length, map}
+use Rattle.std.specs.Prelude.{replicate, if◌then◌else◌}
 use Rattle.std.specs.Fmt.{signed_decimal}
 
 -- a number at the right of so many characters, after blanks: its digits without leading zeros, after a
@@ -18,3 +19,9 @@ bit_characters bits = map bit_character bits
 -- bits as they are printed: as a constant of the language
 abbrev pub bit_constant : List Bool → List ℕ
 bit_constant bits = 39 ∷ bit_characters bits ++ 39 ∷ 66 ∷ []
+
+-- a number as characters is put after others, and no more than so many are needed; or nothing has changed
+abbrev pub NumberAppended : Bool → (width : ℕ) → ℤ → (old new : List ℕ) → Type 0
+NumberAppended true width x old new =
+    (length (signed_decimal x) ≤ width) × (new ≡ old ++ number_characters width x)
+NumberAppended false width x old new = new ≡ old

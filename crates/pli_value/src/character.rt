@@ -4,7 +4,7 @@ ghost use Rattle.std.specs.Option.{option_copied};
 ghost use Rattle.std.specs.Ordering.{nat_cmp};
 ghost use Rattle.std.specs.Fmt.{signed_decimal};
 ghost use Rattle.pli_value.specs.Strings.{order_of, concatenation, substring, substring_from, fitted, index_of};
-ghost use Rattle.pli_value.specs.Conversions.{number_characters, bit_characters};
+ghost use Rattle.pli_value.specs.Conversions.{NumberAppended, number_characters, bit_characters};
 
 use crate::part::{part_of, rest_of};
 use itoa::Buffer;
@@ -18,8 +18,23 @@ pub const STRING_LIMIT: usize = 32_767;
 /// How many characters more a copy has room for (own).
 const ROOM: usize = 64;
 
-/// The order of two strings by their codes, the shorter one extended with blanks (X3.74).
+/// The order of two strings by their codes, the shorter one extended with blanks (X3.74). Where their first characters
+/// differ, no others are looked at.
+#[inline(always)]
 pub fn compare(left: &[u8], right: &[u8]) -> Ordering
+    ensures { result ≡ order_of 32 nat_cmp left.now right.now }
+{
+    if left.is_empty() {
+        return compare_all(left, right);
+    }
+    match at(left, 0).cmp(&at(right, 0)) {
+        Ordering::Equal => compare_all(left, right),
+        unequal => unequal,
+    }
+}
+
+/// The same, found place by place.
+fn compare_all(left: &[u8], right: &[u8]) -> Ordering
     ensures { result ≡ order_of 32 nat_cmp left.now right.now }
 {
     for place in 0..left.len().max(right.len()) {
@@ -32,7 +47,7 @@ pub fn compare(left: &[u8], right: &[u8]) -> Ordering
 }
 
 /// The character at a place, a blank past the end.
-#[inline]
+#[inline(always)]
 fn at(characters: &[u8], place: usize) -> u8
     ensures { result ≡ slice_index_or characters.now place 32 }
 {
@@ -103,6 +118,7 @@ pub fn fit(alloc: Global, characters: &[u8], size: usize) -> Result<Vec<u8>, All
 }
 
 /// A string assigned to CHARACTER VARYING of at most so many characters: cut on the right (X3.74).
+#[inline(always)]
 pub fn fit_varying(characters: &[u8], size: usize) -> &[u8]
     ensures { result.now ≡ take size characters.now }
 {
@@ -127,4 +143,19 @@ pub fn to_char(alloc: Global, number: i64, width: usize) -> Result<Vec<u8>, Allo
     text.resize(width - digits.len(), b' ')?;
     text.extend_from_slice(digits)?;
     Ok(text)
+}
+
+/// The same after other characters, where so many hold it; `false` where they don't, and nothing has changed then.
+pub fn append_number(text: &mut Vec<u8>, number: i64, width: u8) -> Result<bool, AllocError>
+    ensures { IfOk result (λ held. NumberAppended held width number text.old.items text.new.items) }
+{
+    let mut buffer = Buffer::new();
+    let digits = buffer.format(number).as_bytes();
+    let width = usize::from(width);
+    if digits.len() > width {
+        return Ok(false);
+    }
+    text.resize(text.len() + (width - digits.len()), b' ')?;
+    text.extend_from_slice(digits)?;
+    Ok(true)
 }

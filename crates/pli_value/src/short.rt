@@ -1,13 +1,15 @@
 //! Strings of few bits (X3.74), as numbers, which take no memory.
 ghost use Rattle.std.specs.Prelude.{◌≡◌, ◌≢◌, ℕ, ◌+◌, ◌-◌, ◌^◌, ◌<◌, ◌≤◌, ◌∷◌, [], false, length, take, drop, nat_eq};
-ghost use Rattle.std.specs.Prelude.{slice_index_or, Some, None, MatchOption};
+ghost use Rattle.std.specs.Prelude.{◌++◌, slice_index_or, Some, None, IfOk, MatchOption};
 ghost use Rattle.std.specs.Int.{bit_at};
+ghost use Rattle.pli_value.specs.Conversions.{bit_character, bit_characters};
 ghost use Rattle.pli_value.specs.Short.{bits_of, short_view};
 ghost use Rattle.pli_value.specs.Strings.{concatenation, conjunction, disjunction, fitted, negation, substring};
 ghost use Rattle.pli_value.specs.Strings.{substring_from};
 
 use crate::part::{part_of, rest_of};
 use crate::short_bits::ShortBits;
+use std::alloc::AllocError;
 
 /// How many bits a string has at most that is kept as a number (own).
 pub const SHORT_LIMIT: usize = 63;
@@ -160,4 +162,23 @@ pub fn fit(bits: ShortBits, size: usize) -> ShortBits
         return bits.lengthened(size);
     }
     bits.part(0, size)
+}
+
+/// The character of the binary digit of a number that is worth so many times two.
+#[inline(always)]
+fn digit_character(number: u64, worth: usize) -> u8
+    requires { worth ≤ 63 }
+    ensures { result ≡ bit_character (nat_eq (bit_at number worth) 1) }
+{
+    if number >> worth & 1 == 1 { b'1' } else { b'0' }
+}
+
+/// A character for each bit (X3.74), put after others.
+pub fn append_characters(text: &mut Vec<u8>, bits: ShortBits) -> Result<(), AllocError>
+    ensures { IfOk result (λ _. text.new.items ≡ text.old.items ++ bit_characters (short_view bits)) }
+{
+    for place in 0..bits.count {
+        text.push(digit_character(bits.number, bits.count - 1 - place))?;
+    }
+    Ok(())
 }

@@ -5,6 +5,7 @@ mod bytes;
 mod characters;
 mod extents;
 mod layouts;
+mod marks;
 mod numbers;
 mod operations;
 mod scopes;

@@ -31,7 +31,7 @@ gotos_landed place code (j ∷ js) =
 abbrev pub Fits : (limit : ℕ) → Instruction → Type 0
 Fits n (op.Jump target) = target ≤ n
 Fits n (op.JumpUnless target) = target ≤ n
-Fits n (op.AllocateInArea t after) = after ≤ n
+Fits n (op.AllocateInArea t target) = target ≤ n
 Fits n i = Unit {0}
 
 -- the numbers of a block are within their fields

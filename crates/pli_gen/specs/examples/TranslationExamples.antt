@@ -6,7 +6,6 @@ use Rattle.pli_map.specs.Description.{FixedBinary, Character, Bit, Pointer, Offs
 use Rattle.pli_map.specs.ParameterTypes.{Stated}
 use Rattle.pli_operation.specs.declared.operation.Operation.TheVariants as calculate
 use Rattle.pli_value.specs.Value.{Number, Characters}
-use Rattle.pli_program.specs.Program.{Instruction}
 use Rattle.pli_program.specs.declared.instruction.Instruction.TheVariants.{Step, Line, Jump, JumpUnless}
 use Rattle.pli_program.specs.declared.instruction.Instruction.TheVariants.{Local, Field, Subscript, Constant}
 use Rattle.pli_program.specs.declared.instruction.Instruction.TheVariants.{Load, Store, Copy, MakeDummy}

@@ -1,7 +1,7 @@
 -- Forms of strings for which a module's instructions make dummy arguments.
 use Rattle.std.specs.Prelude.{◌≡◌, ◌<◌, ℕ, Bool, true, Some, List, slice_get}
 use Rattle.pli_code.specs.CodedInstruction.{Instruction}
-use Rattle.pli_program.specs.declared.instruction.Instruction.TheVariants as coded
+use Rattle.pli_program.specs.declared.instruction.Instruction.TheVariants as op
 use Rattle.pli_code.specs.declared.module.Member.{Member}
 use Rattle.pli_map.specs.declared.parameter.StringForm.{StringForm}
 use Rattle.pli_store.specs.answers.Strings.{asks_for}
@@ -9,7 +9,7 @@ use Rattle.pli_store.specs.declared.strings.StringForms.{StringForms}
 
 -- the form of an instruction is one of these, if it has one
 abbrev pub is_asked : StringForms → Instruction → Bool
-is_asked f (coded.MakeStringDummy form) = asks_for f form
+is_asked f (op.MakeStringDummy form) = asks_for f form
 is_asked f other = true
 
 -- the same of the first so many instructions

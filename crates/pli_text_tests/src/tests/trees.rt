@@ -7,7 +7,7 @@ use pli_base::statement::Condition;
 use pli_base::syntax::{Expression, InfixOperator};
 use pli_base::{Name, TokenText};
 use pli_copy::Copied;
-use pli_declare_variables::is_built_in;
+use pli_declare::is_built_in;
 use pli_parse_declaration::declaration_at;
 use pli_parse_expression::{is_assignment, outermost_expression_at, reference_at};
 use pli_parse_statement::{Keyword, named_condition, statement_keyword};

@@ -1,10 +1,10 @@
 use pli_map::{
     Bounds, Description, Layout, PathStep, alignment, areas_are_rounded,
     elements_are_in_row_major_order, elements_are_within_bounds, filled_parts_take_bytes,
-    first_values_are_held, fixed_binary_size, four_alignments, measure, offsets_are_sums,
-    parts_do_not_meet, parts_have_their_scalars, parts_lie_within, parts_of_parts,
-    parts_stand_aligned, place, same_is_equal, scalars_lie_within, size, stored_is_loaded,
-    worked_examples,
+    first_values_are_held, fixed_binary_size, four_alignments, marks_differ, measure,
+    offsets_are_sums, parts_do_not_meet, parts_have_their_scalars, parts_lie_within,
+    parts_of_parts, parts_stand_aligned, place, same_is_equal, scalars_lie_within, size,
+    stored_is_loaded, worked_examples,
 };
 use std::alloc::Global;
 use std::process::Abort;
@@ -135,6 +135,7 @@ fn laws() {
     parts_lie_within();
     parts_stand_aligned();
     same_is_equal();
+    marks_differ();
     parts_have_their_scalars();
     scalars_lie_within();
     parts_of_parts();

@@ -2,9 +2,9 @@ use pli_base::Name;
 use pli_declare_constructs::Nesting;
 use pli_declare_outline::{Region, RegionKind};
 use pli_declare_scopes::{
-    BlockItems, Declared, Found, ItemStanding, ReferenceMeaning, Scope, Verdict, Written,
+    BlockItems, Found, ItemStanding, ReferenceMeaning, Scope, Verdict, Written,
     bad_levels_are_found, examples_of_levels, examples_of_references, examples_of_repeats,
-    later_is_fault, meant_is_means, owners_are_nearest, standings, verdicts,
+    later_is_fault, meant_is_means, owners_are_nearest, standings,
 };
 use std::alloc::Global;
 use std::process::Abort;
@@ -15,16 +15,15 @@ fn name(rt: &impl Abort, text: &str) -> Name {
 }
 
 /// Declares a name whose owner, if it has one, stands in the block already.
-fn declare(rt: &impl Abort, block: &mut BlockItems, text: &str, owner: Option<usize>) {
+fn declare(rt: &impl Abort, block: &mut BlockItems, text: &str, owner: Option<usize>) -> Verdict {
     if let Some(owner) = owner {
         assert!(rt; owner < block.len());
     }
-    let declared = Declared {
+    let written = Written {
         name: name(rt, text),
         owner,
-        counts: true,
     };
-    block.declare(declared).expect(rt, "memory");
+    block.declare(written).expect(rt, "memory")
 }
 
 /// The block of a structure S with a member A, and of a variable A after it.
@@ -91,13 +90,20 @@ fn levels(rt: HostRuntime) {
     assert!(rt; stand(&standings(rt.alloc(), &levels).expect(&rt, "memory")));
 }
 
+/// Whether a structure S, a member A of it, S again and a member A of that are judged as they should be.
+fn are_judged(rt: &impl Abort, block: &mut BlockItems) -> bool {
+    declare(rt, block, "S", None) == Verdict::Counts
+        && declare(rt, block, "A", Some(0)) == Verdict::Counts
+        && declare(rt, block, "S", None) == Verdict::Twice
+        && declare(rt, block, "A", Some(2)) == Verdict::Beneath
+        && declare(rt, block, "A", Some(0)) == Verdict::Twice
+}
+
 #[test]
 fn declared_twice(rt: HostRuntime) {
-    let name = name(&rt, "S");
-    let items = [Written { name, owner: None }, Written { name, owner: None }];
-    let judged = verdicts(rt.alloc(), &items).expect(&rt, "memory");
-    let is_right = judged.as_slice() == [Verdict::Counts, Verdict::Twice].as_slice();
-    drop(judged);
+    let mut block = BlockItems::new(rt.alloc());
+    let is_right = are_judged(&rt, &mut block);
+    drop(block);
     assert!(rt; is_right);
 }
 

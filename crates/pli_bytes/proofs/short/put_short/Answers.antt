@@ -7,10 +7,10 @@ returns-then-size-eq0 c =
     let none : c.args.bits.count ≡ 0 = omega (arith, c.div_ceil-size.ensures, c.if-size-eq0.true) in
     none_put c.args.bits.count c.args.bits.number none c.args.bytes.now
 
-pub write_uint-requires-clause-fits : goal.write_uint-requires-clause-fits
-write_uint-requires-clause-fits c = put_fits c.args.bits.count c.div_ceil-size.result c.args.bits.number c.div_ceil-size.ensures c.args.bits.few c.args.bits.small
+pub put_number-requires-clause-fits : goal.put_number-requires-clause-fits
+put_number-requires-clause-fits c = put_fits c.args.bits.count c.div_ceil-size.result c.args.bits.number c.div_ceil-size.ensures c.args.bits.few c.args.bits.small
 
 pub returns : goal.returns
 returns c =
-    short_put c.args.bits.count c.div_ceil-size.result c.args.bits.number c.div_ceil-size.ensures c.args.bits.few c.args.bits.small c.args.bytes.now c.write_uint.new.buf
-    c.requires c.write_uint.ensures
+    short_put c.args.bits.count c.div_ceil-size.result c.args.bits.number c.div_ceil-size.ensures c.args.bits.few c.args.bits.small c.args.bytes.now c.put_number.new.bytes
+    c.requires c.put_number.ensures

@@ -11,10 +11,10 @@ returns-then-size-eq0 c =
 pub new-requires : goal.new-requires
 new-requires c = record {
   few = c.requires.few;
-  small = read_small c.args.bytes.now c.args.count c.div_ceil-size.result c.read_uint.result (λ k. omega (arith, c.type_inv.bytes k)) c.div_ceil-size.ensures c.read_uint.ensures;
+  small = read_small c.args.bytes.now c.args.count c.div_ceil-size.result c.number_of.result (λ k. omega (arith, c.type_inv.bytes k)) c.div_ceil-size.ensures c.number_of.ensures;
 }
 
 pub returns : goal.returns
 returns c =
     c.new.ensures
-    ∙ read_shown c.args.bytes.now c.args.count c.div_ceil-size.result c.read_uint.result (λ k. omega (arith, c.type_inv.bytes k)) c.div_ceil-size.ensures c.read_uint.ensures
+    ∙ read_shown c.args.bytes.now c.args.count c.div_ceil-size.result c.number_of.result (λ k. omega (arith, c.type_inv.bytes k)) c.div_ceil-size.ensures c.number_of.ensures

@@ -1,17 +1,12 @@
-use Rattle.std.proofs.Common.{◌≡◌, ◌++◌, length}
-use Rattle.std.specs.Iterator.Adapters.{zip_first, zip_second}
-use Rattle.std.specs.Slice.Iter.{iter_rest}
-use Rattle.pli_declare.specs.Tables.{with_verdicts}
-use Rattle.pli_declare_tables.specs.views.TableView.{entries_view}
-use Rattle.pli_declare.proofs.MembersStandAfter.{After}
+use Rattle.std.proofs.Common.{◌≡◌, take}
+use Rattle.pli_declare_scopes.specs.Repeats.{verdicts_of}
+use Rattle.pli_declare_scopes.specs.answers.Judged.{declared_with}
+use Rattle.pli_declare_tables.proofs.JudgedEntries.{written_all}
 use Rattle.pli_declare_tables.proofs.table.declare_names.Given as goal
 
--- the block so far, and what is left of its names
+-- the names so far are judged, and stand in the block
 abbrev pub invariant-loop-entry : goal.invariant-loop-entry
-invariant-loop-entry l =
-    let left = entries_view (iter_rest (zip_first l.entry-iterator)) in
-    let verdicts = iter_rest (zip_second l.entry-iterator) in
-    record {
-      block : l.block ++ with_verdicts left verdicts ≡ with_verdicts (entries_view l.entries) l.verdicts;
-      after : After (length l.block) left;
-    }
+invariant-loop-entry l = record {
+  verdicts : l.verdicts.items ≡ verdicts_of (take l.entry-index (written_all l.entries));
+  block : l.block ≡ declared_with (take l.entry-index (written_all l.entries)) l.verdicts.items;
+}

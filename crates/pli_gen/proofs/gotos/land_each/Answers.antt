@@ -1,6 +1,6 @@
 use Rattle.std.proofs.Common.{ℕ, nat_eq, unwrap_or, slice_set, get_or, min, arith, ap, ◌∙◌}
 use Rattle.std.specs.HashMap.{get}
-use Rattle.pli_program.specs.declared.instruction.Instruction.TheVariants as coded
+use Rattle.pli_program.specs.declared.instruction.Instruction.TheVariants as op
 use Rattle.pli_gen_emit.specs.declared.emitter.LabelJump.{LabelJump}
 use Rattle.pli_gen.proofs.CodeEmitted.{more_landed}
 use Rattle.pli_gen.proofs.gotos.land_each.Goals as goal
@@ -12,5 +12,5 @@ loop-jump-preserved c =
     let j = get_or c.args.gotos.now c.loop-jump.jump-index none in
     let code = c.loop-jump.code.items in
     more_landed place c.args.gotos.now c.loop-jump.jump-index none code c.replace.new.code.items _ (omega arith)
-    (c.replace.ensures ∙ ap (λ n. slice_set code j.place (coded.Goto j.outward n)) (c.short-target.ensures ∙ ap (λ k. min k 65535) c.place_of.ensures))
+    (c.replace.ensures ∙ ap (λ n. slice_set code j.place (op.Goto j.outward n)) (c.short-target.ensures ∙ ap (λ k. min k 65535) c.place_of.ensures))
     c.loop-jump.invariant

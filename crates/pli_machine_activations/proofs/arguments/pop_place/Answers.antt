@@ -1,13 +1,18 @@
-use Rattle.std.proofs.Common.{[], ◌∷◌, ◌++◌, refl, ap, ◌∙◌}
+use Rattle.std.proofs.Common.{◌-◌, suc, length, sym, ap, ◌∙◌, arith}
+use Rattle.std.specs.List.{slice_get}
+use Rattle.std.specs.Option.{option_copied}
+use Rattle.std.specs.Prelude.{vec_len}
+use Rattle.pli_machine_step.specs.Machine.{places_off}
 use Rattle.pli_machine_operate.specs.views.OperandView.{stack}
-use Rattle.pli_machine_activations.proofs.GivenPlaces.{none_off, one_alone}
+use Rattle.pli_machine_operate.proofs.StackLemmas.{one_taken}
 use Rattle.pli_machine_activations.proofs.arguments.pop_place.Goals as goal
 
-pub returns-in_default-clause-none : goal.returns-in_default-clause-none
-returns-in_default-clause-none c = λ _. none_off 1 0 [] _ refl c.in_default.ensures
-
-pub returns-clause-taken : goal.returns-clause-taken
-returns-clause-taken c = λ _.
-    one_alone c.push_reserved.new.self.items c.in-Some.taken c.place.result (stack c.args.operands.now.items) (stack c.take_place.new.operands.items)
-    c.in-Some.ensures c.place.ensures
-    (c.push_reserved.ensures.items ∙ ap (λ ps. ps ++ c.place.result ∷ []) (c.reserve.ensures.items ∙ c.requires))
+pub returns : goal.returns
+returns c = λ count after.
+    let operands = c.args.operands.now in
+    let rest = stack c.pop-newest.new.self.items in
+    ap (places_off (suc count) after)
+    (one_taken operands.items c.pop-newest.new.self.items (vec_len operands) c.in_ok-newest.newest.now (omega (arith, operands.ok.0))
+    (sym (ap option_copied c.in_ok-newest.was) ∙ c.last.ensures.value ∙ ap (λ xs. slice_get xs (length xs - 1)) c.deref.ensures.value)
+    c.pop-newest.ensures.rest)
+    ∙ c.in_ok-place.ensures count after rest

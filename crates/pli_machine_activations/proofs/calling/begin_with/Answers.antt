@@ -6,6 +6,7 @@ use Rattle.pli_code.specs.CodeTables.{block_looked_up}
 use Rattle.pli_code.specs.views.CodeView.{code_view, block_view}
 use Rattle.pli_machine_activations.specs.views.MachineView.{leads, frame_view, frames_of, world_of, left_of}
 use Rattle.pli_machine_activations.proofs.EnteredBlocks.{begins_other, begins_fault, begins_full, begins_enter, has_room, has_none}
+use Rattle.pli_machine_activations.proofs.GivenPlaces.{none_given}
 use Rattle.pli_machine_activations.proofs.calling.begin_with.Goals as goal
 
 pub returns-then-not-is_enterable : goal.returns-then-not-is_enterable
@@ -38,6 +39,7 @@ returns c =
     begins_enter c.args.number b (frame_view m.here) (frames_of m.waiting.items) (world_of image m put) (left_of m) (Some b) c.in-Some.link refl
     (sym c.is_enterable.ensures ∙ c.if-not-is_enterable.false) (c.link_of.ensures image put ∙ c.in-Some.is) (has_room image m put (omega arith))
     ∙ ap (λ ps. leads (enters m.here.unit c.args.number b c.in-Some.link (map place_view ps) (frame_view m.here ∷ frames_of m.waiting.items) (world_of image m put)) (left_of m))
-    (sym c.take_slots-places.ensures)
-    ∙ moves image put)
+    (sym c.in_ok-lists.ensures.slots)
+    ∙ moves image m.here.room.value.pending.items
+    (rw (c.in_ok-lists.ensures.slots, c.in_ok-lists.ensures.owned) (none_given m.here.room.value.pending.items)) put)
     c.enter.ensures

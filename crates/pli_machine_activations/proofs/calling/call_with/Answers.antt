@@ -1,39 +1,26 @@
-use Rattle.std.proofs.Common.{map, sym, ◌∙◌}
+use Rattle.std.proofs.Common.{ap, ◌∙◌}
 use Rattle.std.proofs.lemmas.Result.{IfOk-weaker}
-use Rattle.pli_store.specs.views.StorageView.{place_view}
+use Rattle.pli_machine_step.specs.Machine.{called_with}
 use Rattle.pli_code.specs.CodeTables.{block_looked_up}
 use Rattle.pli_code.specs.views.CodeView.{code_view, block_view}
-use Rattle.pli_machine_activations.specs.views.MachineView.{frame_view, frames_of, world_of, left_of}
-use Rattle.pli_machine_operate.specs.views.OperandView.{stack}
-use Rattle.pli_machine_activations.proofs.EnteredBlocks.{called_calls, called_unlinked, called_other}
+use Rattle.pli_machine_activations.specs.views.MachineView.{leads, frame_view, frames_of, world_of, left_of}
 use Rattle.pli_machine_activations.proofs.calling.call_with.Goals as goal
-
-pub returns-then-not-is_callable : goal.returns-then-not-is_callable
-returns-then-not-is_callable c = λ image put.
-    let m = c.args.machine.now in
-    let b = block_looked_up (code_view c.args.ready.now.code.now) (block_view c.args.block.now) in
-    let off = c.in_ok-taken.ensures.taken c.if-not-taken.false in
-    called_other m.here.unit c.args.number b c.args.arguments (frame_view m.here) (frames_of m.waiting.items) (world_of image m put) (left_of m)
-    _ (map place_view c.pop_places.new.places.items) (stack c.pop_places.new.operands.items) off (sym c.is_callable.ensures ∙ c.if-not-is_callable.true)
 
 pub returns-in_default : goal.returns-in_default
 returns-in_default c = λ image put.
     let m = c.args.machine.now in
     let b = block_looked_up (code_view c.args.ready.now.code.now) (block_view c.args.block.now) in
-    let off = c.in_ok-taken.ensures.taken c.if-not-taken.false in
-    called_unlinked m.here.unit c.args.number b c.args.arguments (frame_view m.here) (frames_of m.waiting.items) (world_of image m put) (left_of m)
-    _ (map place_view c.pop_places.new.places.items) (stack c.pop_places.new.operands.items) off (sym c.is_callable.ensures ∙ c.if-not-is_callable.false)
-    (c.link_of.ensures image put ∙ c.in_default.is)
+    ap (λ off. leads (called_with m.here.unit c.args.number b c.args.arguments off (frame_view m.here) (frames_of m.waiting.items) (world_of image m put)) (left_of m))
+    (rw c.in_default.is at c.in_ok-slots-2.ensures)
 
 pub returns : goal.returns
 returns c =
     let m = c.args.machine.now in
     let b = block_looked_up (code_view c.args.ready.now.code.now) (block_view c.args.block.now) in
-    let off = c.in_ok-taken.ensures.taken c.if-not-taken.false in
-    IfOk-weaker c.call_block.result _ _
+    IfOk-weaker c.call_at.result _ _
     (λ stop moves image put.
-    called_calls m.here.unit c.args.number b c.args.arguments (frame_view m.here) (frames_of m.waiting.items) (world_of image m put) (left_of m)
-    _ (map place_view c.pop_places.new.places.items) (stack c.pop_places.new.operands.items) off c.in-Some.link (sym c.is_callable.ensures ∙ c.if-not-is_callable.false)
-    (c.link_of.ensures image put ∙ c.in-Some.is)
-    ∙ moves image put)
-    c.call_block.ensures
+    ap (λ off. leads (called_with m.here.unit c.args.number b c.args.arguments off (frame_view m.here) (frames_of m.waiting.items) (world_of image m put)) (left_of m))
+    (rw c.in-Some.is at c.in_ok-slots-2.ensures)
+    ∙ moves image m.here.room.value.pending.items
+    (record { given = rw (c.deref.ensures.value, c.deref_mut.ensures.value) at c.in_ok-hand_over.ensures.handed; others = rw (c.deref.ensures.value, c.deref_mut.ensures.value) at c.in_ok-hand_over.ensures.others }) put)
+    (rw c.deref_mut.ensures.value at c.call_at.ensures)

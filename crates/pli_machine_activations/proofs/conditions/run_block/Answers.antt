@@ -8,10 +8,11 @@ use Rattle.pli_machine_activations.specs.declared.machine.Stop.TheVariants as st
 use Rattle.pli_machine_activations.specs.views.HandlerView.{handler_view}
 use Rattle.pli_machine_activations.specs.views.MachineView.{leads, frame_view, frames_of, world_of, left_of}
 use Rattle.pli_machine_activations.proofs.EnteredBlocks.{block_moves, block_found}
+use Rattle.pli_machine_activations.proofs.GivenPlaces.{none_given}
 use Rattle.pli_machine_activations.proofs.conditions.run_block.Goals as goal
 
-pub returns-in-Some : goal.returns-in-Some
-returns-in-Some c =
+pub returns-in_ok-lists-in-Some : goal.returns-in_ok-lists-in-Some
+returns-in_ok-lists-in-Some c =
     let m = c.args.machine.now in
     let code = code_view c.args.ready.now.code.now in
     let h = c.args.handler in
@@ -21,8 +22,9 @@ returns-in-Some c =
     (IfOk-weaker c.call_block.result _ _
     (λ stop moves image put.
     ap (λ ps. leads (calls h.unit h.block b (Some h.link) (map place_view ps) (record (frame_view m.here) { again = c.args.again }) (frames_of m.waiting.items) (world_of image m put)) (left_of m))
-    (sym c.take_slots-places.ensures)
-    ∙ moves image put)
+    (sym c.in_ok-lists-in-Some.ensures.slots)
+    ∙ moves image m.here.room.value.pending.items
+    (rw (c.in_ok-lists-in-Some.ensures.slots, c.in_ok-lists-in-Some.ensures.owned) (none_given m.here.room.value.pending.items)) put)
     c.call_block.ensures)
 
 pub returns-in-None : goal.returns-in-None

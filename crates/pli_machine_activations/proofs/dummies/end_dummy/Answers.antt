@@ -9,14 +9,16 @@ use Rattle.pli_machine_activations.proofs.dummies.end_dummy.Goals as goal
 pub returns : goal.returns
 returns c =
     let m = c.args.machine.now in
-    record {
+    let filtered = rw c.deref_mut.ensures.value at c.retain.ensures.filtered in
+    rw c.deref_mut.ensures.value
+    (record {
       world = λ image put.
           same_world (world_of image m put) _ _ _ _ _ _
           c.end.ensures.storage
           c.end.ensures.made
           (ap (λ ns. record (activation_view m.here) { pending = ns } ∷ activations_of m.waiting.items)
-          (filter_same _ _ _ (λ x b f' k. search rules) _ _ c.retain.ensures.filtered ∙ but_one (place_view c.args.dummy) m.here.pending.items));
+          (filter_same _ _ _ (λ x b f' k. search rules) _ _ filtered ∙ but_one (place_view c.args.dummy) m.here.room.value.pending.items));
       here = refl;
       frames = refl;
       left = refl;
-    }
+    })

@@ -1,14 +1,11 @@
-use Rattle.std.proofs.Common.{◌∷◌, [], ◌++◌, None, ap, ◌∙◌, arith}
-use Rattle.std.proofs.lemmas.List.{replicate_more}
+use Rattle.std.proofs.Common.{None, ap, sym, ◌∙◌, replicate, arith}
+use Rattle.std.specs.Prelude.{vec_len}
+use Rattle.std.proofs.lemmas.Bool.{eqb-true}
+use Rattle.std.proofs.lemmas.List.{nil_from_length}
 use Rattle.pli_machine_activations.proofs.entering.unset.Goals as goal
 
-pub loop-unset-init : goal.loop-unset-init
-loop-unset-init c = record { items = c.reserve.ensures.items ∙ c.clear.ensures.items; room = omega (arith, c.in_ok-reserve.ensures.ok) }
-
-pub loop-unset-preserved : goal.loop-unset-preserved
-loop-unset-preserved c =
-    let was = c.loop-unset.invariant in
-    record {
-      items = c.push_reserved.ensures.items ∙ ap (λ xs. xs ++ None ∷ []) was.items ∙ replicate_more c.loop-unset._unset None;
-      room = omega (arith, was.room, c.push_reserved.ensures.len, c.push_reserved.ensures.capacity);
-    }
+pub returns-then-is_empty : goal.returns-then-is_empty
+returns-then-is_empty c =
+    let temporaries = c.args.temporaries.now in
+    nil_from_length temporaries.items (omega (arith, temporaries.ok.0, eqb-true (vec_len temporaries) 0 (sym c.is_empty.ensures ∙ c.if-is_empty.true)))
+    ∙ ap (λ n. replicate n None) (sym c.if-count-eq0.true)

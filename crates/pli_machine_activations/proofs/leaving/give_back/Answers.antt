@@ -21,16 +21,16 @@ loop-ended-preserved c = record {
   same = c.loop-ended.invariant.same;
 }
 
-pub returns-then-not-leave-2 : goal.returns-then-not-leave-2
-returns-then-not-leave-2 c = λ image put.
-    let none = c.if-not-leave-2.ensures.leaves image put in
+pub returns-then-not-leave_at_once : goal.returns-then-not-leave_at_once
+returns-then-not-leave_at_once c = λ image put.
+    let none = c.if-not-leave_at_once.ensures.leaves image put in
     c.loop-ended.invariant.way image put
     ∙ valued_ends (value_view c.args.value) (c.args.outward - c.loop-ended._ended) _ _ _ _ (omega arith) none.frames none.world
 
 pub returns : goal.returns
 returns c = λ image put.
-    let left = c.if-not-leave-2.ensures.leaves image put in
-    let m = c.leave-2.new.machine in
+    let left = c.if-not-leave_at_once.ensures.leaves image put in
+    let m = c.leave_at_once.new.machine in
     c.loop-ended.invariant.way image put
     ∙ valued_goes (value_view c.args.value) (c.args.outward - c.loop-ended._ended) _ _ _ _ _ _ _ (omega arith) left.frames left.world left.left
     ∙ ap (λ ops. leads (goes_on m.here.again (with_operands ops (waiting_view m.here)) (frames_of m.waiting.items) (world_of image m put)) (left_of m)) (sym (c.in_ok-push.ensures ∙ ap (λ v. OfValue v ∷ stack m.here.operands.items) c.loop-ended.invariant.same))

@@ -14,15 +14,15 @@ loop-ended-preserved c = λ image put.
     c.loop-ended.invariant image put
     ∙ returned_more (c.args.outward - c.loop-ended._ended) (c.args.outward - (c.loop-ended._ended + 1)) _ _ _ _ _ _ _ (omega arith) left.frames left.world left.left
 
-pub returns-then-leave : goal.returns-then-leave
-returns-then-leave c = λ u image put.
-    let left = c.if-leave.ensures.leaves image put in
+pub returns-then-leave_at_once : goal.returns-then-leave_at_once
+returns-then-leave_at_once c = λ u image put.
+    let left = c.if-leave_at_once.ensures.leaves image put in
     c.loop-ended.invariant image put
     ∙ returned_goes (c.args.outward - c.loop-ended._ended) _ _ _ _ _ _ _ (omega arith) left.frames left.world left.left
     ∙ c.resume.ensures image put
 
-pub returns-else-leave : goal.returns-else-leave
-returns-else-leave c = λ u image put.
-    let none = c.if-leave.ensures.leaves image put in
+pub returns-else-leave_at_once : goal.returns-else-leave_at_once
+returns-else-leave_at_once c = λ u image put.
+    let none = c.if-leave_at_once.ensures.leaves image put in
     c.loop-ended.invariant image put
     ∙ returned_ends (c.args.outward - c.loop-ended._ended) _ _ _ _ (omega arith) none.frames none.world

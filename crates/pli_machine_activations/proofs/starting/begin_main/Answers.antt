@@ -10,6 +10,7 @@ use Rattle.pli_code.specs.Modules.{program_of}
 use Rattle.pli_code.specs.views.CodeView.{code_view, block_view}
 use Rattle.pli_machine_activations.specs.answers.Making.{EndsAs, first_world}
 use Rattle.pli_machine_activations.specs.views.MachineView.{frame_view, waiting_view, frames_of, world_of, left_of, shown}
+use Rattle.pli_machine_activations.specs.declared.room.Room.{Room}
 use Rattle.pli_machine_activations.proofs.BeginningLemmas.{no_step, one_step, main_begun, begun_main, ends_main}
 use Rattle.pli_machine_activations.proofs.EnteredBlocks.{begun_frame, enters_goes, enters_stops}
 use Rattle.pli_machine_activations.proofs.StateLemmas.{goes_on}
@@ -29,11 +30,11 @@ returns-in-Ok c = λ image named.
     let code = code_view c.args.unit.now.deck.code in
     let b = block_looked_up code (block_view c.args.block.now) in
     let is = begun_main image c.args.storage c.args.stacks c.activation-here.result c.new-2.result.items c.new-3.result.items c.args.number b
-    c.new.result.items c.new-room.result.owned.items
-    c.activation-here.ensures.activation c.new.ensures.items c.new-room.ensures.owned c.new-2.ensures.items
+    c.in_ok-lists.lists.slots.items c.deref_mut.result.now.owned.items
+    c.activation-here.ensures.activation c.in_ok-lists.ensures.slots (ap (λ (r : Room). r.owned.items) c.deref_mut.ensures.value ∙ c.in_ok-lists.ensures.owned) c.new-2.ensures.items
     c.new-3.ensures.items in
     let here = c.activation-here.ensures.frame
-    ∙ begun_frame c.args.number b.entry b.temporaries c.new-room.result.operands.items c.unset.new.temporaries.items c.new-room.ensures.operands c.in_ok-unset.ensures in
+    ∙ begun_frame c.args.number b.entry b.temporaries c.in_ok-lists.lists.operands.items c.unset.new.temporaries.items c.in_ok-lists.ensures.empty.no_operand c.in_ok-unset.ensures in
     let same = c.in-Ok.ensures.same in
     let mid = main_begun image c.args.storage c.args.stacks c.activation-here.result c.new-2.result.items c.new-3.result.items in
     one_step c.args.number b c.args.storage c.args.stacks image.statics c.args.limit (c.args.limit - 1) c.requires (omega arith)
@@ -49,11 +50,11 @@ returns c = λ image named.
     let code = code_view c.args.unit.now.deck.code in
     let b = block_looked_up code (block_view c.args.block.now) in
     let is = begun_main image c.args.storage c.args.stacks c.activation-here.result c.new-2.result.items c.new-3.result.items c.args.number b
-    c.new.result.items c.new-room.result.owned.items
-    c.activation-here.ensures.activation c.new.ensures.items c.new-room.ensures.owned c.new-2.ensures.items
+    c.in_ok-lists.lists.slots.items c.deref_mut.result.now.owned.items
+    c.activation-here.ensures.activation c.in_ok-lists.ensures.slots (ap (λ (r : Room). r.owned.items) c.deref_mut.ensures.value ∙ c.in_ok-lists.ensures.owned) c.new-2.ensures.items
     c.new-3.ensures.items in
     let here = c.activation-here.ensures.frame
-    ∙ begun_frame c.args.number b.entry b.temporaries c.new-room.result.operands.items c.unset.new.temporaries.items c.new-room.ensures.operands c.in_ok-unset.ensures in
+    ∙ begun_frame c.args.number b.entry b.temporaries c.in_ok-lists.lists.operands.items c.unset.new.temporaries.items c.in_ok-lists.ensures.empty.no_operand c.in_ok-unset.ensures in
     let last = c.make_variables.new.machine in
     let same = c.in-Err.ensures.same in
     let mid = main_begun image c.args.storage c.args.stacks c.activation-here.result c.new-2.result.items c.new-3.result.items in

@@ -1,5 +1,5 @@
 use Rattle.std.proofs.Common.{◌∷◌, drop, refl, sym, ap, ◌∙◌}
-use Rattle.pli_program.specs.Program as op
+use Rattle.pli_program.specs.Program as programs
 use Rattle.pli_code.specs.CodeTables as plain
 use Rattle.pli_code.specs.CodeTables.{globals_linked}
 use Rattle.pli_code.specs.views.CodeView.{code_view}
@@ -14,7 +14,7 @@ returns-in-Some c = λ name signature more own number statics externals known.
     let links = c.args.unit.now.links.items in
     let g = plain.EntryPoint name signature in
     other_links own number statics externals (globals_linked code (g ∷ more) (drop c.args.taken.now links)) (globals_linked code more (drop c.next_link.new.taken links)) c.args.shared.now
-    (op.EntryPoint c.in-Some.other) (linked.EntryPoint c.in-Some.other) known (ap (globals_linked code (g ∷ more)) taken) refl refl refl
+    (programs.EntryPoint c.in-Some.other) (linked.EntryPoint c.in-Some.other) known (ap (globals_linked code (g ∷ more)) taken) refl refl refl
 
 pub returns-in-None : goal.returns-in-None
 returns-in-None c = λ name signature more own number statics externals known.

@@ -1,5 +1,5 @@
 use Rattle.std.proofs.Common.{◌∷◌, Some, refl, sym, subst}
-use Rattle.pli_program.specs.Program as op
+use Rattle.pli_program.specs.Program as programs
 use Rattle.pli_code.specs.CodeTables as tables
 use Rattle.pli_code.specs.CodeTables.{globals_linked, variable_at}
 use Rattle.pli_code.specs.views.CodeView.{code_view}
@@ -17,5 +17,5 @@ returns c = λ name more links unit number statics externals known.
     let external = c.args.external in
     subst (Links unit number statics externals (globals_linked code (tables.ExternalVariable name kind c.args.template ∷ more) (external ∷ links)) rest old new)
     (sym c.as_global.ensures)
-    (variable_links code unit number statics externals rest (op.ExternalVariable external kind) kind (Some external) (λ v. refl) (λ v. refl) old new
+    (variable_links code unit number statics externals rest (programs.ExternalVariable external kind) kind (Some external) (λ v. refl) (λ v. refl) old new
     (variable_at code c.args.template) c.place_external.result (c.place_external.ensures statics externals known))

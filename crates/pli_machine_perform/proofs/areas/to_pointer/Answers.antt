@@ -1,5 +1,4 @@
 use Rattle.std.proofs.Common.{List, refl, sym, ap, ◌∙◌}
-use Rattle.pli_value.specs.Value.{Value}
 use Rattle.pli_world.specs.Locating.{pointer_within}
 use Rattle.pli_machine_step.specs.Machine.{Operand, OfValue, given, pushes, used_up, value_off}
 use Rattle.pli_world.specs.Storage.{Place}

@@ -15,11 +15,12 @@ returns c = λ image put.
     let w = cleared (world_of image m put) in
     let frames = frames_of m.waiting.items in
     let left = left_of m in
+    let jumps = rw c.deref_mut-room.ensures.value at c.count_jump.ensures in
     ap (λ ops. leads (counted_jump c.args.target (stack ops) (frame_view m.here) frames w) left) (sym c.clear-2.ensures.items)
-    ∙ c.count_jump.ensures.moves frames w left refl
+    ∙ jumps.moves frames w left refl
     ∙ ap (λ v. after left c.count_jump.result (frame_view c.count_jump.new.here) frames v)
     (same_world (world_of image m put) _ _ _ _ _ _
-    (sym (c.end.ensures.storage ∙ ap (λ ns. without ns (storage_view m.storage)) c.deref.ensures.value))
+    (sym (c.end.ensures.storage ∙ ap (λ ns. without ns (storage_view m.storage)) (rw c.deref_mut-room.ensures.value at c.deref.ensures.value)))
     (sym c.end.ensures.made)
     (ap (λ ns. record (activation_view m.here) { pending = ns } ∷ activations_of m.waiting.items) (sym c.clear.ensures.items)
-    ∙ ap (λ a. a ∷ activations_of m.waiting.items) (sym c.count_jump.ensures.same)))
+    ∙ ap (λ a. a ∷ activations_of m.waiting.items) (sym jumps.same)))

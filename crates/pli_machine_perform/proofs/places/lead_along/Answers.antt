@@ -1,4 +1,4 @@
-use Rattle.std.proofs.Common.{◌≡◌, ◌&&◌, true, false, refl, sym, ap, ◌∙◌, rules, w64, SFits}
+use Rattle.std.proofs.Common.{true, false, refl, sym, ap, ◌∙◌, rules, w64, SFits}
 use Rattle.std.proofs.lemmas.Int.{to_z-of_z}
 use Rattle.pli_run.specs.declared.ending.RunError.TheVariants.{SubscriptRange}
 use Rattle.pli_world.specs.World.{Yields, Raises, Wrong}

@@ -1,4 +1,4 @@
-use Rattle.std.proofs.Common.{◌∷◌, List, refl, sym, ap, ◌∙◌}
+use Rattle.std.proofs.Common.{List, refl, sym, ap, ◌∙◌}
 use Rattle.pli_world.specs.Strings.{bound_of_place}
 use Rattle.pli_machine_step.specs.Machine.{Operand, OfValue, given, pushes, used_up}
 use Rattle.pli_world.specs.Storage.{Place}

@@ -1,4 +1,4 @@
-use Rattle.std.proofs.Common.{◌∷◌, List, refl, sym, ap, ◌∙◌, rules, w64, SFits}
+use Rattle.std.proofs.Common.{List, refl, sym, ap, ◌∙◌, rules, w64, SFits}
 use Rattle.std.proofs.lemmas.Int.{to_z-of_z}
 use Rattle.pli_world.specs.Strings.{subscripted_by}
 use Rattle.pli_world.specs.Storage.{Place}

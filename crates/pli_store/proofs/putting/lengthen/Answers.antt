@@ -11,7 +11,7 @@ pub returns-clause-put : goal.returns-clause-put
 returns-clause-put c =
     lengthened_or_same c.args.generations.now.items c.args.part c.args.greatest c.requires c.index_mut-generation.result.now
     c.index_mut-generation.ensures.value c.deref_mut.result.now c.append_at.new.bytes c.deref_mut.ensures.value
-    c.append_at.auto.bytes _ _ _ _ c.append_at.result c.args.more.now c.args.room c.append_at.ensures.put
+    c.append_at.auto.bytes _ _ _ _ _ _ c.append_at.result c.args.more.now c.args.room c.append_at.ensures.put
 
 pub returns-clause-refused : goal.returns-clause-refused
 returns-clause-refused c = λ e there text holds fits.

@@ -9,7 +9,7 @@ pub returns-clause-put : goal.returns-clause-put
 returns-clause-put c =
     put_or_same c.args.generations.now.items c.args.part (Bit 1) c.requires c.index_mut-generation.result.now
     c.index_mut-generation.ensures.value c.deref_mut.result.now c.put_bit_at.new.bytes c.deref_mut.ensures.value
-    c.put_bit_at.auto.bytes _ _ _ _ c.put_bit_at.result (Bits (c.args.bit ∷ [])) refl c.put_bit_at.ensures.put
+    c.put_bit_at.auto.bytes _ _ _ _ _ _ c.put_bit_at.result (Bits (c.args.bit ∷ [])) refl c.put_bit_at.ensures.put
 
 pub returns-clause-room : goal.returns-clause-room
 returns-clause-room c =

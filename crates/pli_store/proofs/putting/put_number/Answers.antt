@@ -12,7 +12,7 @@ returns-clause-put c =
     let whole = to_z-of_z w64 c.args.number fits in
     put_or_same c.args.generations.now.items c.args.part (FixedBinary c.args.precision) c.requires c.index_mut-generation.result.now
     c.index_mut-generation.ensures.value c.deref_mut.result.now c.put_number_at.new.bytes c.deref_mut.ensures.value
-    c.put_number_at.auto.bytes _ _ _ _ c.put_number_at.result (Number c.args.number) refl (rw whole at c.put_number_at.ensures.put)
+    c.put_number_at.auto.bytes _ _ _ _ _ _ c.put_number_at.result (Number c.args.number) refl (rw whole at c.put_number_at.ensures.put)
 
 pub returns-clause-room : goal.returns-clause-room
 returns-clause-room c = λ held.

@@ -9,7 +9,7 @@ pub returns-clause-put : goal.returns-clause-put
 returns-clause-put c =
     put_or_same c.args.generations.now.items c.args.part Pointer c.requires c.index_mut-generation.result.now
     c.index_mut-generation.ensures.value c.deref_mut.result.now c.put_pointer_at.new.bytes c.deref_mut.ensures.value
-    c.put_pointer_at.auto.bytes _ _ _ _ c.put_pointer_at.result (Located c.args.locator) refl c.put_pointer_at.ensures.put
+    c.put_pointer_at.auto.bytes _ _ _ _ _ _ c.put_pointer_at.result (Located c.args.locator) refl c.put_pointer_at.ensures.put
 
 pub returns-clause-held : goal.returns-clause-held
 returns-clause-held c =

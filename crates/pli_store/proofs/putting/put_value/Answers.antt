@@ -21,4 +21,4 @@ returns c =
     let v = value_view c.args.value.now in
     scalar_is_put c.args.generations.now.items c.args.part d c.requires.stands c.index_mut-generation.result.now
     c.index_mut-generation.ensures.value c.deref_mut.result.now c.put_value_at.new.bytes c.deref_mut.ensures.value
-    c.put_value_at.auto.bytes _ _ _ _ v (scalar_of_held d v c.requires.held) c.put_value_at.ensures
+    c.put_value_at.auto.bytes _ _ _ _ _ _ v (scalar_of_held d v c.requires.held) c.put_value_at.ensures

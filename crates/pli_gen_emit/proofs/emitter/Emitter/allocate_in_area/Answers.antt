@@ -12,7 +12,7 @@ returns c =
     let t = template_view c.args.template.now in
     let used = c.number_used-template in
     let target = c.short-target in
-    named_emitted old (record old { tables = used.new.tables }) c.put.new.self (op.AllocateInArea t c.args.after) _ used.ensures.numbers
+    named_emitted old (record old { tables = used.new.tables }) c.put.new.self (op.AllocateInArea t c.args.target) _ used.ensures.numbers
     (λ h. ap (λ n. op.AllocateInArea n target.result) (used.ensures.number h)
     ∙ ap (op.AllocateInArea (min (template_number (tables_view old.tables) t) 65535)) target.ensures)
     refl refl refl refl c.put.ensures

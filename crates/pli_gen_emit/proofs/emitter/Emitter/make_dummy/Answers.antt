@@ -1,9 +1,10 @@
 use Rattle.std.proofs.Common.{ap, ◌∙◌, ◌∷◌, [], min, refl}
 use Rattle.pli_map.specs.ParameterTypes.{Stated}
 use Rattle.pli_map.specs.views.DescriptionView.{description_view}
+use Rattle.pli_program.specs.Templates.{dummy}
 use Rattle.pli_program.specs.declared.instruction.Instruction.TheVariants as op
 use Rattle.pli_type_keys.specs.Same.{same_template}
-use Rattle.pli_gen_emit.specs.Encoding.{dummy, number_in}
+use Rattle.pli_gen_emit.specs.Encoding.{number_in}
 use Rattle.pli_gen_emit.proofs.NamedLemmas.{named_emitted}
 use Rattle.pli_gen_emit.proofs.NumberingLemmas.{numbers_both}
 use Rattle.pli_gen_emit.proofs.emitter.Emitter.make_dummy.Goals as goal

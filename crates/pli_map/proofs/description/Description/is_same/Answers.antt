@@ -1,5 +1,5 @@
 use Rattle.std.proofs.Common.{refl}
 use Rattle.pli_map.proofs.description.Description.is_same.Goals as goal
 
-pub returns-then-are_same_structures : goal.returns-then-are_same_structures
-returns-then-are_same_structures c = (λ e. c.if-are_same_structures.ensures refl, λ e. refl)
+pub returns-then-are_same_arrays : goal.returns-then-are_same_arrays
+returns-then-are_same_arrays c = (λ e. c.if-are_same_arrays.ensures refl, λ e. refl)

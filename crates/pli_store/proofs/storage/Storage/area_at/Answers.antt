@@ -42,17 +42,17 @@ index-requires c =
     let inside = within_store c.args.self.now.generations.items c.args.place.generation c.in-Some.at c.in-Some.ensures in
     omega (arith, inside)
 
-pub returns-then-not-equals : goal.returns-then-not-equals
-returns-then-not-equals c = λ w.
+pub returns-then-not-is_same : goal.returns-then-not-is_same
+returns-then-not-is_same c = λ w.
     let items = c.args.self.now.generations.items in
     let at = c.in-Some.at in
     let g = c.index.result.now in
     let here : slice_get items at ≡ Some g = slice_get_read items (length items) at g refl (within_store items c.args.place.generation at c.in-Some.ensures) c.index.ensures in
     let d = description_view g.description.now in
     let e = description_view c.args.place.description.now in
-    let told = same_from_decides c.equals.result (same d e) c.equals.ensures (same_decides d e) in
+    let told = same_from_decides c.is_same.result (same d e) c.is_same.ensures (same_decides d e) in
     other_area (place_view c.args.place) (with_storage c.args.self.now w) (generation_view g) (stored_one items c.args.place.generation at g c.in-Some.ensures here)
-    c.if-place-ne0.false c.if-place-ne0-2.false (sym c.if-not-is_area.ensures) (sym told ∙ c.if-not-equals.true)
+    c.if-place-ne0.false c.if-place-ne0-2.false (sym c.if-not-is_area.ensures) (sym told ∙ c.if-not-is_same.true)
 
 pub returns : goal.returns
 returns c =
@@ -62,6 +62,6 @@ returns c =
     let here : slice_get items at ≡ Some g = slice_get_read items (length items) at g refl (within_store items c.args.place.generation at c.in-Some.ensures) c.index.ensures in
     let d = description_view g.description.now in
     let e = description_view c.args.place.description.now in
-    let told = same_from_decides c.equals.result (same d e) c.equals.ensures (same_decides d e) in
+    let told = same_from_decides c.is_same.result (same d e) c.is_same.ensures (same_decides d e) in
     area_stands (place_view c.args.place) (with_storage c.args.self.now nothing) (generation_view g) (stored_one items c.args.place.generation at g c.in-Some.ensures here)
-    c.if-place-ne0.false c.if-place-ne0-2.false (sym c.if-not-is_area.ensures) (sym told ∙ c.if-not-equals.false) at (stands_in_view items at g here)
+    c.if-place-ne0.false c.if-place-ne0-2.false (sym c.if-not-is_area.ensures) (sym told ∙ c.if-not-is_same.false) at (stands_in_view items at g here)

@@ -1,53 +1,15 @@
-use Rattle.std.proofs.Common.{map, sym, ap, ◌∙◌, arith}
-use Rattle.pli_world.specs.Storage.{live_bytes}
-use Rattle.pli_store.specs.answers.Kept.{rise}
-use Rattle.pli_store.specs.views.GenerationView.{generation_view}
+use Rattle.std.proofs.Common.{Some, arith, length, refl, slice_get, subst, ◌-◌, ◌<◌, ◌≡◌}
+use Rattle.std.proofs.lemmas.Option.{slice_get_read}
+use Rattle.pli_store.specs.answers.Found.{StandsAt}
 use Rattle.pli_store.specs.views.StorageView.{storage_view}
-use Rattle.pli_store.proofs.EndingLemmas.{ended_size, ended_live, ended_rise, ended_view, none_ended}
+use Rattle.pli_store.proofs.Searches.{stands_at}
 use Rattle.pli_store.proofs.storage.Storage.end_one.Goals as goal
 
-pub overflow_cast-self : goal.overflow_cast-self
-overflow_cast-self c =
-    let size = ended_size c.args.self.now.generations.items c.args.self.now.made c.args.self.now.rising
-    c.args.number c.in-Some.at c.in-Some.ensures c.take_out-ended.result c.take_out-ended.ensures.value in
-    omega (arith, size, c.args.self.now.counted, c.args.self.now.limited, c.len.ensures)
-
-pub overflow_sub-self : goal.overflow_sub-self
-overflow_sub-self c =
-    let size = ended_size c.args.self.now.generations.items c.args.self.now.made c.args.self.now.rising
-    c.args.number c.in-Some.at c.in-Some.ensures c.take_out-ended.result c.take_out-ended.ensures.value in
-    omega (arith, size, c.args.self.now.counted, c.len.ensures)
-
-pub invariant_of-self : goal.invariant_of-self
-invariant_of-self c =
-    let size = ended_size c.args.self.now.generations.items c.args.self.now.made c.args.self.now.rising
-    c.args.number c.in-Some.at c.in-Some.ensures c.take_out-ended.result c.take_out-ended.ensures.value in
-    let live = ended_live c.args.self.now.generations.items c.args.self.now.made c.args.self.now.rising
-    c.args.number c.in-Some.at c.in-Some.ensures c.take_out-ended.result c.take_out-ended.ensures.value in
-    let left = ap (λ l. live_bytes (map generation_view l)) c.take_out-ended.ensures.items in
-    record {
-      counted =
-          omega (
-            arith,
-            left,
-            live,
-            size,
-            c.args.self.now.counted,
-            c.args.self.now.limited,
-            c.len.ensures,
-          );
-      limited = omega (arith, c.args.self.now.limited);
-      rising =
-          ap (λ l. rise 0 (map generation_view l) c.args.self.now.made) c.take_out-ended.ensures.items
-          ∙ ended_rise c.args.self.now.generations.items c.args.self.now.made c.args.self.now.rising
-          c.args.number c.in-Some.at c.in-Some.ensures c.take_out-ended.result c.take_out-ended.ensures.value;
-    }
-
-pub returns-in-Some-clause-storage : goal.returns-in-Some-clause-storage
-returns-in-Some-clause-storage c =
-    ap (map generation_view) c.take_out-ended.ensures.items
-    ∙ ended_view c.args.self.now.generations.items c.args.self.now.made c.args.self.now.rising c.args.number
-    c.in-Some.at c.in-Some.ensures c.take_out-ended.result c.take_out-ended.ensures.value
-
-pub returns-in_default-clause-storage : goal.returns-in_default-clause-storage
-returns-in_default-clause-storage c = sym (none_ended (storage_view c.args.self.now) c.args.self.now.made c.args.number c.args.self.now.rising c.in_default.ensures)
+pub end_there-requires : goal.end_there-requires
+end_there-requires c =
+    let items = c.args.self.now.generations.items in
+    let last = c.in-Some.last in
+    let within : last < length items = omega (arith, c.len.ensures, c.in-Some.ensures) in
+    let here : slice_get items last ≡ Some c.index.result.now = slice_get_read items (length items) last c.index.result.now refl within c.index.ensures in
+    let same : c.index.result.now.number ≡ c.args.number = omega arith in
+    subst (λ n. StandsAt (storage_view c.args.self.now) n last) same (stands_at items c.args.self.now.made c.args.self.now.rising last c.index.result.now here)

@@ -1,4 +1,4 @@
-use Rattle.std.proofs.Common.{◌≡◌, ◌≢◌, true, length, Some, slice_get, refl, sym, ap, subst, ◌∙◌}
+use Rattle.std.proofs.Common.{◌≡◌, ◌≢◌, ◌≤◌, true, length, Some, MatchOption, slice_get, refl, sym, ap, subst, ◌∙◌}
 use Rattle.std.specs.Option.{is_some}
 use Rattle.std.proofs.lemmas.Bool.{ltb-true}
 use Rattle.std.proofs.lemmas.Option.{slice_get_read}
@@ -7,8 +7,10 @@ use Rattle.pli_map.specs.Scalars.{first_scalar}
 use Rattle.pli_map.specs.views.DescriptionView.{description_view}
 use Rattle.pli_map.proofs.ScalarLawsHold.{whole_found}
 use Rattle.pli_store.specs.answers.Found.{StandsAt, LeadsTo}
+use Rattle.pli_store.specs.answers.Kinds.{digits_in}
+use Rattle.pli_store.specs.answers.Lone.{IsLone, IsNotLone}
 use Rattle.pli_store.specs.views.StorageView.{place_view, storage_view}
-use Rattle.pli_store.proofs.PlaceLemmas.{leads_to, is_number}
+use Rattle.pli_store.proofs.PlaceLemmas.{leads_to, is_number, one_there, none_there}
 use Rattle.pli_store.proofs.Searches.{stands_at}
 use Rattle.pli_store.proofs.storage.Storage.lone_number.Goals as goal
 
@@ -36,3 +38,33 @@ returns c =
           (leads_to items (place_view place) place.hint stands alone.0 g here (rw alone.1 found));
       precision = is;
     }
+
+pub returns-then-place-eq0 : goal.returns-then-place-eq0
+returns-then-place-eq0 c = λ some g here number same. some c.if-place-eq0.true
+
+pub returns-in_err-generation : goal.returns-in_err-generation
+returns-in_err-generation c =
+    let items = c.args.self.now.generations.items in
+    subst (λ r. MatchOption r (IsNotLone c.args.self.now c.args.place) (IsLone c.args.self.now (place_view c.args.place))) (sym c.from_residual.ensures)
+    (λ some g here number same. none_there items c.args.place.hint g (subst (λ xs. length xs ≤ c.args.place.hint) c.deref.ensures.value c.in_err-generation.ensures.lookup.3) here)
+
+pub returns-then-generation-place : goal.returns-then-generation-place
+returns-then-generation-place c =
+    let items = c.args.self.now.generations.items in
+    let place = c.args.place in
+    let f = c.in_ok-generation.generation.now in
+    let there : slice_get items place.hint ≡ Some f =
+    ap (λ xs. slice_get xs place.hint) (sym c.deref.ensures.value)
+    ∙ slice_get_read c.deref.result.now (length c.deref.result.now) place.hint f refl (ltb-true place.hint (length c.deref.result.now) (sym c.in_ok-generation.ensures.lookup.0)) c.in_ok-generation.ensures.lookup.1 in
+    λ some g here number same. c.if-generation-place.true (ap (λ h. h.number) (one_there items place.hint f g there here) ∙ number)
+
+pub returns-then-generation-place-2 : goal.returns-then-generation-place-2
+returns-then-generation-place-2 c =
+    let items = c.args.self.now.generations.items in
+    let place = c.args.place in
+    let f = c.in_ok-generation.generation.now in
+    let there : slice_get items place.hint ≡ Some f =
+    ap (λ xs. slice_get xs place.hint) (sym c.deref.ensures.value)
+    ∙ slice_get_read c.deref.result.now (length c.deref.result.now) place.hint f refl (ltb-true place.hint (length c.deref.result.now) (sym c.in_ok-generation.ensures.lookup.0)) c.in_ok-generation.ensures.lookup.1 in
+    λ some g here number same. c.if-generation-place-2.true
+    (f.alone ∙ ap (λ h. digits_in (description_view h.description.now)) (one_there items place.hint f g there here) ∙ ap digits_in same ∙ sym (place.alone some).2)

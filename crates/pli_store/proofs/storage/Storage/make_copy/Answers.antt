@@ -1,4 +1,4 @@
-use Rattle.std.proofs.Common.{◌≡◌, min, ap, ◌∙◌, subst, arith}
+use Rattle.std.proofs.Common.{◌≡◌, length, min, ap, ◌∙◌, subst}
 use Rattle.pli_bytes.specs.Contents.{values_of}
 use Rattle.pli_map.specs.Scalars.{scalars_of}
 use Rattle.pli_map.specs.Values.{are_held}
@@ -13,13 +13,13 @@ pub returns-then-not-has_room_for-clause-answer : goal.returns-then-not-has_room
 returns-then-not-has_room_for-clause-answer c = λ w vs begins.
     c.if-not-has_room_for.ensures (description_view c.args.description.now) (ap (λ n. min n 4294967296) c.requires) w (made_view c.args.made) vs
 
-pub copy_from_slice-requires : goal.copy_from_slice-requires
-copy_from_slice-requires c = omega (arith, c.in_ok-own.own.ok.0, c.in_ok-own.ensures, c.requires)
+pub add-requires-clause-size : goal.add-requires-clause-size
+add-requires-clause-size c = ap length c.in_ok-own.ensures ∙ c.requires
 
 pub returns-clause-answer : goal.returns-clause-answer
 returns-clause-answer c = λ w vs begins.
     let d = description_view c.args.description.now in
-    let values : values_of d c.copy_from_slice.new.self.items ≡ vs = ap (values_of d) c.copy_from_slice.ensures.items ∙ begins.0 in
+    let values : values_of d c.in_ok-own.own.items ≡ vs = ap (values_of d) c.in_ok-own.ensures ∙ begins.0 in
     let before = with_storage c.args.self.now w in
     let after = with_storage c.add.new.self w in
     subst (λ us. Answered place_view c.add.result before after (made_of d (made_view c.args.made) us before)) values

@@ -1,0 +1,8 @@
+//! Tests of what is kept where memory is refused. Nothing stands on them, so that they are a program, which does nothing
+//! itself: for a library `rt` would sum up all that it stands on.
+#![tactic(auto)]
+
+#[cfg(test)]
+mod tests;
+
+fn main() {}

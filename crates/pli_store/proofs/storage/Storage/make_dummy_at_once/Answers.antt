@@ -1,0 +1,5 @@
+use Rattle.std.proofs.Common.{refl}
+use Rattle.pli_store.proofs.storage.Storage.make_dummy_at_once.Goals as goal
+
+pub make_number-requires-clause-held : goal.make_number-requires-clause-held
+make_number-requires-clause-held c = (c.if-not-holds_number.ensures.0 refl).1
