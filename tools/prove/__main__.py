@@ -1,9 +1,9 @@
 """prove [--plan] [--places N] [CRATE]: proves and builds a program, by default pliwb, and all that it stands on.
 
 Crates are proved side by side, one on each processor, as many as fit into memory, and those first on which the longest
-chain waits. What was proved before and has not changed is not proved again. A run that is stopped goes on where it was
-the next time. --places N proves N at a time; --plan shows when each crate would begin and end, and proves nothing. A
-line for each crate goes to standard error.
+chain waits. What was proved before and has not changed is not proved again. A run that is stopped goes on the next
+time, with the crates that were not finished. --places N proves N at a time; --plan shows when each crate would begin
+and end, and proves nothing. A line for each crate goes to standard error.
 
 Status 0: it is proved and built. 1: a crate is refused, or sources changed meanwhile. 2: words that are no call. 129,
 130 or 143: it was stopped by a signal.
@@ -20,9 +20,11 @@ import time
 from pathlib import Path
 
 import schedule
+from kit import Kit
 
 TOP = Path(__file__).resolve().parent.parent.parent
-ROOMS = TOP / "out" / "prove"
+MADE = TOP / "out" / "prove"
+LIBRARIES = MADE / "libraries"
 PARTS = ("src", "specs", "proofs")
 CHECK = 4_100_000_000  # bytes of the greatest process of a proof
 SIGNALS = (signal.SIGINT, signal.SIGTERM, signal.SIGHUP)
@@ -36,119 +38,125 @@ def clock(minutes):
     return f"{minutes:.0f} min" if minutes >= 2 else f"{60 * minutes:.0f} s"
 
 
-def link_or_copy(source, target):
-    try:
-        os.link(source, target)
-    except OSError:
-        shutil.copyfile(source, target)
-
-
 def free_memory():
     """The bytes that processes can still take, by what the system says."""
     rows = Path("/proc/meminfo").read_text().splitlines()
     return next(1024 * int(row.split()[1]) for row in rows if row.startswith("MemAvailable"))
 
 
+def sum_of(folder):
+    """A sum of the sources of a crate."""
+    made = hashlib.sha256()
+    for part in PARTS:
+        for file in sorted(it for it in (folder / part).rglob("*") if it.is_file()):
+            made.update(f"{file.relative_to(folder)} {file.stat().st_size}\n".encode() + file.read_bytes())
+    return made.hexdigest()
+
+
 class Repository:
     """The crates that one crate stands on, itself among them, and what is kept of them."""
 
     def __init__(self, crate):
-        self.crate, self.text = crate, (TOP / "crates.txt").read_text()
+        self.crate, self.text, self.kit = crate, (TOP / "crates.txt").read_text(), Kit()
         every = schedule.listed(self.text)
         self.uses = {name: every[name] for name in schedule.below(every, crate)}
+        self.named = schedule.named(self.text)
         known = schedule.measured((TOP / "docs" / "GATE.md").read_text())
         self.minutes = {name: known.get(name) or schedule.guessed(self.folder(name)) for name in self.uses}
 
     def folder(self, name):
         return TOP / "crates" / name
 
-    def program(self, name):
-        """The file of a program; none for a library."""
-        return self.folder(name) / "out" / name if (self.folder(name) / "src" / "main.rt").exists() else None
+    def is_program(self, name):
+        return (self.folder(name) / "src" / "main.rt").exists()
 
-    def lines(self, names):
-        """The lines of these crates in the list of crates."""
-        return "".join(line + "\n" for line in self.text.splitlines() if {*line.partition(":")[0].split()} & {*names})
+    def made(self, name):
+        """What is made of a crate: a program's file, or a library."""
+        return self.folder(name) / "out" / name if self.is_program(name) else LIBRARIES / f"{name}.rlib"
 
-    def sums(self):
+    def sources(self):
+        """For each crate a sum of its sources."""
+        return {name: sum_of(self.folder(name)) for name in self.uses}
+
+    def sums(self, sources):
         """For each crate a sum of all that its proof rests on."""
-        version, found = subprocess.run(["rt", "version"], stdout=subprocess.PIPE, check=True).stdout, {}
+        found = {}
         for name in self.uses:
-            under = [found[it] for it in self.uses[name]]
-            made = hashlib.sha256(repr((version, self.lines([name]), under)).encode())
-            for part in PARTS:
-                for file in sorted(it for it in (self.folder(name) / part).rglob("*") if it.is_file()):
-                    made.update(f"{file.relative_to(TOP)} {file.stat().st_size}\n".encode() + file.read_bytes())
-            found[name] = made.hexdigest()
+            rest = self.kit.version, name, self.named[name], [found[it] for it in self.uses[name]]
+            found[name] = hashlib.sha256(repr((rest, sources[name])).encode()).hexdigest()
         return found
 
-    def note(self, name, sums):
-        """Where and by which words it is noted that a crate was proved at its sum. rt removes a library with its note
-        before it makes it anew; the note of a program tells which program."""
-        program, made = self.program(name), self.folder(name) / "out"
-        if not program:
-            return made / "rlib" / "proved", sums[name]
-        bytes_of = program.read_bytes() if program.exists() else b""
-        return made / "proved", f"{sums[name]} {hashlib.sha256(bytes_of).hexdigest()}"
+    def words(self, name, sums):
+        """By which words it is noted that a crate was proved at its sum; those of a program tell which program."""
+        made = self.made(name)
+        return f"{sums[name]} {hashlib.sha256(made.read_bytes()).hexdigest()}" if self.is_program(name) else sums[name]
+
+    def note(self, name):
+        return MADE / f"{name}.proved"
 
     def proved(self, sums):
         """The crates that stand."""
-        notes = {name: self.note(name, sums) for name in self.uses}
-        return {name for name, (file, words) in notes.items() if file.exists() and file.read_text() == words}
+        kept = {name for name in self.uses if self.made(name).exists() and self.note(name).exists()}
+        return {name for name in kept if self.note(name).read_text() == self.words(name, sums)}
 
-    def write_note(self, name, sums):
-        file, words = self.note(name, sums)
-        file.write_text(words)
+    def keep(self, name, new, sums):
+        """Puts what was made of a crate at its place, and notes that it was proved. A program is older than all sources
+        there, until it is known that none has changed."""
+        made = self.made(name)
+        if self.is_program(name):
+            os.utime(new, (0, 0))
+        self.note(name).unlink(missing_ok=True)
+        made.parent.mkdir(parents=True, exist_ok=True)
+        if made.is_dir():
+            shutil.rmtree(made)
+        os.replace(new, made)
+        self.note(name).write_text(self.words(name, sums))
 
-    @contextlib.contextmanager
-    def held(self):
-        """Keeps other checks of these crates waiting, and waits for those that are under way."""
-        with contextlib.ExitStack() as stack:
-            for name in sorted(self.uses):
-                holder = os.open(self.folder(name), os.O_RDONLY)
-                stack.callback(os.close, holder)
-                take_turn(holder, self.folder(name))
-            yield
 
-
-def take_turn(holder, folder):
-    """Locks an open folder, as rt does, and tells where that takes waiting."""
-    try:
-        fcntl.flock(holder, fcntl.LOCK_EX | fcntl.LOCK_NB)
-    except BlockingIOError:
-        tell(f"waiting for another check in {folder}")
-        fcntl.flock(holder, fcntl.LOCK_EX)
-    except OSError:
-        pass  # some file systems have no locks
+@contextlib.contextmanager
+def alone():
+    """Waits for another run, and for checks that outlived one: they hold the lock too. Then no other run begins."""
+    LIBRARIES.mkdir(parents=True, exist_ok=True)
+    with open(MADE / "lock", "w") as lock:
+        try:
+            fcntl.flock(lock, fcntl.LOCK_EX | fcntl.LOCK_NB)
+        except BlockingIOError:
+            tell("waiting for another run")
+            fcntl.flock(lock, fcntl.LOCK_EX)
+        yield lock.fileno()
 
 
 class Check:
-    """A crate that is being proved, in a room of its own: rt lets one check at a time into the crates that it reads.
+    """A crate that is being proved, in a room with copies of its sources."""
 
-    In it are copies of the sources, links to the libraries below, and the crate's own folder out, which goes back."""
-
-    def __init__(self, repository, name):
-        self.name, self.room, self.began = name, ROOMS / name, time.monotonic()
-        names = schedule.below(repository.uses, name)
-        for each in names:
-            self.furnish(repository.folder(each), self.room / "crates" / each, each != name)
-        (self.room / "crates.txt").write_text(repository.lines(names))
-        self.said = open(self.room / "said", "w+", errors="replace")
-        how = {"stdin": subprocess.DEVNULL, "stdout": self.said, "stderr": subprocess.STDOUT}
-        self.process = subprocess.Popen(["rt", "lib", "--jobs", "1"], cwd=self.room / "crates" / name, **how)
-
-    @staticmethod
-    def furnish(folder, place, stands):
+    def __init__(self, repository, name, lock):
+        self.repository, self.name, self.lock = repository, name, lock
+        self.room, self.began = MADE / "rooms" / name, time.monotonic()
+        shutil.rmtree(self.room, ignore_errors=True)
         for part in PARTS:
-            if (folder / part).exists():
-                shutil.copytree(folder / part, place / part)
-        if stands:
-            shutil.copytree(folder / "out" / "rlib", place / "out" / "rlib", copy_function=link_or_copy)
-        elif (folder / "out").exists():
-            shutil.move(folder / "out", place / "out")
+            if (repository.folder(name) / part).exists():
+                shutil.copytree(repository.folder(name) / part, self.room / part)
+        self.new = self.room / f"{name}.{'o' if repository.is_program(name) else 'rlib'}"
+        self.said = open(self.room / "said", "w+", errors="replace")
+        kind, uses = repository.is_program(name), repository.named[name]
+        self.process = self.call(repository.kit.build(name, kind, uses, repository.uses, LIBRARIES, self.new))
+
+    def call(self, words):
+        how = {"stdin": subprocess.DEVNULL, "stdout": self.said, "stderr": subprocess.STDOUT}
+        return subprocess.Popen(words, cwd=self.room, pass_fds=(self.lock,), **how)
 
     def ended(self):
         return self.process.poll() is not None
+
+    def is_of(self, sources):
+        """Whether what was proved has these sources."""
+        return sum_of(self.room) == sources[self.name]
+
+    def linked(self):
+        """Makes a program of its object; whether that went well."""
+        made, self.new = self.new, self.room / self.name
+        self.process = self.call(self.repository.kit.link(made, self.new))
+        return self.process.wait() == 0
 
     def close(self):
         """Stops what is left of the check, and empties the room; what the check said."""
@@ -157,35 +165,17 @@ class Check:
         self.said.seek(0)
         with self.said:
             said = self.said.read()
-        leave(self.room)
+        shutil.rmtree(self.room, ignore_errors=True)
         return said
 
 
-def leave(room):
-    """Empties a room: what was kept of its crate goes back."""
-    kept, home = room / "crates" / room.name / "out", TOP / "crates" / room.name / "out"
-    if kept.exists() and not home.exists():
-        shutil.move(kept, home)
-    shutil.rmtree(room, ignore_errors=True)
-
-
-def leave_all():
-    """Empties the rooms that are left, as those of a run that was killed, once what works there has ended."""
-    for room in sorted(ROOMS.iterdir()) if ROOMS.exists() else ():
-        folder = room / "crates" / room.name
-        if folder.exists():
-            holder = os.open(folder, os.O_RDONLY)
-            take_turn(holder, folder)
-            os.close(holder)
-        leave(room)
-
-
 class Run:
-    """The proof of all crates of a repository's program but the program itself."""
+    """The proof of all crates of a repository's program."""
 
-    def __init__(self, repository, places, started):
-        self.repository, self.places, self.started = repository, places, started
-        self.sums = repository.sums()
+    def __init__(self, repository, places, lock, started):
+        self.repository, self.places, self.lock, self.started = repository, places, lock, started
+        self.sources = repository.sources()
+        self.sums = repository.sums(self.sources)
         self.done = repository.proved(self.sums)
         self.lengths = schedule.chains(repository.uses, repository.minutes)
         self.checks, self.taken, self.reckoned, self.failed = {}, 0, 0, []
@@ -207,28 +197,39 @@ class Run:
         """Begins what can begin, unless a crate was refused; whether anything runs."""
         names = schedule.ready(self.repository.uses, self.done, self.checks, self.lengths)
         for name in names[: 0 if self.failed else self.places - len(self.checks)]:
-            if not self.repository.program(name):
-                self.checks[name] = Check(self.repository, name)
+            self.checks[name] = Check(self.repository, name, self.lock)
         return bool(self.checks)
+
+    def fault(self, check):
+        """Why what a check has proved can't be taken; none where it can."""
+        status = check.process.returncode
+        if status:
+            return "is refused" if status == 1 else f"was not judged: its check broke off with status {status}"
+        if not check.is_of(self.sources):
+            return "changed meanwhile: prove once more, which proves what changed"
+        return "" if not self.repository.is_program(check.name) or check.linked() else "is proved, but was not linked"
 
     def end(self, name):
         """Takes up what the check of a crate came to."""
-        check = self.checks.pop(name)
-        status, minutes, said = check.process.returncode, (time.monotonic() - check.began) / 60, check.close()
-        if status:
+        check = self.checks[name]
+        minutes, fault = (time.monotonic() - check.began) / 60, self.fault(check)
+        if not fault:
+            self.repository.keep(name, check.new, self.sums)
+        del self.checks[name]
+        said = check.close()
+        if fault:
             self.failed.append(name)
             print(said, end="", file=sys.stderr)
-            tell(f"{name} is refused" if status == 1 else f"the check of {name} broke off with status {status}")
+            tell(f"{name} {fault}")
             if self.checks:
                 tell(f"no other is begun; first {' '.join(self.checks)} will end")
             return
-        self.repository.write_note(name, self.sums)
         self.done.add(name)
         self.taken, self.reckoned = self.taken + minutes, self.reckoned + self.repository.minutes[name]
         self.tell(f"{name} proved")
 
     def prove(self):
-        """Whether each library stands."""
+        """Whether each crate stands."""
         try:
             while self.begin():
                 ended = [name for name, check in self.checks.items() if check.ended()]
@@ -239,39 +240,7 @@ class Run:
         finally:
             for check in self.checks.values():
                 check.close()
-            leave_all()
         return not self.failed
-
-
-def unchanged(run):
-    """Whether the sources are still those of the beginning."""
-    same = run.repository.sums() == run.sums
-    if not same:
-        tell("sources changed meanwhile: prove once more, which proves what changed")
-    return same
-
-
-def build(run):
-    """Proves the program itself, which all else waits for, and builds it; whether it stands."""
-    crate, repository = run.repository.crate, run.repository
-    program, ran = repository.program(crate), None
-    if not unchanged(run):
-        return False
-    if program and crate not in run.done:
-        run.tell(f"proving and building {crate}")
-        how = {"stdin": subprocess.DEVNULL, "stdout": subprocess.PIPE, "stderr": subprocess.STDOUT, "errors": "replace"}
-        ran = subprocess.run(["rt", "run", "--jobs", "1"], cwd=repository.folder(crate), **how)
-    if ran and ran.returncode:
-        print(ran.stdout, end="", file=sys.stderr)
-        tell(f"{crate} is refused, or did not run")
-        return False
-    if program and not unchanged(run):
-        return False
-    if program:
-        repository.write_note(crate, run.sums)
-        # What changes from now on is newer than the program.
-        os.utime(program)
-    return True
 
 
 def show_plan(repository, places):
@@ -305,15 +274,25 @@ def words(given):
     return plan, places and int(places), named[0]
 
 
+def is_changed(run):
+    """Whether sources or the list of crates are others than at the beginning."""
+    now = Repository(run.repository.crate)
+    return now.sums(now.sources()) != run.sums
+
+
 def prove(repository, places):
     """Whether all stands in the end."""
     started = time.monotonic()
-    with repository.held():
-        leave_all()
-        run = Run(repository, places, started)
+    with alone() as lock:
+        run = Run(repository, places, lock, started)
         run.tell(f"{places} crates at a time")
-        stands = run.prove()
-    stands = stands and build(run)
+        stands, now = run.prove(), time.time()
+        if stands and is_changed(run):
+            tell("sources changed meanwhile: prove once more, which proves what changed")
+            return False
+        if stands and repository.is_program(repository.crate):
+            # What has changed since then is newer than the program.
+            os.utime(repository.made(repository.crate), (now, now))
     if stands:
         tell(f"{repository.crate} stands, {(time.monotonic() - started) / 60:.1f} min")
     return stands

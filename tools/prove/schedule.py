@@ -6,10 +6,15 @@ EMPTY = 0.3  # minutes of a proof that has hardly any code
 LINES = 400  # lines of code that are reckoned at a further minute
 
 
+def named(text):
+    """Each crate that a list of crates names, with the libraries that it names beside it, those of the kit too."""
+    rows = [line.partition("#")[0].partition(":") for line in text.splitlines()]
+    return {name.split()[0]: rest.split() for name, _, rest in rows if name.split()}
+
+
 def listed(text):
     """Each crate that a list of crates names, with the crates of the list that it stands on."""
-    rows = [line.partition("#")[0].partition(":") for line in text.splitlines()]
-    uses = {name.split()[0]: rest.split() for name, _, rest in rows if name.split()}
+    uses = named(text)
     return {name: [it for it in below if it in uses] for name, below in uses.items()}
 
 

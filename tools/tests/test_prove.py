@@ -6,6 +6,7 @@ from pathlib import Path
 TOP = Path(__file__).resolve().parent.parent.parent
 sys.path.insert(0, str(TOP / "tools" / "prove"))
 import schedule  # noqa: E402
+from kit import Kit  # noqa: E402
 
 LIST = """# crates
 low:
@@ -45,6 +46,10 @@ class Reads(unittest.TestCase):
         uses = {"low": [], "left": ["low"], "right": ["low"], "app": ["right", "left"], "apart": ["low"]}
         self.assertEqual(schedule.listed(LIST), uses)
 
+    def test_libraries_of_the_kit(self):
+        self.assertEqual(schedule.named(LIST)["left"], ["low", "itoa"])
+        self.assertEqual(schedule.named(LIST)["app"], ["right", "left"])
+
     def test_below(self):
         self.assertEqual(schedule.below(schedule.listed(LIST), "app"), ["low", "right", "left", "app"])
 
@@ -70,6 +75,27 @@ class Order(unittest.TestCase):
     def test_length_from_the_middle(self):
         self.assertEqual(schedule.length(USES, MINUTES, 2, {"low"}, {"right": 0.5}), 2)
         self.assertEqual(schedule.length(USES, MINUTES, 2, set(USES)), 0)
+
+
+class Words(unittest.TestCase):
+    """How a crate is proved, in a kit at /kit."""
+
+    def setUp(self):
+        self.kit = Kit.__new__(Kit)
+        self.kit.home = Path("/kit")
+
+    def test_a_library_keeps_its_statements_alone(self):
+        words = self.kit.build("left", False, ["low", "itoa"], {"low": []}, Path("/made"), "left.rlib")
+        self.assertEqual(words[:5], ["/kit/bin/rattle", "build", "--crate-name", "left", "src/lib.rt"])
+        self.assertIn("low=/made/low.rlib", words)
+        self.assertIn("itoa=/kit/rlibs/itoa.rlib", words)
+        self.assertEqual(words[-3:], ["--statements", "-o", "left.rlib"])
+
+    def test_a_program_is_made_by_llvm(self):
+        words = self.kit.build("app", True, ["left"], {"left": []}, Path("/made"), "app.o")
+        self.assertEqual(words[4], "src/main.rt")
+        self.assertNotIn("--statements", words)
+        self.assertEqual(words[-4:], ["--backend", "llvm", "-o", "app.o"])
 
 
 class Repository(unittest.TestCase):
