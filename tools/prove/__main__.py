@@ -1,9 +1,10 @@
 """prove [--plan] [--places N] [CRATE]: proves and builds a program, by default pliwb, and all that it stands on.
 
 Crates are proved side by side, one on each processor, as many as fit into memory, and those first on which the longest
-chain waits. What was proved before and has not changed is not proved again. A run that is stopped goes on the next
-time, with the crates that were not finished. --places N proves N at a time; --plan shows when each crate would begin
-and end, and proves nothing. A line for each crate goes to standard error.
+chain waits; where fewer can begin, they share the processors that are left. What was proved before and has not changed
+is not proved again. A run that is stopped goes on the next time, with the crates that were not finished. --places N
+proves N at a time; --plan shows when each crate would begin and end, and proves nothing. A line for each crate goes to
+standard error.
 
 Status 0: it is proved and built. 1: a crate is refused, or sources changed meanwhile. 2: words that are no call. 129,
 130 or 143: it was stopped by a signal.
@@ -129,7 +130,7 @@ def alone():
 class Check:
     """A crate that is being proved, in a room with copies of its sources."""
 
-    def __init__(self, repository, name, lock):
+    def __init__(self, repository, name, lock, processors):
         self.repository, self.name, self.lock = repository, name, lock
         self.room, self.began = MADE / "rooms" / name, time.monotonic()
         shutil.rmtree(self.room, ignore_errors=True)
@@ -139,7 +140,8 @@ class Check:
         self.new = self.room / f"{name}.{'o' if repository.is_program(name) else 'rlib'}"
         self.said = open(self.room / "said", "w+", errors="replace")
         kind, uses = repository.is_program(name), repository.named[name]
-        self.process = self.call(repository.kit.build(name, kind, uses, repository.uses, LIBRARIES, self.new))
+        made = LIBRARIES, self.new, processors
+        self.process = self.call(repository.kit.build(name, kind, uses, repository.uses, *made))
 
     def call(self, words):
         how = {"stdin": subprocess.DEVNULL, "stdout": self.said, "stderr": subprocess.STDOUT}
@@ -196,8 +198,9 @@ class Run:
     def begin(self):
         """Begins what can begin, unless a crate was refused; whether anything runs."""
         names = schedule.ready(self.repository.uses, self.done, self.checks, self.lengths)
-        for name in names[: 0 if self.failed else self.places - len(self.checks)]:
-            self.checks[name] = Check(self.repository, name, self.lock)
+        begun = {} if self.failed else schedule.shares(names, self.places - len(self.checks))
+        for name, processors in begun.items():
+            self.checks[name] = Check(self.repository, name, self.lock, processors)
         return bool(self.checks)
 
     def fault(self, check):

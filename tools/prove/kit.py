@@ -16,7 +16,7 @@ class Kit:
     def __init__(self):
         self.home, self.version = Path(said("rt", "doc")).parent, said("rt", "version")
 
-    def build(self, name, is_program, uses, below, libraries, made):
+    def build(self, name, is_program, uses, below, libraries, made, processors=1):
         """The words that prove a crate whole, from nothing, and then make of it a library or the object of a program.
 
         They are called in the crate's folder. `uses` are the libraries that it names, `below` those of the repository,
@@ -29,7 +29,7 @@ class Kit:
         for it in (self.home / "rlibs", libraries):
             words += ["-L", f"dependency={it}"]
         words += ["--antt-project", self.home / "rattle" / "logic" / "antt-project.json"]
-        words += ["--logic-built", self.home / "logic_built", "--links", f"{name}=", "--jobs", "1"]
+        words += ["--logic-built", self.home / "logic_built", "--links", f"{name}=", "--jobs", processors]
         words += ["--toolchain", self.home / "toolchain", "--backend", "llvm"] if is_program else ["--statements"]
         return [*map(str, words), "-o", str(made)]
 

@@ -4,6 +4,7 @@ from pathlib import Path
 
 EMPTY = 0.3  # minutes of a proof that has hardly any code
 LINES = 400  # lines of code that are reckoned at a further minute
+SHARED = 0.55  # the part of a proof whose functions several processors can share
 
 
 def named(text):
@@ -64,16 +65,30 @@ def ready(uses, done, begun, lengths):
     return sorted(free, key=lambda it: -lengths[it])
 
 
+def shares(names, places):
+    """For each of the crates that begin on so many free places how many of these it takes.
+
+    It is one, unless there are more than crates that can begin: then they are dealt out, so that none stays idle. A
+    crate that can begin later has its place all the same."""
+    taken = names[: max(places, 0)]
+    return {name: len(range(first, places, len(taken))) for first, name in enumerate(taken)}
+
+
+def shared(minutes, processors):
+    """The minutes of a proof whose functions so many processors share."""
+    return minutes * (1 - SHARED + SHARED / processors)
+
+
 def times(uses, minutes, places, done=(), running=None):
-    """When each crate begins and ends, from now on, if each proof takes the minutes it is reckoned at.
+    """When each crate begins and ends, from now on, if a proof on one processor takes the minutes it is reckoned at.
 
     Some are done, and of those that are running the minutes that are left are given."""
     done, lengths, now = set(done), chains(uses, minutes), 0
     begun = {name: (0, left) for name, left in (running or {}).items()}
     while len(done) < len(uses):
         open_now = {it: begun[it][1] for it in begun if it not in done}
-        for name in ready(uses, done, begun, lengths)[: max(places - len(open_now), 0)]:
-            begun[name] = (now, now + minutes[name])
+        for name, processors in shares(ready(uses, done, begun, lengths), places - len(open_now)).items():
+            begun[name] = (now, now + shared(minutes[name], processors))
             open_now[name] = begun[name][1]
         now = min(open_now.values())
         done |= {it for it, ends in open_now.items() if ends <= now}

@@ -66,14 +66,27 @@ class Order(unittest.TestCase):
         self.assertEqual(schedule.ready(USES, {"low"}, (), lengths), ["right", "left"])
         self.assertEqual(schedule.ready(USES, {"low"}, {"right"}, lengths), ["left"])
 
+    def test_free_places_are_dealt_out(self):
+        self.assertEqual(schedule.shares(["a", "b", "c"], 2), {"a": 1, "b": 1})
+        self.assertEqual(schedule.shares(["a", "b", "c"], 4), {"a": 2, "b": 1, "c": 1})
+        self.assertEqual(schedule.shares(["a"], 4), {"a": 4})
+        self.assertEqual(schedule.shares(["a"], 0), {})
+        self.assertEqual(schedule.shares([], 4), {})
+
+    def test_processors_share_a_proof(self):
+        self.assertEqual(schedule.shared(2, 1), 2)
+        self.assertLess(schedule.shared(2, 4), schedule.shared(2, 2))
+        self.assertGreater(schedule.shared(2, 4), 0.5)
+
     def test_times(self):
-        two = {"low": (0, 2), "right": (2, 5), "left": (2, 3), "app": (5, 6)}
+        low, app = schedule.shared(2, 2), schedule.shared(1, 2)
+        two = {"low": (0, low), "right": (low, low + 3), "left": (low, low + 1), "app": (low + 3, low + 3 + app)}
         self.assertEqual(schedule.times(USES, MINUTES, 2), two)
         one = {"low": (0, 2), "right": (2, 5), "left": (5, 6), "app": (6, 7)}
         self.assertEqual(schedule.times(USES, MINUTES, 1), one)
 
     def test_length_from_the_middle(self):
-        self.assertEqual(schedule.length(USES, MINUTES, 2, {"low"}, {"right": 0.5}), 2)
+        self.assertEqual(schedule.length(USES, MINUTES, 2, {"low"}, {"right": 0.5}), 1 + schedule.shared(1, 2))
         self.assertEqual(schedule.length(USES, MINUTES, 2, set(USES)), 0)
 
 
@@ -90,6 +103,11 @@ class Words(unittest.TestCase):
         self.assertIn("low=/made/low.rlib", words)
         self.assertIn("itoa=/kit/rlibs/itoa.rlib", words)
         self.assertEqual(words[-3:], ["--statements", "-o", "left.rlib"])
+        self.assertIn("--jobs 1", " ".join(words))
+
+    def test_processors_share_a_check(self):
+        words = self.kit.build("left", False, ["low"], {"low": []}, Path("/made"), "left.rlib", 3)
+        self.assertIn("--jobs 3", " ".join(words))
 
     def test_a_program_is_made_by_llvm(self):
         words = self.kit.build("app", True, ["left"], {"left": []}, Path("/made"), "app.o")
