@@ -1,10 +1,10 @@
 """prove [--plan] [--places N] [CRATE]: proves and builds a program, by default pliwb, and all that it stands on.
 
 Crates are proved side by side, one on each processor, as many as fit into memory, and those first on which the longest
-chain waits; where fewer can begin, they share the processors that are left. What was proved before and has not changed
-is not proved again. A run that is stopped goes on the next time, with the crates that were not finished. --places N
-proves N at a time; --plan shows when each crate would begin and end, and proves nothing. A line for each crate goes to
-standard error.
+chain waits; where fewer can begin, they share the processors that are left, and near the end each is proved by two.
+What was proved before and has not changed is not proved again. A run that is stopped goes on the next time, with the
+crates that were not finished. --places N proves N at a time; --plan shows when each crate would begin and end, and
+proves nothing. A line for each crate goes to standard error.
 
 Status 0: it is proved and built. 1: a crate is refused, or sources changed meanwhile. 2: words that are no call. 129,
 130 or 143: it was stopped by a signal.
@@ -197,9 +197,10 @@ class Run:
 
     def begin(self):
         """Begins what can begin, unless a crate was refused; whether anything runs."""
-        names = schedule.ready(self.repository.uses, self.done, self.checks, self.lengths)
-        begun = {} if self.failed else schedule.shares(names, self.places - len(self.checks))
-        for name, processors in begun.items():
+        uses, minutes = self.repository.uses, self.repository.minutes
+        names = [] if self.failed else schedule.ready(uses, self.done, self.checks, self.lengths)
+        free, left = self.places - len(self.checks), sum(minutes[it] for it in uses if it not in self.done)
+        for name, processors in schedule.shares(names, self.places, free, self.lengths, left).items():
             self.checks[name] = Check(self.repository, name, self.lock, processors)
         return bool(self.checks)
 

@@ -65,7 +65,7 @@ def ready(uses, done, begun, lengths):
     return sorted(free, key=lambda it: -lengths[it])
 
 
-def shares(names, places):
+def dealt(names, places):
     """For each of the crates that begin on so many free places how many of these it takes.
 
     It is one, unless there are more than crates that can begin: then they are dealt out, so that none stays idle. A
@@ -74,20 +74,28 @@ def shares(names, places):
     return {name: len(range(first, places, len(taken))) for first, name in enumerate(taken)}
 
 
+def shares(names, places, free, lengths, left):
+    """The same, where a crate takes two places at least if its chain is longer than a fair share of the minutes that
+    are left: then it is among those that the end waits for."""
+    late = {name for name in names if lengths[name] * places > left}
+    return {name: max(it, min(places, 2)) if name in late else it for name, it in dealt(names, free).items()}
+
+
 def shared(minutes, processors):
     """The minutes of a proof whose functions so many processors share."""
     return minutes * (1 - SHARED + SHARED / processors)
 
 
 def times(uses, minutes, places, done=(), running=None):
-    """When each crate begins and ends, from now on, if a proof on one processor takes the minutes it is reckoned at.
+    """When each crate begins and ends, from now on, if a proof on one processor takes the minutes it is reckoned at,
+    and each takes free places alone.
 
     Some are done, and of those that are running the minutes that are left are given."""
     done, lengths, now = set(done), chains(uses, minutes), 0
     begun = {name: (0, left) for name, left in (running or {}).items()}
     while len(done) < len(uses):
         open_now = {it: begun[it][1] for it in begun if it not in done}
-        for name, processors in shares(ready(uses, done, begun, lengths), places - len(open_now)).items():
+        for name, processors in dealt(ready(uses, done, begun, lengths), places - len(open_now)).items():
             begun[name] = (now, now + shared(minutes[name], processors))
             open_now[name] = begun[name][1]
         now = min(open_now.values())

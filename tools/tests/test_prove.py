@@ -67,11 +67,20 @@ class Order(unittest.TestCase):
         self.assertEqual(schedule.ready(USES, {"low"}, {"right"}, lengths), ["left"])
 
     def test_free_places_are_dealt_out(self):
-        self.assertEqual(schedule.shares(["a", "b", "c"], 2), {"a": 1, "b": 1})
-        self.assertEqual(schedule.shares(["a", "b", "c"], 4), {"a": 2, "b": 1, "c": 1})
-        self.assertEqual(schedule.shares(["a"], 4), {"a": 4})
-        self.assertEqual(schedule.shares(["a"], 0), {})
-        self.assertEqual(schedule.shares([], 4), {})
+        self.assertEqual(schedule.dealt(["a", "b", "c"], 2), {"a": 1, "b": 1})
+        self.assertEqual(schedule.dealt(["a", "b", "c"], 4), {"a": 2, "b": 1, "c": 1})
+        self.assertEqual(schedule.dealt(["a"], 4), {"a": 4})
+        self.assertEqual(schedule.dealt(["a"], 0), {})
+        self.assertEqual(schedule.dealt([], 4), {})
+
+    def test_a_crate_that_the_end_waits_for_takes_two_places(self):
+        lengths = {"a": 6, "b": 2}
+        self.assertEqual(schedule.shares(["a", "b"], 4, 2, lengths, 24), {"a": 1, "b": 1})
+        self.assertEqual(schedule.shares(["a", "b"], 4, 2, lengths, 23), {"a": 2, "b": 1})
+        self.assertEqual(schedule.shares(["a", "b"], 4, 4, lengths, 7), {"a": 2, "b": 2})
+        self.assertEqual(schedule.shares(["a"], 4, 4, lengths, 6), {"a": 4})
+        self.assertEqual(schedule.shares(["a"], 1, 1, lengths, 6), {"a": 1})
+        self.assertEqual(schedule.shares(["a", "b"], 4, 0, lengths, 23), {})
 
     def test_processors_share_a_proof(self):
         self.assertEqual(schedule.shared(2, 1), 2)
