@@ -111,7 +111,7 @@ pub fn based<'m>(
 /// Its scalars begin with these initial values, and those without one as their types have it; where the bytes of all
 /// that were laid before, they are handed over and copied. `StorageLimit` where there is no room for the generation, or
 /// `OutOfMemory`. After an error nothing has changed.
-#[inline]
+#[inline(always)]
 pub fn allocate_based<'m>(
     alloc: Global,
     storage: &mut Storage<'m>,
@@ -141,7 +141,7 @@ pub fn allocate_based<'m>(
 /// the block that the place leads into, `DescriptionMismatch` where a block has another whole description, `NoRule`
 /// where the place is no whole area; else `Area` where no position fits, and `OutOfMemory`. After an error nothing has
 /// changed.
-#[inline]
+#[inline(always)]
 pub fn allocate_in<'m>(
     alloc: Global,
     storage: &mut Storage<'m>,
@@ -171,6 +171,7 @@ pub fn allocate_in<'m>(
 }
 
 /// The same where nothing was laid before.
+#[inline(never)]
 fn allocate_anew_in<'m>(
     alloc: Global,
     storage: &mut Storage<'m>,
@@ -212,7 +213,7 @@ fn end_whole(storage: &mut Storage<'_>, place: Place<'_>)
 /// FREE of a BASED variable of this description by a locator: the generation or the block to which it leads ends.
 /// `NullLocator`, `DeadLocator`, `DescriptionMismatch` and `NoRule` as for the place, and `DescriptionMismatch` where
 /// no ALLOCATE of a BASED variable has made the generation. After an error nothing has changed.
-#[inline]
+#[inline(always)]
 pub fn free_based(
     storage: &mut Storage<'_>,
     description: &Description,

@@ -1,4 +1,5 @@
 pub mod CallLemmas
+pub mod GoingLemmas
 pub mod PassLemmas
 pub mod RunLemmas
 pub mod StepsEnd

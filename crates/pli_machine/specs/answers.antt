@@ -1,2 +1,3 @@
 pub mod CurrentUnit
+pub mod Going
 pub mod Runs

@@ -10,23 +10,23 @@ ghost use Rattle.pli_machine_step.specs.Machine as step;
 ghost use Rattle.pli_machine_step.specs.Machine.{places_off};
 ghost use Rattle.pli_machine_operate.specs.views.OperandView.{operand_view, stack};
 
-use crate::reserving::{reserve_one, roomy};
+use crate::reserving::roomy;
 use pli_machine_operate::{Operand, take_place};
-use pli_store::Place;
+use pli_store::{Place, reserve_one};
 use std::alloc::{AllocError, Global};
 use std::mem;
 
 /// Where an operand leads, if it is a place, also that of a dummy argument.
 #[inline(always)]
-fn place_of<'m>(operand: &Operand<'m>) -> Option<Place<'m>>
+pub(crate) fn place_of<'l, 'm>(operand: &'l Operand<'m>) -> Option<&'l Place<'m>>
     ensures { (count : ℕ) (after : List plain.Place) (rest : List step.Operand) → MatchOption result
         (places_off (suc count) after (operand_view operand.now ∷ rest) ≡ None)
         (λ p. places_off (suc count) after (operand_view operand.now ∷ rest)
-        ≡ places_off count (place_view p ∷ after) rest) }
+        ≡ places_off count (place_view p.now ∷ after) rest) }
 {
     match operand {
-        Operand::AtPlace(place) => Some(*place),
-        Operand::AtDummy(place) => Some(*place),
+        Operand::AtPlace(place) => Some(place),
+        Operand::AtDummy(place) => Some(place),
         Operand::OfValue(_) => None,
         Operand::OfConstant(_) => None,
         Operand::OneBit(_) => None,
@@ -42,7 +42,8 @@ fn pop_place<'m>(operands: &mut Vec<Operand<'m>>) -> Option<Place<'m>>
         ≡ places_off count (place_view p ∷ after) (stack operands.new.items)) }
 {
     let newest = operands.last()?;
-    let place = place_of(newest)?;
+    let found = place_of(newest)?;
+    let place = *found;
     let _newest = operands.pop();
     Some(place)
 }

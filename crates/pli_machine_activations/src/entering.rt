@@ -1,5 +1,6 @@
 //! Beginnings of activations.
 ghost use Rattle.std.specs.Prelude.{◌≡◌, ◌<◌, ℕ, List, [], ◌∷◌, map, length, replicate, false, None, IfOk, OnOk};
+ghost use Rattle.std.specs.Prelude.{vec_len, vec_capacity};
 ghost use Rattle.std.specs.Option.{option_map};
 ghost use Rattle.pli_value.specs.Value.{value_view};
 ghost use Rattle.pli_machine_operate.specs.views.OperandView.{stack};
@@ -18,11 +19,11 @@ ghost use Rattle.pli_machine_activations.specs.views.MachineView.{Moves, activat
 use crate::machine::{Activation, Machine, Stop};
 use crate::on_units::OnUnits;
 use crate::ready::ReadyCode;
-use crate::reserving::reserve_one;
 use crate::spare::Lists;
 use crate::stops::stop_at;
 use crate::variables::make_variables;
 use pli_code::Block;
+use pli_store::reserve_one;
 use pli_value::Value;
 use std::alloc::{AllocError, Global};
 use std::mem;
@@ -185,9 +186,35 @@ fn put_aside<'m>(
     waits
 }
 
-/// Lets the newest activation wait, to execute its next instruction again or not, and begins one of a block of a unit,
-/// whose variables are not made yet. It has these lists, with its arguments as slots, and owns the dummy arguments that
-/// are handed over.
+/// Lets the newest activation wait, for which there is memory, to execute its next instruction again or not, and begins
+/// one of a block of a unit, whose variables are not made yet. It has these lists, with its arguments as slots, and owns
+/// the dummy arguments that are handed over.
+#[inline(always)]
+pub fn begin_ready<'m>(
+    machine: &mut Machine<'m>,
+    unit: usize,
+    number: u16,
+    block: &Block,
+    link: u32,
+    lists: Lists<'m>,
+    again: bool,
+)
+    requires room { length machine.old.waiting.items < 1000 }
+    requires memory { vec_len machine.old.waiting < vec_capacity machine.old.waiting }
+    requires empty { AreEmpty lists.operands.items lists.room.value.pending.items }
+    requires unset { lists.room.value.temporaries.items ≡ replicate block.now.temporaries None }
+    ensures { (image : Image) (put pending : List ℕ) →
+        AreHanded (map place_view lists.entry.slots.items) pending lists.entry.room.value.owned.items
+        machine.old.here.room.value.pending.items →
+        HasBegun image put unit number block.now.statement block.now.entry block.now.temporaries link
+        (map place_view lists.entry.slots.items) again pending machine.old machine.new }
+{
+    let waits = put_aside(&mut machine.here, unit, number, block, link, lists, again);
+    machine.waiting.push_reserved(waits);
+    machine.display.turn(&machine.waiting, link);
+}
+
+/// The same, where there may be no memory.
 #[inline(always)]
 fn begin_block<'m>(
     machine: &mut Machine<'m>,
@@ -208,9 +235,7 @@ fn begin_block<'m>(
 {
     unset(&mut lists.room.temporaries, block.temporaries)?;
     reserve_one(&mut machine.waiting)?;
-    let waits = put_aside(&mut machine.here, unit, number, block, link, lists, again);
-    machine.waiting.push_reserved(waits);
-    machine.display.turn(&machine.waiting, link);
+    begin_ready(machine, unit, number, block, link, lists, again);
     Ok(())
 }
 

@@ -1,13 +1,14 @@
 //! Ends of activations.
-ghost use Rattle.std.specs.Prelude.{◌≡◌, ◌<◌, true, length, IfOk};
+ghost use Rattle.std.specs.Prelude.{◌≡◌, ◌<◌, ◌-◌, true, false, None, Some, length, slice_get, vec_len, IfOk, IfSome};
 ghost use Rattle.pli_machine_activations.specs.views.Image.{Image};
-ghost use Rattle.pli_value.specs.Value.{value_view};
+ghost use Rattle.pli_value.specs.Value.{Number, value_view};
 ghost use Rattle.pli_machine_step.specs.Machine.{goes_on, returned_with};
 ghost use Rattle.pli_program.specs.declared.instruction.Instruction.TheVariants.{Return, ReturnValue};
-ghost use Rattle.pli_machine_activations.specs.answers.Activated.{Leaves};
-ghost use Rattle.pli_machine_activations.specs.views.MachineView.{Does, Moves};
+ghost use Rattle.pli_machine_activations.specs.answers.Activated.{Awaits, Leaves};
+ghost use Rattle.pli_machine_activations.specs.views.MachineView.{Does, IsSame, Moves};
 
 use crate::machine::{Machine, Stop};
+use crate::spare::empty;
 use pli_machine_operate::{Operand, pop_number, pop_value, push};
 use pli_value::Value;
 use std::alloc::{AllocError, Global};
@@ -18,17 +19,71 @@ use std::mem;
 fn leave_at_once(machine: &mut Machine) -> bool
     ensures leaves { Leaves result machine.old machine.new }
     ensures fewer { result ≡ true → length machine.new.waiting.items < length machine.old.waiting.items }
+    ensures some { 0 < vec_len machine.old.waiting → result ≡ true }
+    ensures next { result ≡ true
+        → slice_get machine.old.waiting.items (vec_len machine.old.waiting - 1) ≡ Some machine.new.here }
 {
     if machine.waiting.is_empty() {
         return false;
     }
     machine.storage.end(&machine.here.room.pending);
     machine.storage.end(&machine.here.room.owned);
+    empty(&mut machine.here);
     let next = machine.waiting.take_last();
     let ended = mem::replace(&mut machine.here, next);
     machine.spare.keep(ended);
     machine.display.turn(&machine.waiting, machine.here.link);
     true
+}
+
+/// Whether an activation waits that goes on at once, with memory for an operand more.
+#[inline(always)]
+fn is_awaited(machine: &Machine) -> bool
+    ensures some { result ≡ true → 0 < vec_len machine.now.waiting }
+    ensures awaits { result ≡ true
+        → IfSome (slice_get machine.now.waiting.items (vec_len machine.now.waiting - 1)) Awaits }
+{
+    let count = machine.waiting.len();
+    if count == 0 {
+        return false;
+    }
+    let next = &machine.waiting[count - 1];
+    if next.again {
+        return false;
+    }
+    next.operands.len() < next.operands.capacity()
+}
+
+/// Ends the newest activation, where one waits that goes on at once, and gives a number to that one; `false` where it
+/// does not, and nothing has changed then.
+#[inline(always)]
+pub fn give_number(machine: &mut Machine, number: i64) -> bool
+    ensures given { result ≡ true → (image : Image) →
+        Moves image (λ here frames w. returned_with 0 (Number number) frames w) machine.old machine.new None }
+    ensures same { result ≡ false → IsSame machine.old machine.new }
+{
+    if !is_awaited(machine) {
+        return false;
+    }
+    let _left = leave_at_once(machine);
+    machine
+        .here
+        .operands
+        .push_reserved(Operand::OfValue(Value::Number(number)));
+    true
+}
+
+/// Ends the newest activation, where one waits that goes on at once; `false` where none does, and nothing has changed
+/// then.
+#[inline(always)]
+pub fn end_at_once(machine: &mut Machine) -> bool
+    ensures ended { result ≡ true → Does (Return 0) machine.old machine.new None }
+    ensures same { result ≡ false → IsSame machine.old machine.new }
+{
+    if !is_awaited(machine) {
+        return false;
+    }
+    leave_at_once(machine)
 }
 
 /// The same, where it is done seldom.

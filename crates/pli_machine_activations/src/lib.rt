@@ -3,6 +3,7 @@
 #![tactic(auto)]
 
 mod arguments;
+mod at_once;
 mod calling;
 mod conditions;
 mod display;
@@ -26,12 +27,16 @@ mod unit;
 mod variables;
 mod walk;
 
-pub use calling::{block_at, call, enter_begin};
+pub use at_once::{
+    call_alone, call_with_number, call_with_place, call_with_place_and_number, call_with_places,
+    make_dummy_at_once,
+};
+pub use calling::{block_at, call, call_found, enter_begin};
 pub use conditions::{condition_of, establish, raise, revert};
 pub use dummies::{call_with_dummy, dummy_of_number, make_dummy, make_string_dummy, use_up};
 pub use external::call_entry;
 pub use globals::{static_place, static_stack, unit_at};
-pub use leaving::{give_back, leave, return_from, return_value};
+pub use leaving::{end_at_once, give_back, give_number, leave, return_from, return_value};
 pub use linked::LinkedGlobal;
 pub use loaded::Loaded;
 pub use machine::{Activation, Machine, Stop};

@@ -4,18 +4,6 @@ ghost use Rattle.std.specs.Prelude.{◌≡◌, ◌<◌, vec_len, vec_capacity, I
 use pli_store::Place;
 use std::alloc::AllocError;
 
-/// Sees that there is memory for one element more; no call is made where there is.
-#[inline(always)]
-pub fn reserve_one<T>(list: &mut Vec<T>) -> Result<(), AllocError>
-    ensures items { list.new.items ≡ list.old.items }
-    ensures room { IfOk result (λ _. vec_len list.new < vec_capacity list.new) }
-{
-    if list.len() < list.capacity() {
-        return Ok(());
-    }
-    list.reserve(1)
-}
-
 /// The same places, with memory for one more, which a call is made for only where there is none.
 #[inline(always)]
 pub fn roomy<'m>(places: Vec<Place<'m>>) -> Result<Vec<Place<'m>>, AllocError>

@@ -82,7 +82,7 @@ pub fn free_controlled<'m>(
 
 /// ALLOCATE of a CONTROLLED variable, by its number among the globals of the newest activation's unit, after which the
 /// instruction of a number is the next one; `false` where there is none, and nothing has changed then.
-#[inline(never)]
+#[inline(always)]
 pub fn allocate_at_once<'m>(
     alloc: Global,
     unit: &ActiveUnit<'_, 'm>,
@@ -112,7 +112,7 @@ pub fn allocate_at_once<'m>(
 }
 
 /// The same of FREE.
-#[inline(never)]
+#[inline(always)]
 pub fn free_at_once<'m>(
     unit: &ActiveUnit<'_, 'm>,
     machine: &mut Machine<'m>,

@@ -1,5 +1,5 @@
 -- What stacks say, and what is answered of them.
-use Rattle.std.proofs.Common.{◌≡◌, ◌<◌, ◌≤◌, ℕ, List, [], ◌∷◌, ◌++◌, Some, None, option_map, length, map, get_or, slice_get, slice_set, Ok, Err, refl, sym, ap, subst, ◌∙◌}
+use Rattle.std.proofs.Common.{◌≡◌, ◌<◌, ◌≤◌, ℕ, List, [], ◌∷◌, ◌++◌, Some, None, option_map, length, map, get_or, slice_get, slice_set, Err, refl, sym, ap, subst, ◌∙◌}
 use Rattle.std.specs.Vec.{with_item}
 use Rattle.std.proofs.lemmas.List.{map-set, reverse-append}
 use Rattle.std.proofs.lemmas.Option.{slice_get-map, slice_get_read, slice_get_past}
@@ -11,7 +11,7 @@ use Rattle.pli_store.specs.declared.place.Place.{Place as CodePlace}
 use Rattle.pli_store.specs.declared.storage.Storage.{Storage}
 use Rattle.pli_store.specs.views.StorageView.{place_view, storage_view, made_count, with_storage}
 use Rattle.pli_world.specs.Stacks.{with_places, newest, stacked, without_newest_of, unstacked, counted, counted_in}
-use Rattle.pli_world.specs.Storage.{Controlled, without}
+use Rattle.pli_world.specs.Storage.{Controlled, Place, without}
 use Rattle.pli_world.specs.World.{Stack, World, Yields, Raises, Wrong, further, made_of, newest_in}
 use Rattle.pli_stacks.specs.declared.stack.Stack.{Stack as CodeStack}
 use Rattle.pli_stacks.specs.declared.stacks.Stacks.{Stacks}
@@ -95,18 +95,18 @@ module _ (s : Stacks) (storage : Storage) (number : ℕ) (w : World) (old : Code
   abbrev was : Stack
   was = stack_view old
 
-  pub stacked_refused : (f : StoreFault) (after later : World)
-      → Answered place_view (Err f) (with_storage storage (with_stacks s w)) after
+  pub stacked_refused : {T : Type 0} (view : T → Place) (f : StoreFault) (after later : World)
+      → Answered view (Err f) (with_storage storage (with_stacks s w)) after
       (made_of was.variable.description Controlled was.variable.initial (with_storage storage (with_stacks s w)))
       → Answered {T = Unit {0}} (λ _. tt) (Err f) (with_stacks s (with_storage storage w)) later (stacked number (with_stacks s (with_storage storage w)))
-  stacked_refused f after later made =
+  stacked_refused view f after later made =
       subst (Answered {T = Unit {0}} (λ _. tt) (Err f) before later) (sym (stacked_there number before was there))
-      (first_refused {U = Unit {0}} place_view (λ _. tt) f before after later (made_of was.variable.description Controlled was.variable.initial before)
+      (first_refused {U = Unit {0}} view (λ _. tt) f before after later (made_of was.variable.description Controlled was.variable.initial before)
       (λ p u. Yields tt (with_places number was (p ∷ was.places) u)) made)
 
-  pub stacked_done : (later : Storage) (p : CodePlace) (new : CodeStack) → stack_view new ≡ record was { places = place_view p ∷ was.places }
-      → Answered place_view (Ok p) (with_storage storage (with_stacks s w)) (with_storage later (with_stacks s w))
-      (made_of was.variable.description Controlled was.variable.initial (with_storage storage (with_stacks s w)))
+  pub stacked_done : (later : Storage) (p : Place) (new : CodeStack) → stack_view new ≡ record was { places = p ∷ was.places }
+      → made_of was.variable.description Controlled was.variable.initial (with_storage storage (with_stacks s w))
+      ≡ Yields p (with_storage later (with_stacks s w))
       → stacked number (with_stacks s (with_storage storage w))
       ≡ Yields tt (with_stacks (record { stacks = with_item s.stacks number new }) (with_storage later w))
   stacked_done later p new pushed made =

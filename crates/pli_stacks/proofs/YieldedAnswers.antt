@@ -1,5 +1,5 @@
 -- What is so where operations give results.
-use Rattle.std.proofs.Common.{◌≡◌, suc, Bool, true, false, nat_lt, nat_le, ◌&&◌, ◌+◌, Option, Some, None, List, [], ◌∷◌, ◌++◌, if◌then◌else◌, refl}
+use Rattle.std.proofs.Common.{◌≡◌, suc, Bool, true, false, nat_lt, nat_le, ◌&&◌, ◌+◌, Option, Some, None, List, [], ◌∷◌, ◌++◌, if◌then◌else◌, refl, ap, subst, ◌∙◌}
 use Rattle.pli_run.specs.declared.ending.RunError.TheVariants.{StorageLimit}
 use Rattle.pli_map.specs.Description.{Description}
 use Rattle.pli_map.specs.Scalars.{scalars_of}
@@ -37,6 +37,12 @@ unfolding made_of
 yields_made d how vs w says f =
     yields_guarded (nat_lt w.made generation_limit && nat_le (live_bytes w.storage + size_of d) byte_limit) _ (Raises StorageLimit w) says
     (yields_guarded (are_held (scalars_of d) vs) (Yields (whole w.made d) (made_world d how vs w)) Wrong says f tt) tt
+
+-- the place of a new generation is the next
+pub made_next : (d : Description) (how : Made) (vs : List Value) (before after : World) (p : Place) → made_of d how vs before ≡ Yields p after
+    → made_of d how vs before ≡ Yields (whole before.made d) after
+made_next d how vs before after p e =
+    e ∙ ap (λ q. Yields q after) (subst (λ a. IfYields a (λ q _. q ≡ whole before.made d)) e (yields_made d how vs before (λ q _. q ≡ whole before.made d) refl))
 
 -- where something is found among others
 pub record IsKnown {A : Type 0} (o : Option A) (w : World) (x : A) (v : World) : Type 0 where

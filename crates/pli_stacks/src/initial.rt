@@ -6,10 +6,11 @@ ghost use Rattle.pli_map.specs.Values.{first_values};
 ghost use Rattle.pli_map.specs.views.DescriptionView.{description_view};
 ghost use Rattle.pli_store.specs.answers.Answered.{Answered};
 ghost use Rattle.pli_store.specs.views.GenerationView.{made_view};
-ghost use Rattle.pli_store.specs.views.StorageView.{SameStorage, place_view, with_storage};
+ghost use Rattle.pli_store.specs.views.StorageView.{SameStorage, made_count, place_view, with_storage};
 ghost use Rattle.pli_type_tree.specs.Templates.{with_initial};
 ghost use Rattle.pli_type_tree.specs.views.TemplateView.{initial_view};
 ghost use Rattle.pli_stacks.specs.answers.LaidBytes.{IsLaid};
+ghost use Rattle.pli_world.specs.Storage.{whole};
 ghost use Rattle.pli_world.specs.World.{World, made_of};
 
 use pli_bytes::{lay_first, put_on};
@@ -158,7 +159,58 @@ pub fn make_initial<'m>(
     }
 }
 
+/// The same of a generation whose place is the next, so that it is not handed back.
+#[inline(always)]
+pub fn make_next<'m>(
+    alloc: Global,
+    storage: &mut Storage<'m>,
+    description: &'m Description,
+    made: Made,
+    scalars: &[InitialScalar],
+    laid: Option<&[u8]>,
+) -> Result<(), StoreFault>
+    requires { IfSome laid (λ bytes. IsLaid (record {
+      description = description_view description.now;
+      initial = map initial_view scalars.now;
+    }) bytes.now) }
+    ensures answer { (w : World) → Answered (λ _. whole (made_count storage.old) (description_view description.now))
+        result (with_storage storage.old w) (with_storage storage.new w)
+        (made_of (description_view description.now) (made_view made)
+        (with_initial (scalars_at (description_view description.now)) (map initial_view scalars.now)
+        (first_values (description_view description.now)))
+        (with_storage storage.old w)) }
+    ensures err { OnErr result (SameStorage storage.old storage.new) }
+{
+    match laid {
+        Some(bytes) => storage.make_next(alloc, description, made, bytes),
+        None => make_next_anew(alloc, storage, description, made, scalars),
+    }
+}
+
 /// The same where nothing was laid before.
+#[inline(never)]
+fn make_next_anew<'m>(
+    alloc: Global,
+    storage: &mut Storage<'m>,
+    description: &'m Description,
+    made: Made,
+    scalars: &[InitialScalar],
+) -> Result<(), StoreFault>
+    ensures answer { (w : World) → Answered (λ _. whole (made_count storage.old) (description_view description.now))
+        result (with_storage storage.old w) (with_storage storage.new w)
+        (made_of (description_view description.now) (made_view made)
+        (with_initial (scalars_at (description_view description.now)) (map initial_view scalars.now)
+        (first_values (description_view description.now)))
+        (with_storage storage.old w)) }
+    ensures err { OnErr result (SameStorage storage.old storage.new) }
+{
+    match make_anew(alloc, storage, description, made, scalars) {
+        Ok(_place) => Ok(()),
+        Err(fault) => Err(fault),
+    }
+}
+
+/// A generation whose place is handed back, where nothing was laid before.
 #[inline(never)]
 fn make_anew<'m>(
     alloc: Global,

@@ -1,16 +1,16 @@
 //! The generations of one CONTROLLED variable.
-ghost use Rattle.std.specs.Prelude.{◌≡◌, ◌∷◌, [], IfOk, OnErr, MatchOption};
+ghost use Rattle.std.specs.Prelude.{◌≡◌, ◌∷◌, [], OnOk, OnErr, MatchOption};
 ghost use Rattle.pli_world.specs.Stacks.{counted_in};
 ghost use Rattle.pli_world.specs.Storage.{Controlled};
 ghost use Rattle.pli_world.specs.World.{World, made_of, newest_in};
 ghost use Rattle.pli_store.specs.answers.Answered.{Answered};
 ghost use Rattle.pli_store.specs.views.StorageView.{SameStorage, place_view, with_storage};
-ghost use Rattle.pli_stacks.specs.views.StackView.{stack_view};
+ghost use Rattle.pli_stacks.specs.views.StackView.{next_of, stack_view};
 
-use crate::initial::make_initial;
+use crate::initial::make_next;
 use crate::stack::Stack;
 use pli_run::RunError;
-use pli_store::{Made, Place, Storage, StoreFault};
+use pli_store::{Made, Place, Storage, StoreFault, reserve_one};
 use std::alloc::Global;
 
 /// The greatest number of FIXED BINARY(15).
@@ -43,17 +43,20 @@ pub fn push_made<'m>(
     alloc: Global,
     stack: &mut Stack<'m>,
     storage: &mut Storage<'m>,
-) -> Result<Place<'m>, StoreFault>
-    ensures answer { (w : World) → Answered place_view result (with_storage storage.old w) (with_storage storage.new w)
+) -> Result<(), StoreFault>
+    ensures answer { (w : World) → Answered (λ _. next_of (stack_view stack.old) storage.old) result
+        (with_storage storage.old w) (with_storage storage.new w)
         (made_of (stack_view stack.old).variable.description Controlled (stack_view stack.old).variable.initial
         (with_storage storage.old w)) }
-    ensures ok { IfOk result (λ place. stack_view stack.new
-        ≡ record (stack_view stack.old) { places = place_view place ∷ (stack_view stack.old).places }) }
+    ensures ok { OnOk result (stack_view stack.new ≡ record (stack_view stack.old) {
+      places = next_of (stack_view stack.old) storage.old ∷ (stack_view stack.old).places;
+    }) }
     ensures same { OnErr result (stack_view stack.new ≡ stack_view stack.old) }
     ensures storage { OnErr result (SameStorage storage.old storage.new) }
 {
-    stack.places.reserve(1)?;
-    let place = make_initial(
+    reserve_one(&mut stack.places)?;
+    let place = storage.next_place(stack.description);
+    make_next(
         alloc,
         storage,
         stack.description,
@@ -62,7 +65,7 @@ pub fn push_made<'m>(
         stack.laid_bytes(),
     )?;
     stack.places.push_reserved(place);
-    Ok(place)
+    Ok(())
 }
 
 /// Takes the newest place off a stack, if it has one.

@@ -1,14 +1,14 @@
 -- A value that is put where a scalar stands is what its place holds then.
 use Rattle.std.proofs.Common.{◌≡◌, ℕ, zero, suc, ◌+◌, true, List, [], ◌∷◌, ◌++◌, take, drop, set, Some, slice_get, refl, sym, ap, ◌∙◌, subst, arith}
-use Rattle.std.proofs.lemmas.Option.{same_Some, none-some}
+use Rattle.std.proofs.lemmas.Option.{none-some}
 use Rattle.pli_bytes.specs.Contents.{value_in}
 use Rattle.pli_map.specs.Description.{Description}
-use Rattle.pli_map.specs.Scalars.{first_scalar, is_scalar}
+use Rattle.pli_map.specs.Scalars.{is_scalar}
 use Rattle.pli_map.specs.Values.{holds}
 use Rattle.pli_value.specs.Value.{Value}
 use Rattle.pli_world.specs.Storage.{Generation, Place, generation_in, values_from, with_values_at}
 use Rattle.pli_world.specs.World.{World, Yields, held, stored}
-use Rattle.pli_store.specs.answers.Found.{LeadsTo, PartStands}
+use Rattle.pli_store.specs.answers.Found.{LeadsTo}
 use Rattle.pli_store.specs.answers.Puts.{ValuesPut}
 use Rattle.pli_store.specs.declared.part.GenerationPart.{GenerationPart}
 use Rattle.pli_store.specs.declared.storage.Storage.{Storage}

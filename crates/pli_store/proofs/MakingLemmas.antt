@@ -14,7 +14,7 @@ use Rattle.pli_map.specs.Values.{holds, are_held}
 use Rattle.pli_map.proofs.ScalarLawsHold.{whole_found}
 use Rattle.pli_value.specs.Value.{Value}
 use Rattle.pli_world.specs.Storage.{Made, Dummy, Place, whole, live_bytes}
-use Rattle.pli_world.specs.World.{World, Yields, Raises, Wrong, made_of, dummy_of, in_newest}
+use Rattle.pli_world.specs.World.{World, Answer, Yields, Raises, Wrong, made_of, dummy_of, in_newest}
 use Rattle.pli_store.specs.answers.Answered.{Answered}
 use Rattle.pli_store.specs.declared.fault.StoreFault.{StoreFault}
 use Rattle.pli_store.specs.declared.fault.StoreFault.TheVariants.{Raised, NoRule, OutOfMemory}
@@ -23,6 +23,13 @@ use Rattle.pli_store.specs.declared.storage.Storage.{Storage}
 use Rattle.pli_store.specs.views.GenerationView.{generation_view}
 use Rattle.pli_store.specs.views.StorageView.{RoomFor}
 use Rattle.pli_store.proofs.HeldScalars.{scalar_of_held}
+
+-- what is refused gives nothing, however it would be seen
+pub refused_alike : {T U A : Type 0} (view : T → A) (other : U → A) (f : StoreFault) (before after : World) (a : Answer A)
+    → Answered view (Err f) before after a → Answered other (Err f) before after a
+refused_alike view other (Raised e) before after a answer = answer
+refused_alike view other NoRule before after a answer = answer
+refused_alike view other OutOfMemory before after a answer = tt
 
 -- a generation put after the others
 pub pushed_says : (items kept now : List Generation) (g : Generation) → now ≡ kept ++ g ∷ [] → kept ≡ items

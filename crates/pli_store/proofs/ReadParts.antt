@@ -48,16 +48,19 @@ module _ (s : Storage) (p : plain.Place) (part : GenerationPart) (l : LeadsTo (s
       let there = read_there s.generations.items part p.description l.there g read in
       omega (arith, bytes_within s.generations.items part p.description l.there g there, ap size_of is, ap length same)
 
+  -- a scalar of a description is read
+  pub known_read : (d : Description) → p.description ≡ d → is_scalar d ≡ true → (v : Value)
+      → value_in bytes (record { offset = part.offset; description = d }) ≡ v → (w : World) → held p (with_storage s w) ≡ Yields v (with_storage s w)
+  known_read d is scalar v found =
+      value_read v (ap is_scalar is ∙ scalar) (ap (λ (e : Description). value_in bytes (record { offset = part.offset; description = e })) is ∙ found)
+
   -- a scalar of a description is read, and what is found follows from what its place holds
   pub scalar_read : {X : Type 0} (d : Description) → p.description ≡ d → is_scalar d ≡ true → (r : Option X) (value : X → Value)
       {short none : Type 0} {Found : X → Type 0} → (part.offset + size_of d ≤ length bytes → short → none)
       → ((x : X) → ((w : World) → held p (with_storage s w) ≡ Yields (value x) (with_storage s w)) → Found x)
       → MatchOption r short (λ x. value_in bytes (record { offset = part.offset; description = d }) ≡ value x) → MatchOption r none Found
   scalar_read d is scalar None value not so short = not (within d is) short
-  scalar_read d is scalar (Some x) value not so found =
-      so x
-      (value_read (value x) (ap is_scalar is ∙ scalar)
-      (ap (λ (e : Description). value_in bytes (record { offset = part.offset; description = e })) is ∙ found))
+  scalar_read d is scalar (Some x) value not so found = so x (known_read d is scalar (value x) found)
 
   pub text_read : (r : Option (Bor (List ℕ)))
       → MatchOption r (part.offset + size_of p.description ≤ length bytes → (text : List ℕ) → value_in bytes (record { offset = part.offset; description = p.description }) ≢ Characters text)

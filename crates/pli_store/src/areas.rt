@@ -1,5 +1,5 @@
 //! Areas: BASED variables allocated and freed in them, and areas that are emptied and assigned.
-ghost use Rattle.std.specs.Prelude.{◌≡◌, true, List, length, IfSome, OnErr};
+ghost use Rattle.std.specs.Prelude.{◌≡◌, ◌↔◌, true, IsTrue, List, length, IfSome, OnErr};
 ghost use Rattle.pli_map.specs.Scalars.{scalars_of};
 ghost use Rattle.pli_map.specs.Sizes.{size_of};
 ghost use Rattle.pli_map.specs.Values.{are_held};
@@ -19,6 +19,28 @@ use crate::storage::Storage;
 use pli_map::{Description, far_size, is_area};
 use pli_run::RunError;
 use pli_value::Locator;
+
+/// Whether both are areas of the same size; `false` leaves it open whether they are equal.
+#[inline(always)]
+fn have_same_size(left: &Description, right: &Description) -> bool
+    ensures { result ≡ true → description_view left.now ≡ description_view right.now }
+{
+    match (left, right) {
+        (Description::Area(has), Description::Area(wanted)) => *has == *wanted,
+        _ => false,
+    }
+}
+
+/// Whether both descriptions are equal; areas of the same size take the short way.
+#[inline(always)]
+fn are_same_areas(left: &Description, right: &Description) -> bool
+    ensures { IsTrue result ↔ (description_view left.now ≡ description_view right.now) }
+{
+    if have_same_size(left, right) {
+        return true;
+    }
+    left.is_same(right)
+}
 
 impl<'m> Storage<'m> {
     ghost use Rattle.pli_store.specs.views.StorageView.{place_view, storage_view, made_count, with_storage};
@@ -44,7 +66,7 @@ impl<'m> Storage<'m> {
         if !is_area(place.description) {
             return Err(StoreFault::NoRule);
         }
-        if !self.generations[at].description.is_same(place.description) {
+        if !are_same_areas(self.generations[at].description, place.description) {
             return Err(StoreFault::NoRule);
         }
         Ok(at)
@@ -64,6 +86,7 @@ impl<'m> Storage<'m> {
     /// pointer to it; without bytes where its scalars may not hold what they should begin with. `NoRule` without bytes;
     /// else errors as where the area is used, `Area` where no position fits, and `OutOfMemory`. After an error nothing
     /// has changed. Takes memory only where no block of the area had the description before.
+    #[inline(never)]
     pub fn allocate_in(
         &mut self,
         area: Place<'_>,
@@ -91,6 +114,7 @@ impl<'m> Storage<'m> {
     /// ALLOCATE of a BASED variable in an area: a block of this description, which begins with a copy of these bytes,
     /// and the pointer to it. Errors as where the area is used, `Area` where no position fits, and `OutOfMemory`. After
     /// an error nothing has changed. Takes memory only where no block of the area had the description before.
+    #[inline(always)]
     pub fn allocate_copy_in(
         &mut self,
         area: Place<'_>,
@@ -145,7 +169,7 @@ impl<'m> Storage<'m> {
 
     /// The block at the position of a place ends; where none lives there, nothing changes. No search is needed where
     /// the generation stands where it stood as the place was made.
-    #[inline]
+    #[inline(always)]
     pub fn free_block(&mut self, block: Place<'_>)
         ensures storage { let p = place_view block.entry in storage_view self.new
             ≡ with_blocks (storage_view self.old) p.generation (λ bs. without_block bs p.position) }

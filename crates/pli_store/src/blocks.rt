@@ -77,6 +77,7 @@ pub fn is_exceeded(generation: &Generation<'_>, size: u64) -> bool
 
 /// A block more, of a whole description, which begins with these bytes, at the least position that fits; `None` where
 /// none does. After an error or `None` nothing has changed.
+#[inline(always)]
 pub fn place_block<'m>(
     generation: &mut Generation<'m>,
     description: &'m Description,
@@ -98,6 +99,7 @@ pub fn place_block<'m>(
 }
 
 /// The block at a position ends; where none is there, nothing changes.
+#[inline(always)]
 pub fn end_block(generation: &mut Generation<'_>, position: u32)
     ensures { BlocksChanged generation.old generation.new (λ bs. without_block bs position) }
 {

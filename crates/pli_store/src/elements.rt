@@ -8,11 +8,12 @@ ghost use Rattle.pli_world.specs.World.{World, Yields, held, led_on};
 
 use crate::bits::bit_at;
 use crate::element_place::ElementPlace;
+use crate::lone_numbers::USUAL_DIGITS;
+use crate::numbers::number_within;
 use crate::part::{GenerationPart, is_bit_at, is_number_in_row, is_one_bit, number_precision};
 use crate::place::Place;
 use crate::putting::put_bit;
 use crate::storage::Storage;
-use pli_bytes::number_at;
 
 /// Where a number stands that is an element: its generation among those that live, how many bytes after the beginning of
 /// that, and how many binary digits it has.
@@ -76,6 +77,24 @@ impl Storage<'_> {
         })
     }
 
+    /// The same of an element of an array of numbers of as many binary digits as most have: what is done with it is
+    /// short then.
+    #[inline(always)]
+    pub fn usual_row(&self, place: Place<'_>) -> Option<RowNumber>
+        ensures { IfSome result (IsRow self.now (place_view place.entry)) }
+    {
+        let precision = number_precision(place.description)?;
+        if precision != USUAL_DIGITS {
+            return None;
+        }
+        let part = self.near_part(place)?;
+        Some(RowNumber {
+            at: part.at,
+            offset: part.offset,
+            precision: USUAL_DIGITS,
+        })
+    }
+
     /// The number that is found so.
     #[inline(always)]
     pub fn number_of_row(&self, _place: Place<'_>, row: RowNumber) -> Option<i64>
@@ -83,7 +102,7 @@ impl Storage<'_> {
         ensures { (w : World) → IfSome result (λ x. held (place_view _place.entry) (with_storage self.now w)
             ≡ Yields (Number x) (with_storage self.now w)) }
     {
-        number_at(&self.generations[row.at].bytes, row.offset, row.precision)
+        Some(number_within(&self.generations[row.at].bytes, row.offset, row.precision))
     }
 
     /// A number put where one is found so, unless it does not fit; then nothing has changed.

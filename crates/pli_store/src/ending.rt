@@ -1,9 +1,9 @@
 //! Generations that end.
-ghost use Rattle.std.specs.Prelude.{◌≡◌, ◌∷◌, []};
+ghost use Rattle.std.specs.Prelude.{◌≡◌, ◌<◌, ◌-◌, ◌∷◌, [], vec_len};
 ghost use Rattle.pli_world.specs.Storage.{without};
 ghost use Rattle.pli_store.specs.answers.Found.{StandsAt};
 
-use crate::generation::take_out;
+use crate::generation::{take_newest, take_out};
 use crate::storage::Storage;
 use pli_area_blocks::AreaBlocks;
 
@@ -47,6 +47,20 @@ impl Storage<'_> {
         give_up(ended.area);
     }
 
+    /// The generation of this number ends, which is the last of those that live.
+    #[inline(always)]
+    fn end_last(&mut self, _number: u32)
+        requires some { 0 < vec_len self.old.generations }
+        requires last { StandsAt (storage_view self.old) _number (vec_len self.old.generations - 1) }
+        ensures storage { storage_view self.new ≡ without (_number ∷ []) (storage_view self.old) }
+        ensures made { made_count self.new ≡ made_count self.old }
+    {
+        let last = take_newest(&mut self.generations);
+        self.live -= last.bytes.len() as u32;
+        self.spare.keep(last.bytes);
+        give_up(last.area);
+    }
+
     /// The generation of this number ends, if it lives.
     #[inline(never)]
     fn end_further(&mut self, number: u32)
@@ -70,7 +84,7 @@ impl Storage<'_> {
             return;
         };
         if self.generations[last].number == number {
-            self.end_there(number, last);
+            self.end_last(number);
         } else {
             self.end_further(number);
         }

@@ -1,5 +1,5 @@
 //! Generations of storage (X3.53).
-ghost use Rattle.std.specs.Prelude.{◌≡◌, ◌<◌, true, length, get_or};
+ghost use Rattle.std.specs.Prelude.{◌≡◌, ◌<◌, ◌-◌, true, length, get_or, vec_len};
 ghost use Rattle.std.specs.List.{remove};
 ghost use Rattle.std.specs.Option.{is_some};
 ghost use Rattle.pli_map.specs.Marks.{HasElements, HasMark};
@@ -51,6 +51,16 @@ pub struct Generation<'m> {
     ghost alike: { HasElements (description_view description.now) elements },
     ghost roomy: { is_area (description_view description.now) ≡ true →
         capacity_in area ≡ size_of (description_view description.now) },
+}
+
+/// The last generation, taken out of all.
+#[inline(always)]
+pub fn take_newest<'m>(generations: &mut Vec<Generation<'m>>) -> Generation<'m>
+    requires { 0 < vec_len generations.old }
+    ensures value { result ≡ get_or generations.old.items (vec_len generations.old - 1) result }
+    ensures items { generations.new.items ≡ remove generations.old.items (vec_len generations.old - 1) }
+{
+    generations.take_last()
 }
 
 /// The generation at this index, taken out of all; the later ones move down.

@@ -5,12 +5,12 @@ ghost use Rattle.pli_map.specs.Marks.{HasMark};
 ghost use Rattle.pli_map.specs.Scalars.{first_scalar};
 ghost use Rattle.pli_map.specs.views.DescriptionView.{description_view};
 
+use crate::numbers::number_within;
 use crate::part::{GenerationPart, is_part, is_pointer, number_precision};
 use crate::place::OFFSET_LIMIT;
-use crate::pointers::pointer_at;
+use crate::pointers::known_pointer;
 use crate::putting::{holds_number, put_number, put_pointer};
 use crate::storage::Storage;
-use pli_bytes::number_at;
 use pli_map::{Description, are_same_marked, mark_of};
 use pli_value::Locator;
 
@@ -117,7 +117,8 @@ impl<'m> Storage<'m> {
         let Some(stands) = self.part_by(locator, part) else {
             return false;
         };
-        put_number(&mut self.generations, stands, precision, number)
+        put_number(&mut self.generations, stands, precision, number);
+        true
     }
 
     /// The same of a pointer.
@@ -150,7 +151,7 @@ impl<'m> Storage<'m> {
     {
         let precision = number_precision(part.description)?;
         let at = self.outside(locator, part)?;
-        number_at(&self.generations[at].bytes, part.offset as usize, precision)
+        Some(number_within(&self.generations[at].bytes, part.offset as usize, precision))
     }
 
     /// The same of a pointer.
@@ -164,6 +165,6 @@ impl<'m> Storage<'m> {
             return None;
         }
         let at = self.outside(locator, part)?;
-        pointer_at(&self.generations[at].bytes, part.offset as usize)
+        Some(known_pointer(&self.generations[at].bytes, part.offset as usize))
     }
 }

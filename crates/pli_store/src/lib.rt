@@ -6,10 +6,11 @@
 //! parts of a whole need no search, `elements` which of an array need no walk; `storage` reads, puts, copies and
 //! makes, by `putting` and `copying`, which change bytes, and `ending` ends; `lone_numbers` looks up once a number
 //! that is read and put more often, `number_dummies` makes dummy arguments of numbers, `texts` reads and puts
-//! characters; `bits` tells a lone bit from its byte, `pointers` a pointer from its bytes, and `pointer_places` reads
-//! and puts pointers; `spare` keeps memory for generations to come. `strings` makes dummy arguments as long as their
-//! strings, which have the descriptions of `string_descriptions`. `blocks` changes the blocks of one generation,
-//! `places_in_blocks` reads, puts and copies there, and `areas` allocates, frees, empties and assigns.
+//! characters; `bits` tells a lone bit from its byte, `numbers` a number and `pointers` a pointer from its bytes, and
+//! `pointer_places` reads and puts pointers; `spare` keeps memory for generations to come, and `reserving` sees that
+//! a list has room. `strings` makes dummy arguments as long as their strings, which have the descriptions of
+//! `string_descriptions`. `blocks` changes the blocks of one generation, `places_in_blocks` reads, puts and copies
+//! there, and `areas` allocates, frees, empties and assigns.
 #![tactic(auto)]
 
 mod areas;
@@ -26,12 +27,14 @@ mod leading;
 mod living;
 mod lone_numbers;
 mod number_dummies;
+mod numbers;
 mod part;
 mod place;
 mod places_in_blocks;
 mod pointer_places;
 mod pointers;
 mod putting;
+mod reserving;
 mod spare;
 mod storage;
 mod string_descriptions;
@@ -47,6 +50,7 @@ pub use living::Target;
 pub use lone_numbers::LoneNumber;
 pub use place::Place;
 pub use pointer_places::NearPointer;
+pub use reserving::reserve_one;
 pub use storage::Storage;
 pub use string_descriptions::StringDescriptions;
 pub use strings::StringForms;

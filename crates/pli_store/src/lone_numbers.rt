@@ -11,7 +11,7 @@ use crate::storage::Storage;
 use pli_bytes::known_number;
 
 /// How many binary digits most numbers have.
-const USUAL_DIGITS: u8 = 31;
+pub(crate) const USUAL_DIGITS: u8 = 31;
 
 /// How many of the others have.
 const SHORT_DIGITS: u8 = 15;
@@ -41,13 +41,11 @@ impl Storage<'_> {
         if generation.number != place.generation {
             return None;
         }
-        if generation.digits != place.digits {
+        let precision = generation.digits;
+        if u64::from(precision) != place.digits {
             return None;
         }
-        Some(LoneNumber {
-            at,
-            precision: place.digits,
-        })
+        Some(LoneNumber { at, precision })
     }
 
     /// The same of a number of so many binary digits, to which a place leads, if it leads to one alone.
@@ -77,7 +75,7 @@ impl Storage<'_> {
     pub fn usual_number(&self, place: Place<'_>) -> Option<LoneNumber>
         ensures { IfSome result (IsLone self.now (place_view place.entry)) }
     {
-        if place.digits != USUAL_DIGITS {
+        if place.digits != u64::from(USUAL_DIGITS) {
             return None;
         }
         self.lone_of(place, USUAL_DIGITS)
@@ -88,7 +86,7 @@ impl Storage<'_> {
     pub fn short_number(&self, place: Place<'_>) -> Option<LoneNumber>
         ensures { IfSome result (IsLone self.now (place_view place.entry)) }
     {
-        if place.digits != SHORT_DIGITS {
+        if place.digits != u64::from(SHORT_DIGITS) {
             return None;
         }
         self.lone_of(place, SHORT_DIGITS)

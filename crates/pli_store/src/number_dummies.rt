@@ -11,12 +11,13 @@ ghost use Rattle.pli_world.specs.World.{World, Yields, made_of, dummy_of, in_new
 ghost use Rattle.pli_world.specs.Storage.{Dummy};
 
 use crate::generation::{Generation, Made};
+use crate::lone_numbers::USUAL_DIGITS;
 use crate::part::number_precision;
 use crate::place::Place;
 use crate::putting::holds_number;
 use crate::storage::Storage;
 use pli_bytes::put_number_at;
-use pli_map::{Description, fixed_binary_size, mark_at_once, mark_of_elements};
+use pli_map::{Description, fixed_binary_size};
 
 impl<'m> Storage<'m> {
     ghost use Rattle.pli_store.specs.views.StorageView.{place_view, with_storage, RoomFor, SameStorage};
@@ -38,6 +39,10 @@ impl<'m> Storage<'m> {
         let precision = number_precision(description)?;
         if !holds_number(precision, number) {
             return None;
+        }
+        // Most numbers have as many digits; then their size is a constant.
+        if precision == USUAL_DIGITS {
+            return self.make_number(description, USUAL_DIGITS, number);
         }
         self.make_number(description, precision, number)
     }
@@ -94,8 +99,8 @@ impl<'m> Storage<'m> {
             number,
             digits: precision,
             made: Made::Dummy,
-            elements: mark_of_elements(description),
-            mark: mark_at_once(description),
+            elements: 0,
+            mark: 0,
             description,
             bytes,
             area: None,

@@ -170,23 +170,6 @@ pub fn is_bit_at(whole: &Description, size: usize, offset: usize) -> bool
     }
 }
 
-/// Whether a pointer stands so many bytes after the beginning of a whole of so many bytes: alone, or as an element of an
-/// array. Whether it stands in any other whole is not asked.
-#[inline(always)]
-pub fn is_pointer_at(whole: &Description, size: usize, offset: usize) -> bool
-    requires { size ≡ size_of (description_view whole.now) }
-    ensures { result ≡ true → is_some (first_scalar (description_view whole.now) offset tree.Pointer) ≡ true }
-{
-    match whole {
-        Description::Pointer => offset == 0,
-        Description::Array { element, .. } => match &**element {
-            Description::Pointer => offset % 8 == 0 && offset < size,
-            _ => false,
-        },
-        _ => false,
-    }
-}
-
 /// Whether both are the same scalar: the second then stands where the first begins.
 #[inline(always)]
 fn is_itself(whole: &Description, part: &Description) -> bool

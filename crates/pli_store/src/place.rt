@@ -22,8 +22,8 @@ pub struct Place<'m> {
     /// Where the generation stood among those that lived when it was made.
     pub(crate) hint: u32,
     /// How many binary digits the number has that the generation is; 0 where this leads to no such number, or where that
-    /// is not known.
-    pub(crate) digits: u8,
+    /// is not known. As wide as a word, so that a place is copied by words.
+    pub(crate) digits: u64,
     pub description: &'m Description,
     pub whole: &'m Description,
     ghost alone: { digits ≢ 0 →
@@ -61,7 +61,7 @@ impl<'m> Place<'m> {
             position,
             offset: 0,
             hint,
-            digits,
+            digits: u64::from(digits),
             description: whole,
             whole,
         }
@@ -83,7 +83,7 @@ impl<'m> Place<'m> {
             position: 0,
             offset: 0,
             hint,
-            digits,
+            digits: u64::from(digits),
             description: whole,
             whole,
         }

@@ -6,9 +6,9 @@ ghost use Rattle.pli_value.specs.Value.{Located};
 ghost use Rattle.pli_world.specs.World.{World, Yields, held};
 ghost use Rattle.pli_store.specs.answers.Found.{LeadsTo, LeadsToNone};
 
-use crate::part::{GenerationPart, is_pointer, is_pointer_at};
+use crate::part::{GenerationPart, is_pointer};
 use crate::place::Place;
-use crate::pointers::pointer_at;
+use crate::pointers::{known_pointer, pointer_at};
 use crate::putting::put_pointer;
 use crate::storage::Storage;
 use pli_value::Locator;
@@ -32,16 +32,7 @@ impl Storage<'_> {
         requires { description_view place.description.now ≡ Pointer }
         ensures { IfSome result (λ part. LeadsTo (storage_view self.now) (place_view place.entry) part) }
     {
-        let at = place.hint as usize;
-        let generation = self.generations.get(at)?;
-        if generation.number != place.generation || place.position != 0 {
-            return None;
-        }
-        let offset = place.offset as usize;
-        if !is_pointer_at(generation.description, generation.bytes.len(), offset) {
-            return None;
-        }
-        Some(GenerationPart { at, offset })
+        self.near_part(place)
     }
 
     /// Where the pointer stands to which a place leads, if it is found at once. It is read and put there without another
@@ -67,7 +58,7 @@ impl Storage<'_> {
         ensures { (w : World) → IfSome result (λ l. held (place_view _place.entry) (with_storage self.now w)
             ≡ Yields (Located l) (with_storage self.now w)) }
     {
-        pointer_at(&self.generations[near.at].bytes, near.offset)
+        Some(known_pointer(&self.generations[near.at].bytes, near.offset))
     }
 
     /// A pointer put where one is found so, which is held there then; where it is not, nothing has changed.
@@ -117,7 +108,7 @@ impl Storage<'_> {
             return None;
         }
         match self.pointer_part(place) {
-            Some(part) => pointer_at(&self.generations[part.at].bytes, part.offset),
+            Some(part) => Some(known_pointer(&self.generations[part.at].bytes, part.offset)),
             None => self.far_pointer(place),
         }
     }

@@ -47,6 +47,16 @@ pub fn pointer_at(bytes: &[u8], offset: usize) -> Option<Locator>
     Some(pointer_of(&rest[..POINTER_SIZE]))
 }
 
+/// The same of bytes in which it ends.
+#[inline(always)]
+pub fn known_pointer(bytes: &[u8], offset: usize) -> Locator
+    requires { offset + 8 ≤ length bytes.now }
+    ensures { value_in bytes.now (record { offset = offset; description = tree.Pointer }) ≡ Located result }
+{
+    let rest = &bytes[offset..];
+    pointer_of(&rest[..POINTER_SIZE])
+}
+
 /// The two numbers that a pointer is in its bytes; `None` for an offset, and where four bytes do not hold a number.
 #[inline(always)]
 fn numbers_of(locator: Locator) -> Option<(u32, u32)>
@@ -74,32 +84,26 @@ fn put_numbers(bytes: &mut [u8], first: u32, second: u32)
     BigEndian::write_u32(&mut bytes[4..], second);
 }
 
-/// A pointer put where a scalar of POINTER lies; where the bytes end before it does, and for what no scalar of POINTER
-/// holds, as an offset, nothing changes.
-#[inline]
+/// A pointer put where a scalar of POINTER lies; for what no such scalar holds, as an offset, nothing changes.
+#[inline(always)]
 pub fn put_pointer_at(bytes: &mut [u8], offset: usize, locator: Locator) -> bool
+    requires { offset + 8 ≤ length bytes.old }
     ensures put { PutOrSame result tree.Pointer (Located locator) offset bytes.old bytes.new }
-    ensures held { IsTrue result
-        ↔ ((holds tree.Pointer (Located locator) ≡ true) × (offset + 8 ≤ length bytes.old)) }
+    ensures held { IsTrue result ↔ (holds tree.Pointer (Located locator) ≡ true) }
 {
-    if offset > bytes.len() {
-        return false;
-    }
     put_first_pointer(&mut bytes[offset..], locator)
 }
 
 /// The same of the scalar with which the bytes begin.
 #[inline(always)]
 fn put_first_pointer(bytes: &mut [u8], locator: Locator) -> bool
+    requires { 8 ≤ length bytes.old }
     ensures put { PutOrSame result tree.Pointer (Located locator) 0 bytes.old bytes.new }
-    ensures held { IsTrue result ↔ ((holds tree.Pointer (Located locator) ≡ true) × (8 ≤ length bytes.old)) }
+    ensures held { IsTrue result ↔ (holds tree.Pointer (Located locator) ≡ true) }
 {
     let Some((first, second)) = numbers_of(locator) else {
         return false;
     };
-    if bytes.len() < POINTER_SIZE {
-        return false;
-    }
     put_numbers(bytes, first, second);
     true
 }

@@ -12,11 +12,10 @@ ghost use Rattle.pli_value.specs.Value.{value_view, Number, Characters, Bits, Lo
 
 use crate::bits::put_bit_at;
 use crate::generation::Generation;
+use crate::numbers::put_number_within;
 use crate::part::GenerationPart;
 use crate::pointers::put_pointer_at;
-use pli_bytes::{
-    append_at, put_known_number, put_number_at, put_short_at, put_text_at, put_value_at,
-};
+use pli_bytes::{append_at, put_known_number, put_short_at, put_text_at, put_value_at};
 use pli_map::Description;
 use pli_value::{Locator, ShortBits, Value, number};
 
@@ -45,25 +44,25 @@ pub fn put_value(
     put_value_at(&mut generation.bytes, part.offset, description, value);
 }
 
-/// The same of a number of so many binary digits, for which there always is room; for one of more there may be none.
+/// The same of a number that may be one of so many binary digits.
 #[inline(always)]
 pub fn put_number(
     generations: &mut Vec<Generation<'_>>,
     part: GenerationPart,
     precision: u8,
     number: i64,
-) -> bool
-    requires { PartStands (map generation_view generations.old.items) part (FixedBinary precision) }
-    ensures put { ValuesPutOrSame result (map generation_view generations.old.items)
-        (map generation_view generations.new.items)
+)
+    requires stands { PartStands (map generation_view generations.old.items) part (FixedBinary precision) }
+    requires few { precision ≤ 63 }
+    requires held { holds (FixedBinary precision) (Number number) ≡ true }
+    ensures { ValuesPut (map generation_view generations.old.items) (map generation_view generations.new.items)
         part (FixedBinary precision) (Number number ∷ []) }
-    ensures room { holds (FixedBinary precision) (Number number) ≡ true → IsTrue result }
 {
     let generation = &mut generations[part.at];
-    put_number_at(&mut generation.bytes, part.offset, precision, number)
+    put_number_within(&mut generation.bytes, part.offset, precision, number);
 }
 
-/// The same of a number that may be one of so many binary digits, and stands alone in its generation.
+/// The same of one that stands alone in its generation.
 #[inline(always)]
 pub fn put_alone(generations: &mut Vec<Generation<'_>>, at: usize, precision: u8, number: i64)
     requires stands { PartStands (map generation_view generations.old.items) (record { at = at; offset = 0 })

@@ -110,8 +110,18 @@ impl SpareBytes {
     }
 
     /// Keeps the memory of a small generation; any other is dropped, and also this where there is none to note it.
-    #[inline]
+    #[inline(always)]
     pub fn keep(&mut self, bytes: Vec<u8>) {
+        if bytes.len() <= KEPT_BYTES && self.kept.len() < self.kept.capacity() {
+            self.kept.push_reserved(bytes);
+        } else {
+            self.keep_further(bytes);
+        }
+    }
+
+    /// The same where there may be no memory yet to note it.
+    #[inline(never)]
+    fn keep_further(&mut self, bytes: Vec<u8>) {
         if bytes.len() <= KEPT_BYTES && self.kept.len() < KEPT_LIMIT {
             let _bytes = self.kept.push(bytes);
         }

@@ -12,7 +12,7 @@ ghost use Rattle.pli_map.specs.views.DescriptionView.{description_view};
 ghost use Rattle.pli_value.specs.Short.{short_view};
 ghost use Rattle.pli_value.specs.Value as plain;
 ghost use Rattle.pli_value.specs.Value.{Bits, Number, value_view};
-ghost use Rattle.pli_world.specs.Storage.{generation_in, live_bytes};
+ghost use Rattle.pli_world.specs.Storage.{generation_in, live_bytes, whole};
 ghost use Rattle.pli_world.specs.Targets.{target_at};
 ghost use Rattle.pli_world.specs.World.{World, Yields, held, stored, copied, made_of, dummy_of, in_newest};
 ghost use Rattle.pli_store.specs.answers.Answered.{Answered};
@@ -27,9 +27,11 @@ use crate::copying::copy_part;
 use crate::fault::StoreFault;
 use crate::generation::{Generation, Made};
 use crate::living::Target;
+use crate::numbers::number_within;
 use crate::part::{GenerationPart, is_of_bits, is_one_bit, number_precision, short_length};
 use crate::place::{Place, digits_of};
 use crate::putting::{holds_number, put_bit, put_number, put_short, put_value};
+use crate::reserving::reserve_one;
 use crate::spare::SpareBytes;
 use pli_bytes::{holds, number_at, put_value_at, short_at, value_at};
 use pli_map::{
@@ -275,7 +277,11 @@ impl<'m> Storage<'m> {
     {
         let precision = number_precision(place.description)?;
         match self.number_part(place, precision) {
-            Some(part) => number_at(&self.generations[part.at].bytes, part.offset, precision),
+            Some(part) => Some(number_within(
+                &self.generations[part.at].bytes,
+                part.offset,
+                precision,
+            )),
             None => self.walked_number(place, precision),
         }
     }
@@ -367,7 +373,8 @@ impl<'m> Storage<'m> {
         if !holds_number(precision, number) {
             return false;
         }
-        put_number(&mut self.generations, part, precision, number)
+        put_number(&mut self.generations, part, precision, number);
+        true
     }
 
     /// A number put at the place of a number of so many binary digits that is found by a walk over the description.
@@ -584,11 +591,43 @@ impl<'m> Storage<'m> {
             (made_of (description_view description.now) (made_view made) vs (with_storage self.old w)) }
         ensures err { OnErr result (SameStorage self.old self.new) }
     {
+        let place = self.next_place(description);
+        match self.make_next(alloc, description, made, bytes) {
+            Ok(()) => Ok(place),
+            Err(fault) => Err(fault),
+        }
+    }
+
+    /// The place of the whole of the generation that is made next, if that is of this description.
+    #[inline(always)]
+    pub fn next_place(&self, description: &'m Description) -> Place<'m>
+        ensures { place_view result ≡ whole (made_count self.now) (description_view description.now) }
+    {
+        Place::of_whole(self.made, 0, self.generations.len() as u32, description)
+    }
+
+    /// A new generation as `make_copy` makes it, whose place is the next, so that it is not handed back.
+    #[inline(always)]
+    pub fn make_next(
+        &mut self,
+        alloc: Global,
+        description: &'m Description,
+        made: Made,
+        bytes: &[u8],
+    ) -> Result<(), StoreFault>
+        requires { length bytes.now ≡ size_of (description_view description.now) }
+        ensures answer { (w : World) (vs : List plain.Value) →
+            BeginsWith (description_view description.now) bytes.now vs
+            → Answered (λ _. whole (made_count self.old) (description_view description.now)) result
+            (with_storage self.old w) (with_storage self.new w)
+            (made_of (description_view description.now) (made_view made) vs (with_storage self.old w)) }
+        ensures err { OnErr result (SameStorage self.old self.new) }
+    {
         if !self.has_room_for(bytes.len() as u64) {
             return Err(StoreFault::Raised(RunError::StorageLimit));
         }
         let own = self.spare.copied(alloc, bytes)?;
-        self.add(description, made, own)
+        self.add_next(description, made, own)
     }
 
     /// A new generation for a dummy argument, which begins with a value, and which the newest activation has to note
@@ -638,10 +677,35 @@ impl<'m> Storage<'m> {
             (with_storage self.old w)) }
         ensures err { OnErr result (SameStorage self.old self.new) }
     {
+        let place = self.next_place(description);
+        match self.add_next(description, made, bytes) {
+            Ok(()) => Ok(place),
+            Err(fault) => Err(fault),
+        }
+    }
+
+    /// The same, whose place is the next, so that it is not handed back.
+    #[inline(always)]
+    fn add_next(
+        &mut self,
+        description: &'m Description,
+        made: Made,
+        bytes: Vec<u8>,
+    ) -> Result<(), StoreFault>
+        requires room { RoomFor true self.old (description_view description.now) }
+        requires size { length bytes.items ≡ size_of (description_view description.now) }
+        ensures answer { (w : World) → are_held (scalars_of (description_view description.now))
+            (values_of (description_view description.now) bytes.items) ≡ true
+            → Answered (λ _. whole (made_count self.old) (description_view description.now)) result
+            (with_storage self.old w) (with_storage self.new w)
+            (made_of (description_view description.now) (made_view made)
+            (values_of (description_view description.now) bytes.items)
+            (with_storage self.old w)) }
+        ensures err { OnErr result (SameStorage self.old self.new) }
+    {
         let size = bytes.len() as u32;
         let area = new_area(self.alloc, description)?;
-        self.generations.reserve(1)?;
-        let place = Place::of_whole(self.made, 0, self.generations.len() as u32, description);
+        reserve_one(&mut self.generations)?;
         self.generations.push_reserved(Generation {
             number: self.made,
             digits: digits_of(description),
@@ -654,6 +718,6 @@ impl<'m> Storage<'m> {
         });
         self.made += 1;
         self.live += size;
-        Ok(place)
+        Ok(())
     }
 }

@@ -6,7 +6,8 @@ use Rattle.pli_type_tree.specs.views.TemplateView.{initial_view}
 use Rattle.pli_world.specs.Storage as plain
 use Rattle.pli_world.specs.World as world
 use Rattle.pli_store.specs.declared.place.Place.{Place}
-use Rattle.pli_store.specs.views.StorageView.{place_view}
+use Rattle.pli_store.specs.declared.storage.Storage.{Storage}
+use Rattle.pli_store.specs.views.StorageView.{made_count, place_view}
 use Rattle.pli_stacks.specs.declared.stack.Stack.{Stack}
 
 -- the places of a stack, the newest first; the program keeps the newest last
@@ -21,3 +22,7 @@ template_of s =
 -- a stack
 abbrev pub stack_view : Stack → world.Stack
 stack_view s = record { variable = variable_of (template_of s); places = places_view s.places.items }
+
+-- the place that the next generation of a stack's variable gets
+abbrev pub next_of : world.Stack → Storage → plain.Place
+next_of s storage = plain.whole (made_count storage) s.variable.description

@@ -15,4 +15,4 @@ returns c = λ count after.
     (one_taken operands.items c.pop-newest.new.self.items (vec_len operands) c.in_ok-newest.newest.now (omega (arith, operands.ok.0))
     (sym (ap option_copied c.in_ok-newest.was) ∙ c.last.ensures.value ∙ ap (λ xs. slice_get xs (length xs - 1)) c.deref.ensures.value)
     c.pop-newest.ensures.rest)
-    ∙ c.in_ok-place.ensures count after rest
+    ∙ c.in_ok-found.ensures count after rest

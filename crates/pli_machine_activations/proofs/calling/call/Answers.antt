@@ -1,15 +1,12 @@
 use Rattle.std.proofs.Common.{None, Some, refl}
 use Rattle.pli_machine_step.specs.Machine.{called}
-use Rattle.pli_code.specs.views.CodeView.{code_view, block_view}
+use Rattle.pli_code.specs.views.CodeView.{code_view}
 use Rattle.pli_machine_activations.specs.declared.machine.Stop.TheVariants as stop
-use Rattle.pli_machine_activations.proofs.EnteredBlocks.{block_moves, block_found}
+use Rattle.pli_machine_activations.proofs.EnteredBlocks.{block_moves}
 use Rattle.pli_machine_activations.proofs.calling.call.Goals as goal
 
-pub returns-in-Some : goal.returns-in-Some
-returns-in-Some c =
-    block_found (called c.args.number c.args.arguments) (code_view c.args.unit.now.linked.now.deck.code) c.args.number (block_view c.in-Some.block.now)
-    c.args.machine.now c.call_with.new.machine c.call_with.result
-    (rw c.in-Some.is at c.block_at.ensures) c.call_with.ensures
+pub call_found-requires : goal.call_found-requires
+call_found-requires c = rw c.in-Some.is at c.block_at.ensures
 
 pub returns-in-None : goal.returns-in-None
 returns-in-None c = λ image.

@@ -1,16 +1,28 @@
-use Rattle.std.proofs.Common.{◌≡◌, ◌∷◌, [], map, reverse, refl, sym, ap, ◌∙◌, arith}
+use Rattle.std.proofs.Common.{◌≡◌, ◌-◌, Some, ◌∷◌, ◌++◌, [], length, map, reverse, slice_get, refl, sym, ap, subst, ◌∙◌, arith}
+use Rattle.std.proofs.Math.Seq.{get_or-append_seam}
+use Rattle.std.proofs.lemmas.Option.{slice_get_read}
 use Rattle.std.specs.Prelude.{vec_len}
 use Rattle.std.proofs.lemmas.Bool.{eqb-true}
-use Rattle.std.proofs.lemmas.List.{nil_from_length}
+use Rattle.std.proofs.lemmas.List.{length-append, nil_from_length}
 use Rattle.pli_world.specs.Storage.{without}
 use Rattle.pli_world.specs.World.{left_by}
 use Rattle.pli_store.specs.views.StorageView.{storage_view}
+use Rattle.pli_machine_activations.specs.declared.machine.Activation.{Activation}
 use Rattle.pli_machine_activations.specs.declared.room.Room.{Room}
+use Rattle.pli_machine_activations.specs.answers.EmptyLists.{AreEmpty}
 use Rattle.pli_machine_activations.specs.views.MachineView.{activation_view, activations_of, waiting_view, frames_of, world_of}
 use Rattle.pli_store.proofs.RisingNumbers.{without_append}
 use Rattle.pli_machine_activations.proofs.DisplayLemmas.{one_fewer}
 use Rattle.pli_machine_activations.proofs.EndLemmas.{newest_first, same_world}
 use Rattle.pli_machine_activations.proofs.leaving.leave_at_once.Goals as goal
+
+pub keep-requires-clause-empty : goal.keep-requires-clause-empty
+keep-requires-clause-empty c =
+    subst (λ (a : Activation). AreEmpty a.operands.items a.room.value.pending.items) (sym c.replace-ended.ensures.value) c.empty.ensures.empty
+
+pub keep-requires-clause-owned : goal.keep-requires-clause-owned
+keep-requires-clause-owned c =
+    ap (λ (a : Activation). a.room.value.owned.items) c.replace-ended.ensures.value ∙ c.empty.ensures.owned
 
 pub turn-requires : goal.turn-requires
 turn-requires c =
@@ -49,3 +61,14 @@ returns-clause-leaves c = λ image put.
           ∙ ap (λ a. activation_view a ∷ activations_of rest) (sym c.replace-ended.ensures.after)));
       left = refl;
     }
+
+pub returns-clause-next : goal.returns-clause-next
+returns-clause-next c = λ _.
+    let waiting = c.args.machine.now.waiting in
+    let rest = c.take_last-next.new.self.items in
+    let next = c.take_last-next.result in
+    let here : vec_len waiting - 1 ≡ length rest = omega (arith, length-append rest (next ∷ []), ap length c.take_last-next.ensures.items, waiting.ok.0) in
+    ap (λ k. slice_get waiting.items k) here
+    ∙ ap (λ xs. slice_get xs (length rest)) c.take_last-next.ensures.items
+    ∙ slice_get_read (rest ++ next ∷ []) (length (rest ++ next ∷ [])) (length rest) next refl (omega (arith, length-append rest (next ∷ []))) (sym (get_or-append_seam rest next [] next))
+    ∙ ap Some (sym c.replace-ended.ensures.after)

@@ -1,8 +1,6 @@
-use Rattle.std.proofs.Common.{◌≡◌, true, sym, subst, ◌∙◌, ap}
+use Rattle.std.proofs.Common.{◌≡◌, true, sym, subst}
 use Rattle.std.specs.Option.{is_some}
-use Rattle.pli_map.specs.Description.{Description, Array, Character}
 use Rattle.pli_map.specs.Scalars.{first_scalar}
-use Rattle.pli_map.specs.Sizes.{size_of}
 use Rattle.pli_map.specs.views.DescriptionView.{description_view}
 use Rattle.pli_store.proofs.part.is_alone_or_element.Goals as goal
 

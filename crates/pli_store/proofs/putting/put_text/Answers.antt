@@ -1,5 +1,4 @@
-use Rattle.std.proofs.Common.{◌≡◌, Bool, true, false, [], ◌∷◌, map, refl}
-use Rattle.pli_bytes.specs.Changes.{PutOrSame, text_fitted}
+use Rattle.pli_bytes.specs.Changes.{text_fitted}
 use Rattle.pli_map.specs.views.DescriptionView.{description_view}
 use Rattle.pli_value.specs.Value.{Characters}
 use Rattle.pli_store.proofs.HeldScalars.{scalar_of_held}

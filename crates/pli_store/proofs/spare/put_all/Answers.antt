@@ -1,4 +1,4 @@
-use Rattle.std.proofs.Common.{◌∙◌, arith}
+use Rattle.std.proofs.Common.{◌∙◌}
 use Rattle.pli_store.proofs.SpareLemmas.{front_is}
 use Rattle.pli_store.proofs.spare.put_all.Goals as goal
 

@@ -42,17 +42,17 @@ index-requires c =
     let inside = within_store c.args.self.now.generations.items c.args.place.generation c.in-Some.at c.in-Some.ensures in
     omega (arith, inside)
 
-pub returns-then-not-is_same : goal.returns-then-not-is_same
-returns-then-not-is_same c = λ w.
+pub returns-then-not-are_same_areas : goal.returns-then-not-are_same_areas
+returns-then-not-are_same_areas c = λ w.
     let items = c.args.self.now.generations.items in
     let at = c.in-Some.at in
     let g = c.index.result.now in
     let here : slice_get items at ≡ Some g = slice_get_read items (length items) at g refl (within_store items c.args.place.generation at c.in-Some.ensures) c.index.ensures in
     let d = description_view g.description.now in
     let e = description_view c.args.place.description.now in
-    let told = same_from_decides c.is_same.result (same d e) c.is_same.ensures (same_decides d e) in
+    let told = same_from_decides c.are_same_areas.result (same d e) c.are_same_areas.ensures (same_decides d e) in
     other_area (place_view c.args.place) (with_storage c.args.self.now w) (generation_view g) (stored_one items c.args.place.generation at g c.in-Some.ensures here)
-    c.if-place-ne0.false c.if-place-ne0-2.false (sym c.if-not-is_area.ensures) (sym told ∙ c.if-not-is_same.true)
+    c.if-place-ne0.false c.if-place-ne0-2.false (sym c.if-not-is_area.ensures) (sym told ∙ c.if-not-are_same_areas.true)
 
 pub returns : goal.returns
 returns c =
@@ -62,6 +62,6 @@ returns c =
     let here : slice_get items at ≡ Some g = slice_get_read items (length items) at g refl (within_store items c.args.place.generation at c.in-Some.ensures) c.index.ensures in
     let d = description_view g.description.now in
     let e = description_view c.args.place.description.now in
-    let told = same_from_decides c.is_same.result (same d e) c.is_same.ensures (same_decides d e) in
+    let told = same_from_decides c.are_same_areas.result (same d e) c.are_same_areas.ensures (same_decides d e) in
     area_stands (place_view c.args.place) (with_storage c.args.self.now nothing) (generation_view g) (stored_one items c.args.place.generation at g c.in-Some.ensures here)
-    c.if-place-ne0.false c.if-place-ne0-2.false (sym c.if-not-is_area.ensures) (sym told ∙ c.if-not-is_same.false) at (stands_in_view items at g here)
+    c.if-place-ne0.false c.if-place-ne0-2.false (sym c.if-not-is_area.ensures) (sym told ∙ c.if-not-are_same_areas.false) at (stands_in_view items at g here)

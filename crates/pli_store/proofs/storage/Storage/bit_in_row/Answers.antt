@@ -8,7 +8,6 @@ use Rattle.pli_store.specs.answers.Found.{StandsAt}
 use Rattle.pli_store.specs.views.StorageView.{place_view, storage_view}
 use Rattle.pli_store.proofs.PlaceLemmas.{leads_to}
 use Rattle.pli_store.proofs.Searches.{stands_at}
-use Rattle.pli_map.specs.Description.{Bit}
 use Rattle.pli_store.proofs.storage.Storage.bit_in_row.Goals as goal
 
 pub returns : goal.returns

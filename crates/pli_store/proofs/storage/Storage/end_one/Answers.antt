@@ -1,15 +1,18 @@
 use Rattle.std.proofs.Common.{Some, arith, length, refl, slice_get, subst, ◌-◌, ◌<◌, ◌≡◌}
+use Rattle.std.specs.Prelude.{vec_len}
 use Rattle.std.proofs.lemmas.Option.{slice_get_read}
 use Rattle.pli_store.specs.answers.Found.{StandsAt}
 use Rattle.pli_store.specs.views.StorageView.{storage_view}
 use Rattle.pli_store.proofs.Searches.{stands_at}
 use Rattle.pli_store.proofs.storage.Storage.end_one.Goals as goal
 
-pub end_there-requires : goal.end_there-requires
-end_there-requires c =
+pub end_last-requires-clause-last : goal.end_last-requires-clause-last
+end_last-requires-clause-last c =
     let items = c.args.self.now.generations.items in
     let last = c.in-Some.last in
     let within : last < length items = omega (arith, c.len.ensures, c.in-Some.ensures) in
     let here : slice_get items last ≡ Some c.index.result.now = slice_get_read items (length items) last c.index.result.now refl within c.index.ensures in
     let same : c.index.result.now.number ≡ c.args.number = omega arith in
-    subst (λ n. StandsAt (storage_view c.args.self.now) n last) same (stands_at items c.args.self.now.made c.args.self.now.rising last c.index.result.now here)
+    let newest : last ≡ vec_len c.args.self.now.generations - 1 = omega (arith, c.len.ensures, c.in-Some.ensures) in
+    subst (λ at. StandsAt (storage_view c.args.self.now) c.args.number at) newest
+    (subst (λ n. StandsAt (storage_view c.args.self.now) n last) same (stands_at items c.args.self.now.made c.args.self.now.rising last c.index.result.now here))

@@ -1,8 +1,7 @@
-use Rattle.std.proofs.Common.{map, sym, ap, ◌∙◌, arith}
+use Rattle.std.proofs.Common.{map, ap, ◌∙◌, arith}
 use Rattle.pli_world.specs.Storage.{live_bytes}
 use Rattle.pli_store.specs.answers.Kept.{rise}
 use Rattle.pli_store.specs.views.GenerationView.{generation_view}
-use Rattle.pli_store.specs.views.StorageView.{storage_view}
 use Rattle.pli_store.proofs.EndingLemmas.{ended_size, ended_live, ended_rise, ended_view}
 use Rattle.pli_store.proofs.storage.Storage.end_there.Goals as goal
 

@@ -28,7 +28,7 @@ returns c =
     let some : place.digits ≢ 0 = c.if-place-eq0.false in
     let alone = place.alone some in
     let is : part ≡ FixedBinary place.digits = is_number part place.digits some alone.2 in
-    let same : g.digits ≡ place.digits = c.if-generation-place-2.false in
+    let same : g.digits ≡ place.digits = sym c.from.ensures ∙ c.if-from-place.false in
     let wide : whole ≡ FixedBinary place.digits = is_number whole place.digits some (sym same ∙ g.alone) in
     let found : is_some (first_scalar whole 0 part) ≡ true =
     subst (λ d. is_some (first_scalar whole 0 d) ≡ true) (wide ∙ sym is) (ap is_some (whole_found whole)) in
@@ -36,7 +36,7 @@ returns c =
       leads =
           subst (λ o. LeadsTo (storage_view c.args.self.now) (place_view place) (record { at = place.hint; offset = o })) alone.1
           (leads_to items (place_view place) place.hint stands alone.0 g here (rw alone.1 found));
-      precision = is;
+      precision = is ∙ ap FixedBinary (sym same);
     }
 
 pub returns-then-place-eq0 : goal.returns-then-place-eq0
@@ -58,13 +58,13 @@ returns-then-generation-place c =
     ∙ slice_get_read c.deref.result.now (length c.deref.result.now) place.hint f refl (ltb-true place.hint (length c.deref.result.now) (sym c.in_ok-generation.ensures.lookup.0)) c.in_ok-generation.ensures.lookup.1 in
     λ some g here number same. c.if-generation-place.true (ap (λ h. h.number) (one_there items place.hint f g there here) ∙ number)
 
-pub returns-then-generation-place-2 : goal.returns-then-generation-place-2
-returns-then-generation-place-2 c =
+pub returns-then-from-place : goal.returns-then-from-place
+returns-then-from-place c =
     let items = c.args.self.now.generations.items in
     let place = c.args.place in
     let f = c.in_ok-generation.generation.now in
     let there : slice_get items place.hint ≡ Some f =
     ap (λ xs. slice_get xs place.hint) (sym c.deref.ensures.value)
     ∙ slice_get_read c.deref.result.now (length c.deref.result.now) place.hint f refl (ltb-true place.hint (length c.deref.result.now) (sym c.in_ok-generation.ensures.lookup.0)) c.in_ok-generation.ensures.lookup.1 in
-    λ some g here number same. c.if-generation-place-2.true
-    (f.alone ∙ ap (λ h. digits_in (description_view h.description.now)) (one_there items place.hint f g there here) ∙ ap digits_in same ∙ sym (place.alone some).2)
+    λ some g here number same. c.if-from-place.true
+    (c.from.ensures ∙ f.alone ∙ ap (λ h. digits_in (description_view h.description.now)) (one_there items place.hint f g there here) ∙ ap digits_in same ∙ sym (place.alone some).2)

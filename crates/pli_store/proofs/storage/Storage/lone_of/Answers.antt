@@ -1,4 +1,4 @@
-use Rattle.std.proofs.Common.{◌≡◌, ◌≢◌, ◌≤◌, true, length, Some, MatchOption, slice_get, refl, sym, ap, subst, ◌∙◌}
+use Rattle.std.proofs.Common.{◌≡◌, ◌≢◌, true, length, Some, slice_get, refl, sym, ap, subst, ◌∙◌}
 use Rattle.std.specs.Option.{is_some}
 use Rattle.std.proofs.lemmas.Bool.{ltb-true}
 use Rattle.std.proofs.lemmas.Option.{slice_get_read}
@@ -7,10 +7,8 @@ use Rattle.pli_map.specs.Scalars.{first_scalar}
 use Rattle.pli_map.specs.views.DescriptionView.{description_view}
 use Rattle.pli_map.proofs.ScalarLawsHold.{whole_found}
 use Rattle.pli_store.specs.answers.Found.{StandsAt, LeadsTo}
-use Rattle.pli_store.specs.answers.Kinds.{digits_in}
-use Rattle.pli_store.specs.answers.Lone.{IsLone, IsNotLone}
 use Rattle.pli_store.specs.views.StorageView.{place_view, storage_view}
-use Rattle.pli_store.proofs.PlaceLemmas.{leads_to, is_number, one_there, none_there}
+use Rattle.pli_store.proofs.PlaceLemmas.{leads_to, is_number}
 use Rattle.pli_store.proofs.Searches.{stands_at}
 use Rattle.pli_store.proofs.storage.Storage.lone_of.Goals as goal
 

@@ -1,26 +1,13 @@
-use Rattle.std.proofs.Common.{◌≡◌, length, min, ap, ◌∙◌, subst}
-use Rattle.pli_bytes.specs.Contents.{values_of}
-use Rattle.pli_map.specs.Scalars.{scalars_of}
-use Rattle.pli_map.specs.Values.{are_held}
+use Rattle.std.proofs.Common.{sym, ap, ◌∙◌}
 use Rattle.pli_map.specs.views.DescriptionView.{description_view}
-use Rattle.pli_world.specs.World.{made_of}
-use Rattle.pli_store.specs.answers.Answered.{Answered}
-use Rattle.pli_store.specs.views.GenerationView.{made_view}
+use Rattle.pli_world.specs.Storage.{whole}
 use Rattle.pli_store.specs.views.StorageView.{place_view, with_storage}
+use Rattle.pli_world.specs.World.{Yields}
+use Rattle.pli_store.proofs.MakingLemmas.{refused_alike}
 use Rattle.pli_store.proofs.storage.Storage.make_copy.Goals as goal
 
-pub returns-then-not-has_room_for-clause-answer : goal.returns-then-not-has_room_for-clause-answer
-returns-then-not-has_room_for-clause-answer c = λ w vs begins.
-    c.if-not-has_room_for.ensures (description_view c.args.description.now) (ap (λ n. min n 4294967296) c.requires) w (made_view c.args.made) vs
+pub returns-in-Ok-clause-answer : goal.returns-in-Ok-clause-answer
+returns-in-Ok-clause-answer c = λ w vs begins. c.in-Ok.ensures.answer w vs begins ∙ ap (λ p. Yields p (with_storage c.make_next.new.self w)) (sym c.next_place-place.ensures)
 
-pub add-requires-clause-size : goal.add-requires-clause-size
-add-requires-clause-size c = ap length c.in_ok-own.ensures ∙ c.requires
-
-pub returns-clause-answer : goal.returns-clause-answer
-returns-clause-answer c = λ w vs begins.
-    let d = description_view c.args.description.now in
-    let values : values_of d c.in_ok-own.own.items ≡ vs = ap (values_of d) c.in_ok-own.ensures ∙ begins.0 in
-    let before = with_storage c.args.self.now w in
-    let after = with_storage c.add.new.self w in
-    subst (λ us. Answered place_view c.add.result before after (made_of d (made_view c.args.made) us before)) values
-    (c.add.ensures.answer w (ap (are_held (scalars_of d)) values ∙ begins.1))
+pub returns-in-Err-clause-answer : goal.returns-in-Err-clause-answer
+returns-in-Err-clause-answer c = λ w vs begins. refused_alike {T = Unit {0}} (λ _. whole c.args.self.now.made (description_view c.args.description.now)) place_view c.in-Err.fault _ _ _ (c.in-Err.ensures.answer w vs begins)

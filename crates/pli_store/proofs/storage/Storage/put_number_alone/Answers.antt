@@ -1,4 +1,4 @@
-use Rattle.std.proofs.Common.{[], ◌∷◌, map, true, refl, sym, ◌∙◌, subst, SFits, w64, rules}
+use Rattle.std.proofs.Common.{[], ◌∷◌, map, refl, sym, ◌∙◌, subst, SFits, w64, rules}
 use Rattle.std.proofs.lemmas.Int.{to_z-of_z}
 use Rattle.pli_map.specs.Description.{FixedBinary}
 use Rattle.pli_value.specs.Value.{Number}

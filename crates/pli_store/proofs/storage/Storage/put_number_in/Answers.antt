@@ -5,33 +5,40 @@ use Rattle.pli_value.specs.Value.{Number}
 use Rattle.pli_store.specs.answers.Found.{PartStands}
 use Rattle.pli_store.specs.views.GenerationView.{generation_view}
 use Rattle.pli_store.specs.views.StorageView.{place_view, storage_view}
-use Rattle.pli_store.proofs.PartAnswers.{kept_or_same}
-use Rattle.pli_store.proofs.PutAnswers.{value_is_put}
+use Rattle.pli_store.proofs.LoneLemmas.{stored_in}
+use Rattle.pli_store.proofs.PartAnswers.{kept_put}
 use Rattle.pli_store.proofs.storage.Storage.put_number_in.Goals as goal
 
-pub put_number-requires : goal.put_number-requires
-put_number-requires c = subst (PartStands (storage_view c.args.self.now) c.args.part) c.requires.precision c.requires.leads.there
+pub put_number-requires-clause-stands : goal.put_number-requires-clause-stands
+put_number-requires-clause-stands c = subst (PartStands (storage_view c.args.self.now) c.args.part) c.requires.precision c.requires.leads.there
+
+pub put_number-requires-clause-few : goal.put_number-requires-clause-few
+put_number-requires-clause-few c = (c.if-not-holds_number.ensures.0 refl).0
+
+pub put_number-requires-clause-held : goal.put_number-requires-clause-held
+put_number-requires-clause-held c = (c.if-not-holds_number.ensures.0 refl).1
 
 pub invariant_of-self : goal.invariant_of-self
 invariant_of-self c =
     let fits : SFits w64 c.args.number = search rules in
     let whole = to_z-of_z w64 c.args.number fits in
-    let kept = kept_or_same (storage_view c.args.self.now) (map generation_view c.put_number.new.generations.items) c.args.part
-    c.args.self.now.made c.args.self.now.rising c.put_number.result (FixedBinary c.args.precision) (Number c.args.number ∷ []) (rw whole at c.put_number.ensures.put) in
+    let kept = kept_put (storage_view c.args.self.now) (map generation_view c.put_number.new.generations.items) c.args.part
+    c.args.self.now.made c.args.self.now.rising (FixedBinary c.args.precision) (Number c.args.number ∷ []) (rw whole at c.put_number.ensures) in
     record { counted = c.args.self.now.counted ∙ sym kept.counted; limited = c.args.self.now.limited; rising = kept.rising }
 
 pub returns-clause-put : goal.returns-clause-put
 returns-clause-put c =
     let fits : SFits w64 c.args.number = search rules in
     let whole = to_z-of_z w64 c.args.number fits in
-    value_is_put c.args.self.now _ (place_view c.args.place) c.args.part (FixedBinary c.args.precision) c.requires.precision refl c.requires.leads
-    c.put_number.result (Number c.args.number) (rw whole at (c.if-not-holds_number.ensures.0 refl)).1 (rw whole at c.put_number.ensures.put)
+    stored_in c.args.self.now (map generation_view c.put_number.new.generations.items) c.args.self.now.made (place_view c.args.place) c.args.part
+    (FixedBinary c.args.precision) c.requires.precision c.requires.leads (Number c.args.number) (rw whole at c.put_number.ensures) refl
+    (rw whole at (c.if-not-holds_number.ensures.0 refl)).1
 
 pub returns-clause-held : goal.returns-clause-held
 returns-clause-held c =
     let fits : SFits w64 c.args.number = search rules in
     let whole = to_z-of_z w64 c.args.number fits in
-    (λ e. rw whole at (c.if-not-holds_number.ensures.0 refl), λ h. (rw whole at c.put_number.ensures.room) h.1)
+    (λ e. rw whole at (c.if-not-holds_number.ensures.0 refl), λ h. refl)
 
 pub returns-then-not-holds_number-clause-held : goal.returns-then-not-holds_number-clause-held
 returns-then-not-holds_number-clause-held c =

@@ -1,9 +1,6 @@
-use Rattle.std.proofs.Common.{◌≡◌, true, length, Some, slice_get, refl, sym, ap, subst, ◌∙◌}
+use Rattle.std.proofs.Common.{◌≡◌, length, Some, slice_get, refl, sym, ap, subst, ◌∙◌}
 use Rattle.std.proofs.lemmas.Bool.{ltb-true}
 use Rattle.std.proofs.lemmas.Option.{slice_get_read}
-use Rattle.std.specs.Option.{is_some}
-use Rattle.pli_map.specs.Scalars.{first_scalar}
-use Rattle.pli_map.specs.views.DescriptionView.{description_view}
 use Rattle.pli_store.specs.answers.Found.{StandsAt}
 use Rattle.pli_store.specs.views.StorageView.{place_view, storage_view}
 use Rattle.pli_store.proofs.PlaceLemmas.{leads_to}
