@@ -10,7 +10,6 @@ use Rattle.pli_map.specs.Scalars.{scalars_of}
 use Rattle.pli_map.specs.Sizes.{size_of}
 use Rattle.pli_map.specs.Values.{are_held}
 use Rattle.pli_map.specs.Variables.{Variable}
-use Rattle.pli_value.specs.declared.locator.Locator.{Locator}
 use Rattle.pli_value.specs.declared.locator.Locator.TheVariants.{Pointer}
 use Rattle.pli_world.specs.Areas.{allocated_in, area_found, assigned, end_of_blocks, is_whole_area, place_in, put_at, room_in, taken_by, with_area, with_block, without_block}
 use Rattle.pli_world.specs.Storage.{Block, Generation, Place, block_at, generation_in, whole, with_block_values, with_blocks, without}

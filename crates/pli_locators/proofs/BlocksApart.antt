@@ -1,5 +1,5 @@
 -- Blocks of an area stand apart, whatever is placed and taken away.
-use Rattle.std.proofs.Common.{◌≡◌, ◌+◌, ◌-◌, ◌≤◌, ◌<◌, ◌%◌, ℕ, Bool, true, false, nat_eq, nat_lt, Option, Some, None, MatchOption, List, [], ◌∷◌, length, map, if◌then◌else◌, refl, sym, ap, subst, arith, inl, inr, eqb-true, ltb-true, ltb-false, ne_eqb}
+use Rattle.std.proofs.Common.{◌≡◌, ◌+◌, ◌≤◌, ◌<◌, ◌%◌, ℕ, Bool, true, false, nat_eq, nat_lt, Some, None, MatchOption, List, [], ◌∷◌, length, map, if◌then◌else◌, refl, sym, ap, subst, arith, inl, inr, eqb-true, ltb-true, ltb-false, ne_eqb}
 use Rattle.std.proofs.lemmas.List.{length-replicate}
 use Rattle.pli_area.specs.Areas as area
 use Rattle.pli_area.specs.Areas.{IsApart, IsArea, IsFull, IsLeast, Stand}

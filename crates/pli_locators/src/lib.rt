@@ -12,5 +12,5 @@ pub use laws::{
     areas_alone_change, blocks_stand_apart, ends_are_final, numbers_stay_given, other_blocks_stay,
     others_stay, storage_alone_changes, worked_areas, worked_examples,
 };
-pub use locating::{address, allocate_based, allocate_in, based, free_based};
+pub use locating::{address, allocate_based, allocate_based_of, allocate_in, based, free_based};
 pub use offsets::{offset_in, pointer_in};

@@ -17,8 +17,8 @@ ghost use Rattle.pli_world.specs.World.{unless_dead};
 
 use pli_map::{Description, far_size};
 use pli_run::RunError;
-use pli_stacks::{first_bytes, make_initial};
-use pli_store::{Made, Place, Storage, StoreFault, Target};
+use pli_stacks::{first_bytes, make_initial, make_initial_of};
+use pli_store::{Kind, Made, Place, Storage, StoreFault, Target};
 use pli_type_tree::InitialScalar;
 use pli_value::Locator;
 use std::alloc::Global;
@@ -133,6 +133,32 @@ pub fn allocate_based<'m>(
     ensures err { OnErr result (SameStorage storage.old storage.new) }
 {
     let place = make_initial(alloc, storage, description, Made::Based, scalars, laid)?;
+    Ok(pointer_to(place))
+}
+
+/// The same of a generation of this kind.
+#[inline(always)]
+pub fn allocate_based_of<'m>(
+    alloc: Global,
+    storage: &mut Storage<'m>,
+    kind: &Kind<'m>,
+    scalars: &[InitialScalar],
+    laid: Option<&[u8]>,
+) -> Result<Locator, StoreFault>
+    requires { IfSome laid (λ bytes. IsLaid (record {
+      description = description_view kind.now.description.now;
+      initial = map initial_view scalars.now;
+    }) bytes.now) }
+    ensures answer { (w : World) → Answered (λ locator. locator) result (with_storage storage.old w)
+        (with_storage storage.new w)
+        (based_allocated (variable_of (record {
+          description = description_view kind.now.description.now;
+          initial = map initial_view scalars.now;
+        }))
+        (with_storage storage.old w)) }
+    ensures err { OnErr result (SameStorage storage.old storage.new) }
+{
+    let place = make_initial_of(alloc, storage, kind, Made::Based, scalars, laid)?;
     Ok(pointer_to(place))
 }
 

@@ -137,6 +137,55 @@ pub fn free_at_once<'m>(
     }
 }
 
+/// ALLOCATE of a CONTROLLED variable as `allocate_at_once` performs it, where all that is needed is at hand, so that no
+/// call is made; `false` where it is not, and nothing has changed then.
+#[inline(always)]
+pub fn allocate_near<'m>(
+    unit: &ActiveUnit<'_, 'm>,
+    machine: &mut Machine<'m>,
+    global: usize,
+    next: usize,
+) -> bool
+    requires { machine.old.here.unit ≡ unit.now.number }
+    ensures done { (u : UnitCode) → MovesOrStays result (image_of unit.now.loaded.now)
+        (act (program_of (image_of unit.now.loaded.now).linked) u (Some (AllocateControlled global))) machine.old next
+        machine.new }
+    ensures unit { machine.new.here.unit ≡ machine.old.here.unit }
+{
+    let Some(stack) = named_stack(unit, machine, global) else {
+        return false;
+    };
+    if !machine.stacks.allocate_at_once(&mut machine.storage, stack) {
+        return false;
+    }
+    machine.here.next = next;
+    true
+}
+
+/// The same of FREE.
+#[inline(always)]
+pub fn free_near<'m>(
+    unit: &ActiveUnit<'_, 'm>,
+    machine: &mut Machine<'m>,
+    global: usize,
+    next: usize,
+) -> bool
+    requires { machine.old.here.unit ≡ unit.now.number }
+    ensures done { (u : UnitCode) → MovesOrStays result (image_of unit.now.loaded.now)
+        (act (program_of (image_of unit.now.loaded.now).linked) u (Some (FreeControlled global))) machine.old next
+        machine.new }
+    ensures unit { machine.new.here.unit ≡ machine.old.here.unit }
+{
+    let Some(number) = named_stack(unit, machine, global) else {
+        return false;
+    };
+    if !machine.stacks.free_at_once(&mut machine.storage, number) {
+        return false;
+    }
+    machine.here.next = next;
+    true
+}
+
 /// How many there are, as a value.
 fn count_value(count: u16) -> Value
     ensures { value_view result ≡ Number (pos count) }

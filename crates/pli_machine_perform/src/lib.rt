@@ -21,6 +21,6 @@ mod stepping;
 mod storing;
 mod strings;
 
-pub use generations::{allocate_at_once, free_at_once};
+pub use generations::{allocate_at_once, allocate_near, free_at_once, free_near};
 pub use performing::perform;
 pub use slots::global_place;

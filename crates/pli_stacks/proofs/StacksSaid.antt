@@ -3,15 +3,16 @@ use Rattle.std.proofs.Common.{◌≡◌, ◌<◌, ◌≤◌, ℕ, List, [], ◌�
 use Rattle.std.specs.Vec.{with_item}
 use Rattle.std.proofs.lemmas.List.{map-set, reverse-append}
 use Rattle.std.proofs.lemmas.Option.{slice_get-map, slice_get_read, slice_get_past}
+use Rattle.pli_map.specs.Description.{Description}
 use Rattle.pli_run.specs.declared.ending.RunError.TheVariants.{NoGeneration}
 use Rattle.pli_store.proofs.Searches.{set_same}
 use Rattle.pli_store.specs.answers.Answered.{Answered}
 use Rattle.pli_store.specs.declared.fault.StoreFault.{StoreFault}
-use Rattle.pli_store.specs.declared.place.Place.{Place as CodePlace}
+use Rattle.pli_store.specs.declared.kind.Handle.{Handle}
 use Rattle.pli_store.specs.declared.storage.Storage.{Storage}
-use Rattle.pli_store.specs.views.StorageView.{place_view, storage_view, made_count, with_storage}
+use Rattle.pli_store.specs.views.StorageView.{storage_view, made_count, with_storage}
 use Rattle.pli_world.specs.Stacks.{with_places, newest, stacked, without_newest_of, unstacked, counted, counted_in}
-use Rattle.pli_world.specs.Storage.{Controlled, Place, without}
+use Rattle.pli_world.specs.Storage.{Controlled, Place, whole, without}
 use Rattle.pli_world.specs.World.{Stack, World, Yields, Raises, Wrong, further, made_of, newest_in}
 use Rattle.pli_stacks.specs.declared.stack.Stack.{Stack as CodeStack}
 use Rattle.pli_stacks.specs.declared.stacks.Stacks.{Stacks}
@@ -21,13 +22,15 @@ use Rattle.pli_stacks.proofs.AnsweredCalls.{first_refused}
 
 -- ---- places
 
--- a place put after the others is the newest
-pub newest_pushed : (places : List CodePlace) (p : CodePlace) → places_view (places ++ p ∷ []) ≡ place_view p ∷ places_view places
-newest_pushed places p = ap (map place_view) (reverse-append places (p ∷ []))
+-- a generation put after the others is the newest
+pub newest_pushed : (d : Description) (generations : List Handle) (h : Handle)
+    → places_view d (generations ++ h ∷ []) ≡ whole h.number d ∷ places_view d generations
+newest_pushed d generations h = ap (map (λ (x : Handle). whole x.number d)) (reverse-append generations (h ∷ []))
 
 -- the last of these is the newest, if there is one
-pub newest_popped : (old new : List CodePlace) (p : CodePlace) → old ≡ new ++ p ∷ [] → places_view old ≡ place_view p ∷ places_view new
-newest_popped old new p is = ap places_view is ∙ newest_pushed new p
+pub newest_popped : (d : Description) (old new : List Handle) (h : Handle) → old ≡ new ++ h ∷ []
+    → places_view d old ≡ whole h.number d ∷ places_view d new
+newest_popped d old new h is = ap (places_view d) is ∙ newest_pushed d new h
 
 module _ (s : Stacks) (number : ℕ) where
   pub stack_past : length s.stacks.items ≤ number → slice_get (stacks_view s) number ≡ None
@@ -119,11 +122,11 @@ module _ (s : Stacks) (storage : Storage) (number : ℕ) (w : World) (old : Code
   unstacked_empty empty =
       unstacked_there number before was there ∙ ap (λ ps. without_newest_of number was ps before) empty
 
-  pub unstacked_done : (later : Storage) (p : CodePlace) (new : CodeStack) → was ≡ record (stack_view new) { places = place_view p ∷ (stack_view new).places }
-      → storage_view later ≡ without (p.generation ∷ []) (storage_view storage) → made_count later ≡ made_count storage
+  pub unstacked_done : (later : Storage) (ended : ℕ) (new : CodeStack) → was ≡ record (stack_view new) { places = whole ended (stack_view new).variable.description ∷ (stack_view new).places }
+      → storage_view later ≡ without (ended ∷ []) (storage_view storage) → made_count later ≡ made_count storage
       → unstacked number (with_stacks s (with_storage storage w))
       ≡ Yields tt (with_stacks (record { stacks = with_item s.stacks number new }) (with_storage later w))
-  unstacked_done later p new popped ends count =
+  unstacked_done later ended new popped ends count =
       unstacked_there number before was there
       ∙ ap (λ (x : Stack). without_newest_of number x x.places before) popped
       ∙ ap (λ gs. Yields tt (record (with_storage storage w) { storage = gs; stacks = slice_set (stacks_view s) number (stack_view new) })) (sym ends)

@@ -16,7 +16,7 @@ ghost use Rattle.pli_world.specs.World.{World, made_of};
 use pli_bytes::{lay_first, put_on};
 use pli_map::{Description, far_size};
 use pli_run::RunError;
-use pli_store::{Made, Place, Storage, StoreFault};
+use pli_store::{Kind, Made, Place, Storage, StoreFault};
 use pli_type_tree::InitialScalar;
 use std::alloc::{AllocError, Global};
 
@@ -159,35 +159,63 @@ pub fn make_initial<'m>(
     }
 }
 
-/// The same of a generation whose place is the next, so that it is not handed back.
+/// The same of a generation of this kind, whose place is the next, so that it is not handed back.
 #[inline(always)]
 pub fn make_next<'m>(
     alloc: Global,
     storage: &mut Storage<'m>,
-    description: &'m Description,
+    kind: &Kind<'m>,
     made: Made,
     scalars: &[InitialScalar],
     laid: Option<&[u8]>,
 ) -> Result<(), StoreFault>
     requires { IfSome laid (λ bytes. IsLaid (record {
-      description = description_view description.now;
+      description = description_view kind.now.description.now;
       initial = map initial_view scalars.now;
     }) bytes.now) }
-    ensures answer { (w : World) → Answered (λ _. whole (made_count storage.old) (description_view description.now))
+    ensures answer { (w : World) → Answered (λ _. whole (made_count storage.old) (description_view kind.now.description.now))
         result (with_storage storage.old w) (with_storage storage.new w)
-        (made_of (description_view description.now) (made_view made)
-        (with_initial (scalars_at (description_view description.now)) (map initial_view scalars.now)
-        (first_values (description_view description.now)))
+        (made_of (description_view kind.now.description.now) (made_view made)
+        (with_initial (scalars_at (description_view kind.now.description.now)) (map initial_view scalars.now)
+        (first_values (description_view kind.now.description.now)))
         (with_storage storage.old w)) }
     ensures err { OnErr result (SameStorage storage.old storage.new) }
 {
     match laid {
-        Some(bytes) => storage.make_next(alloc, description, made, bytes),
-        None => make_next_anew(alloc, storage, description, made, scalars),
+        Some(bytes) => storage.make_of(alloc, kind, made, bytes),
+        None => make_next_anew(alloc, storage, kind.description, made, scalars),
     }
 }
 
-/// The same where nothing was laid before.
+/// The same of a generation of this kind whose place is handed back.
+#[inline(always)]
+pub fn make_initial_of<'m>(
+    alloc: Global,
+    storage: &mut Storage<'m>,
+    kind: &Kind<'m>,
+    made: Made,
+    scalars: &[InitialScalar],
+    laid: Option<&[u8]>,
+) -> Result<Place<'m>, StoreFault>
+    requires { IfSome laid (λ bytes. IsLaid (record {
+      description = description_view kind.now.description.now;
+      initial = map initial_view scalars.now;
+    }) bytes.now) }
+    ensures answer { (w : World) → Answered place_view result (with_storage storage.old w) (with_storage storage.new w)
+        (made_of (description_view kind.now.description.now) (made_view made)
+        (with_initial (scalars_at (description_view kind.now.description.now)) (map initial_view scalars.now)
+        (first_values (description_view kind.now.description.now)))
+        (with_storage storage.old w)) }
+    ensures err { OnErr result (SameStorage storage.old storage.new) }
+{
+    let next = storage.next_handle();
+    match make_next(alloc, storage, kind, made, scalars, laid) {
+        Ok(()) => Ok(kind.place(next)),
+        Err(fault) => Err(fault),
+    }
+}
+
+/// A generation as `make_next` makes it where nothing was laid before.
 #[inline(never)]
 fn make_next_anew<'m>(
     alloc: Global,

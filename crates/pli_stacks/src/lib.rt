@@ -10,6 +10,6 @@ mod stack;
 mod stacking;
 mod stacks;
 
-pub use initial::{first_bytes, initial_bytes, make_initial};
+pub use initial::{first_bytes, initial_bytes, make_initial, make_initial_of};
 pub use laws::{numbers_stay_given, others_stay, storage_alone_changes, worked_examples};
 pub use stacks::Stacks;

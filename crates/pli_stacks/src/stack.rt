@@ -6,22 +6,22 @@ ghost use Rattle.pli_map.specs.views.DescriptionView.{description_view};
 ghost use Rattle.pli_type_tree.specs.views.TemplateView.{initial_view};
 ghost use Rattle.pli_stacks.specs.answers.LaidBytes.{IsLaid};
 
-use pli_map::Description;
-use pli_store::Place;
+use pli_store::{Handle, Kind};
 use pli_type_tree::InitialScalar;
 
-/// What the generations of a CONTROLLED variable are made from, and the places of those that it has.
+/// What the generations of a CONTROLLED variable are made from, and those that it has.
 #[derive(Drop)]
 pub struct Stack<'m> {
-    pub description: &'m Description,
+    /// What its generations have in common.
+    pub kind: Kind<'m>,
     /// The initial values, in the order of the text.
     pub initial: &'m [InitialScalar],
     /// The bytes with which each generation begins, where they are few.
     pub laid: Option<Vec<u8>>,
-    /// The newest place is the last.
-    pub places: Vec<Place<'m>>,
+    /// The newest is the last.
+    pub generations: Vec<Handle>,
     ghost begins: { IfSome laid (λ (bytes : Vec ℕ). IsLaid (record {
-      description = description_view description.now;
+      description = description_view kind.description.now;
       initial = map initial_view initial.now;
     }) bytes.items) } by { Prim.hlevel props },
 }
@@ -31,7 +31,7 @@ impl<'m> Stack<'m> {
     #[inline(always)]
     pub fn laid_bytes(&self) -> Option<&[u8]>
         ensures { IfSome result (λ bytes. IsLaid (record {
-          description = description_view self.now.description.now;
+          description = description_view self.now.kind.description.now;
           initial = map initial_view self.now.initial.now;
         }) bytes.now) }
     {

@@ -1,19 +1,19 @@
 //! The generations of CONTROLLED variables.
-ghost use Rattle.std.specs.Prelude.{◌≡◌, ◌∷◌, ◌++◌, [], length, map, IfOk, OnOk, OnErr};
+ghost use Rattle.std.specs.Prelude.{◌≡◌, ◌∷◌, ◌++◌, [], length, map, true, false, IfOk, OnOk, OnErr};
 ghost use Rattle.pli_map.specs.views.DescriptionView.{description_view};
 ghost use Rattle.pli_type_tree.specs.Templates.{variable_of};
 ghost use Rattle.pli_type_tree.specs.views.TemplateView.{initial_view};
 ghost use Rattle.pli_world.specs.Stacks.{newest, stacked, unstacked, counted};
-ghost use Rattle.pli_world.specs.World.{World};
+ghost use Rattle.pli_world.specs.World.{World, Yields};
 ghost use Rattle.pli_store.specs.answers.Answered.{Answered};
 ghost use Rattle.pli_store.specs.views.StorageView.{SameStorage, place_view, with_storage};
 
 use crate::initial::few_bytes;
 use crate::stack::Stack;
-use crate::stacking::{count_of, newest_in, pop_newest, push_made};
+use crate::stacking::{count_of, newest_in, pop_at_once, pop_newest, push_at_once, push_made};
 use pli_map::Description;
 use pli_run::RunError;
-use pli_store::{Place, Storage, StoreFault};
+use pli_store::{Kind, Place, Storage, StoreFault};
 use pli_type_tree::InitialScalar;
 use std::alloc::{AllocError, Global};
 
@@ -55,12 +55,13 @@ impl<'m> Stacks<'m> {
         ensures err { OnErr result (stacks_view self.new ≡ stacks_view self.old) }
     {
         let number = self.stacks.len();
-        let laid = few_bytes(alloc, description, initial)?;
+        let kind = Kind::of(description);
+        let laid = few_bytes(alloc, kind.description, initial)?;
         self.stacks.push(Stack {
-            description,
+            kind,
             initial,
             laid,
-            places: Vec::new(alloc),
+            generations: Vec::new(alloc),
         })?;
         Ok(number)
     }
@@ -130,10 +131,39 @@ impl<'m> Stacks<'m> {
         if number >= self.stacks.len() {
             return Err(StoreFault::NoRule);
         }
-        let Some(place) = pop_newest(&mut self.stacks[number]) else {
+        let Some(newest) = pop_newest(&mut self.stacks[number]) else {
             return Err(StoreFault::Raised(RunError::NoGeneration));
         };
-        storage.end_one(place.generation);
+        storage.end_one(newest.number);
         Ok(())
+    }
+
+    /// ALLOCATE of a CONTROLLED variable as `allocate_controlled` makes it, where that is done at once: all that is
+    /// needed is at hand. `false` where it is not made, and nothing has changed then.
+    #[inline(always)]
+    pub fn allocate_at_once(&mut self, storage: &mut Storage<'m>, number: usize) -> bool
+        ensures done { result ≡ true → (w : World) → stacked number (with_stacks self.old (with_storage storage.old w))
+            ≡ Yields tt (with_stacks self.new (with_storage storage.new w)) }
+        ensures stacks { result ≡ false → stacks_view self.new ≡ stacks_view self.old }
+        ensures storage { result ≡ false → SameStorage storage.old storage.new }
+    {
+        if number >= self.stacks.len() {
+            return false;
+        }
+        push_at_once(&mut self.stacks[number], storage)
+    }
+
+    /// The same of FREE.
+    #[inline(always)]
+    pub fn free_at_once(&mut self, storage: &mut Storage<'m>, number: usize) -> bool
+        ensures done { result ≡ true → (w : World) → unstacked number (with_stacks self.old (with_storage storage.old w))
+            ≡ Yields tt (with_stacks self.new (with_storage storage.new w)) }
+        ensures stacks { result ≡ false → stacks_view self.new ≡ stacks_view self.old }
+        ensures storage { result ≡ false → SameStorage storage.old storage.new }
+    {
+        if number >= self.stacks.len() {
+            return false;
+        }
+        pop_at_once(&mut self.stacks[number], storage)
     }
 }

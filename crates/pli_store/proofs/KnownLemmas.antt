@@ -2,7 +2,8 @@
 use Rattle.std.proofs.Common.{◌≡◌, ℕ, ◌+◌, Bool, true, false, List, length, map, get_or, Some, option_and_then, if◌then◌else◌, refl, sym, ap, subst, ◌∙◌, arith}
 use Rattle.std.specs.Option.{is_some}
 use Rattle.std.proofs.lemmas.Option.{same_Some, slice_get_read}
-use Rattle.pli_map.specs.Description.{Description}
+use Rattle.pli_map.specs.Description as tree
+use Rattle.pli_map.specs.Description.{Description, FixedBinary}
 use Rattle.pli_map.specs.Scalars.{first_scalar}
 use Rattle.pli_map.specs.views.DescriptionView.{description_view}
 use Rattle.pli_map.proofs.ScalarPlaces.{itself}
@@ -26,7 +27,7 @@ use Rattle.pli_store.specs.declared.storage.Storage.{Storage}
 use Rattle.pli_store.specs.views.GenerationView.{generation_view}
 use Rattle.pli_store.specs.views.StorageView.{ValuePut, storage_view, with_storage}
 use Rattle.pli_store.proofs.PartAnswers.{number_found}
-use Rattle.pli_store.proofs.PlaceLemmas.{leads_to, within_store}
+use Rattle.pli_store.proofs.PlaceLemmas.{is_number, is_pointer, leads_to, within_store}
 use Rattle.pli_store.proofs.Searches.{stands_in_store, stands_in_view}
 use Rattle.pli_world.specs.World.{unless_dead}
 
@@ -44,6 +45,14 @@ pub generation_described : (items : List Generation) (number at : ℕ) (s : Stan
 generation_described items number at s g read =
     let here = slice_get_read items (length items) at g refl (within_store items number at s) read in
     ap (λ (x : plain.Generation). x.description) (same_Some s.generation (generation_view g) (sym s.stands ∙ stands_in_view items at g here))
+
+-- a part of as many binary digits as most have is a number of these
+pub usual_part : (k : KnownPart) → k.usual ≡ true → description_view k.description.now ≡ FixedBinary 31
+usual_part k usual = is_number (description_view k.description.now) 31 (λ e. cc) (sym (k.numeric usual).1)
+
+-- and one that is a pointer is one
+pub pointer_part : (k : KnownPart) → k.pointer ≡ true → description_view k.description.now ≡ tree.Pointer
+pointer_part k pointer = is_pointer (description_view k.description.now) (k.pointing pointer).1
 
 module _ (s : Storage) (k : KnownPart) (l : Locator) (at : ℕ) (o : IsOutside (storage_view s) l (description_view k.whole.now) at) where
   -- the place of the whole, and that of the part

@@ -7,7 +7,7 @@ use Rattle.pli_map.specs.Description.{Description, FixedBinary, Character, Varyi
 use Rattle.pli_map.specs.Scalars.{first_scalar}
 use Rattle.pli_world.specs.Storage.{Place, generation_in}
 use Rattle.pli_store.specs.answers.Found.{StandsAt, LeadsTo, LeadsNowhere}
-use Rattle.pli_store.specs.answers.Kinds.{digits_in}
+use Rattle.pli_store.specs.answers.Kinds.{are_pointers, digits_in}
 use Rattle.pli_store.specs.declared.generation.Generation.{Generation}
 use Rattle.pli_store.specs.views.GenerationView.{generation_view}
 use Rattle.pli_store.proofs.Searches.{stands_in_view}
@@ -73,3 +73,15 @@ is_number Offset digits some is = absurd (some is)
 is_number (Area n) digits some is = absurd (some is)
 is_number (Array bs d) digits some is = absurd (some is)
 is_number (Structure ds) digits some is = absurd (some is)
+
+-- a description of pointers is that
+pub is_pointer : (d : Description) → are_pointers d ≡ true → d ≡ Pointer
+is_pointer Pointer is = refl
+is_pointer (FixedBinary precision) is = cc
+is_pointer (Character n) is = cc
+is_pointer (Varying n) is = cc
+is_pointer (Bit n) is = cc
+is_pointer Offset is = cc
+is_pointer (Area n) is = cc
+is_pointer (Array bs d) is = cc
+is_pointer (Structure ds) is = cc

@@ -1,9 +1,11 @@
 //! Elements of arrays: those of arrays of numbers, of structures and of strings of one bit are found where they stand,
 //! without a walk over the description.
-ghost use Rattle.std.specs.Prelude.{◌≡◌, ◌*◌, ◌≤ℤ◌, ◌-ℤ◌, ◌∷◌, [], IfSome, unsigned_abs};
-ghost use Rattle.pli_map.specs.Description.{Bit};
+ghost use Rattle.std.specs.Prelude.{◌≡◌, ◌*◌, ◌≤◌, ◌≤ℤ◌, ◌-ℤ◌, ◌↔◌, ◌∷◌, [], true, IfSome, IsTrue, unsigned_abs};
+ghost use Rattle.pli_map.specs.Description.{Bit, FixedBinary};
+ghost use Rattle.pli_map.specs.Values.{holds};
 ghost use Rattle.pli_map.specs.views.DescriptionView.{description_view};
 ghost use Rattle.pli_value.specs.Value.{Bits, Number};
+ghost use Rattle.pli_world.specs.Storage.{field_of};
 ghost use Rattle.pli_world.specs.World.{World, Yields, held, led_on};
 
 use crate::bits::bit_at;
@@ -11,9 +13,10 @@ use crate::element_place::ElementPlace;
 use crate::lone_numbers::USUAL_DIGITS;
 use crate::numbers::number_within;
 use crate::part::{GenerationPart, is_bit_at, is_number_in_row, is_one_bit, number_precision};
-use crate::place::Place;
+use crate::place::{OFFSET_LIMIT, Place};
 use crate::putting::put_bit;
 use crate::storage::Storage;
+use pli_map::{Description, stands_near};
 
 /// Where a number stands that is an element: its generation among those that live, how many bytes after the beginning of
 /// that, and how many binary digits it has.
@@ -21,7 +24,8 @@ use crate::storage::Storage;
 pub struct RowNumber {
     pub(crate) at: usize,
     pub(crate) offset: usize,
-    pub(crate) precision: u8,
+    /// How many binary digits the number has at most.
+    pub precision: u8,
 }
 
 impl<'m> Place<'m> {
@@ -41,6 +45,52 @@ impl<'m> Place<'m> {
         Some(ElementPlace {
             place,
             first: self.offset,
+            above,
+            stride: multiplier,
+        })
+    }
+
+    /// The part of this description that stands so many bytes further, and from there as many multiples as a subscript is
+    /// above the low bound, as `field` and `element_at` lead there one after the other. `None` where that is more than
+    /// 1,000,000 bytes after the beginning.
+    #[inline(always)]
+    #[tactic(auto, using(pli_world::specs::laws::OperationLaws::led_near))]
+    pub fn field_element(
+        self,
+        offset: u32,
+        description: &'m Description,
+        low: i32,
+        multiplier: u32,
+        subscript: i32,
+    ) -> Option<ElementPlace<'m>>
+        requires { low ≤ℤ subscript }
+        ensures begins { IfSome result (λ _. (w : World) → led_on offset (description_view description.now)
+            (place_view self.entry) w
+            ≡ Yields (field_of offset (description_view description.now) (place_view self.entry)) w) }
+        ensures leads { IfSome result (λ e. (w : World) → led_on (unsigned_abs (subscript -ℤ low) * multiplier)
+            (description_view description.now)
+            (field_of offset (description_view description.now) (place_view self.entry)) w
+            ≡ Yields (place_view e.place) w) }
+    {
+        let above = subscript.abs_diff(low);
+        let first = u64::from(self.offset) + u64::from(offset);
+        let passed = u64::from(above) * u64::from(multiplier);
+        let sum = first.checked_add(passed)?;
+        if sum > u64::from(OFFSET_LIMIT) {
+            return None;
+        }
+        let place = Place {
+            generation: self.generation,
+            position: self.position,
+            offset: sum as u32,
+            hint: self.hint,
+            digits: 0,
+            description,
+            whole: self.whole,
+        };
+        Some(ElementPlace {
+            place,
+            first: first as u32,
             above,
             stride: multiplier,
         })
@@ -77,6 +127,33 @@ impl Storage<'_> {
         })
     }
 
+    /// The element of an array of scalars to which a place leads, as `near_part` finds it: no scalar that stands alone is
+    /// looked for.
+    #[inline(always)]
+    fn part_in_row(&self, place: Place<'_>) -> Option<GenerationPart>
+        ensures { IfSome result (λ part. LeadsTo (storage_view self.now) (place_view place.entry) part) }
+    {
+        let at = place.hint as usize;
+        let generation = self.generations.get(at)?;
+        if generation.number != place.generation || place.position != 0 {
+            return None;
+        }
+        if !stands_near(
+            generation.description,
+            0,
+            generation.elements,
+            generation.bytes.len(),
+            place.offset,
+            place.description,
+        ) {
+            return None;
+        }
+        Some(GenerationPart {
+            at,
+            offset: place.offset as usize,
+        })
+    }
+
     /// The same of an element of an array of numbers of as many binary digits as most have: what is done with it is
     /// short then.
     #[inline(always)]
@@ -87,7 +164,7 @@ impl Storage<'_> {
         if precision != USUAL_DIGITS {
             return None;
         }
-        let part = self.near_part(place)?;
+        let part = self.part_in_row(place)?;
         Some(RowNumber {
             at: part.at,
             offset: part.offset,
@@ -110,6 +187,8 @@ impl Storage<'_> {
     pub fn put_number_of_row(&mut self, place: Place<'_>, row: RowNumber, number: i64) -> bool
         requires { IsRow self.old (place_view place) row }
         ensures put { NumberPut result self.old self.new (place_view place.entry) number }
+        ensures fits { IsTrue result ↔ ((row.precision ≤ 63)
+            × (holds (FixedBinary row.precision) (Number number) ≡ true)) }
     {
         let part = GenerationPart {
             at: row.at,

@@ -1,5 +1,5 @@
 //! Generations that end.
-ghost use Rattle.std.specs.Prelude.{◌≡◌, ◌<◌, ◌-◌, ◌∷◌, [], vec_len};
+ghost use Rattle.std.specs.Prelude.{◌≡◌, ◌<◌, ◌-◌, ◌∷◌, [], true, false, vec_len, vec_capacity};
 ghost use Rattle.pli_world.specs.Storage.{without};
 ghost use Rattle.pli_store.specs.answers.Found.{StandsAt};
 
@@ -20,7 +20,7 @@ fn give_up(area: Option<Box<AreaBlocks<'_>>>) {
 }
 
 impl Storage<'_> {
-    ghost use Rattle.pli_store.specs.views.StorageView.{made_count, storage_view};
+    ghost use Rattle.pli_store.specs.views.StorageView.{SameStorage, made_count, storage_view};
 
     /// The generations of these numbers end; a number of which none lives changes nothing. Fast where the newest stand
     /// last among the numbers.
@@ -88,5 +88,43 @@ impl Storage<'_> {
         } else {
             self.end_further(number);
         }
+    }
+
+    /// The generation of this number ends, where that is done at once: it is the last of those that live, and there is
+    /// room to keep its memory. `false` where it does not end, and nothing has changed then.
+    #[inline(always)]
+    pub fn end_at_once(&mut self, number: u32) -> bool
+        ensures ended { result ≡ true → storage_view self.new ≡ without (number ∷ []) (storage_view self.old) }
+        ensures made { made_count self.new ≡ made_count self.old }
+        ensures same { result ≡ false → SameStorage self.old self.new }
+    {
+        let Some(last) = self.generations.len().checked_sub(1) else {
+            return false;
+        };
+        let newest = &self.generations[last];
+        if newest.number != number {
+            return false;
+        }
+        if !self.spare.keeps(newest.bytes.len()) {
+            return false;
+        }
+        self.end_kept(number);
+        true
+    }
+
+    /// The generation of this number ends, which is the last of those that live, and whose memory there is room to keep.
+    #[inline(always)]
+    fn end_kept(&mut self, _number: u32)
+        requires some { 0 < vec_len self.old.generations }
+        requires last { StandsAt (storage_view self.old) _number (vec_len self.old.generations - 1) }
+        requires room { vec_len self.old.spare.kept < vec_capacity self.old.spare.kept }
+        ensures storage { storage_view self.new ≡ without (_number ∷ []) (storage_view self.old) }
+        ensures made { made_count self.new ≡ made_count self.old }
+    {
+        let ended = take_newest(&mut self.generations);
+        let size = ended.bytes.len() as u32;
+        self.live -= size;
+        self.spare.keep_reserved(ended.bytes);
+        give_up(ended.area);
     }
 }

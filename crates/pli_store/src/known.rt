@@ -1,10 +1,13 @@
 //! Parts that are known to stand in a whole, found by a pointer to that.
-ghost use Rattle.std.specs.Prelude.{◌≡◌, ℕ, ◌≤◌, true, false, IfSome, IfNone, MatchOption};
+ghost use Rattle.std.specs.Prelude.{◌≡◌, ◌≢◌, ℕ, ◌≤◌, true, false, IfSome, IfNone, MatchOption};
 ghost use Rattle.std.specs.Option.{is_some};
 ghost use Rattle.pli_map.specs.Marks.{HasMark};
 ghost use Rattle.pli_map.specs.Scalars.{first_scalar};
+ghost use Rattle.pli_map.specs.Values.{holds};
 ghost use Rattle.pli_map.specs.views.DescriptionView.{description_view};
+ghost use Rattle.pli_store.specs.answers.Kinds.{are_pointers, digits_in};
 
+use crate::lone_numbers::USUAL_DIGITS;
 use crate::numbers::number_within;
 use crate::part::{GenerationPart, is_part, is_pointer, number_precision};
 use crate::place::OFFSET_LIMIT;
@@ -20,9 +23,15 @@ pub struct KnownPart<'m> {
     pub whole: &'m Description,
     /// How many bytes it stands after the beginning of the whole.
     pub offset: u32,
+    /// Whether it is a number of as many binary digits as most have, and the whole description has a mark.
+    pub(crate) usual: bool,
+    /// Whether it is a pointer, and the whole description has a mark.
+    pub(crate) pointer: bool,
     pub description: &'m Description,
     /// The mark of the whole description, or 0.
     pub mark: u64,
+    ghost numeric: { usual ≡ true → (mark ≢ 0) × (digits_in (description_view description.now) ≡ 31) },
+    ghost pointing: { pointer ≡ true → (mark ≢ 0) × (are_pointers (description_view description.now) ≡ true) },
     ghost marked: { HasMark (description_view whole.now) mark },
     ghost near: { offset ≤ 1000000 },
     ghost stands: { is_some (first_scalar (description_view whole.now) offset (description_view description.now))
@@ -46,13 +55,47 @@ impl<'m> KnownPart<'m> {
         if offset > OFFSET_LIMIT || !is_part(whole, offset, description) {
             return None;
         }
+        let mark = mark_of(whole);
         Some(KnownPart {
             whole,
             offset,
+            usual: is_usual(mark, description),
+            pointer: is_marked_pointer(mark, description),
             description,
-            mark: mark_of(whole),
+            mark,
         })
     }
+}
+
+/// Whether there is a mark, and a description is of numbers of as many binary digits as most have.
+fn is_usual(mark: u64, description: &Description) -> bool
+    ensures { result ≡ true → (mark ≢ 0) × (digits_in (description_view description.now) ≡ 31) }
+{
+    match description {
+        Description::FixedBinary(precision) => mark != 0 && *precision == USUAL_DIGITS,
+        _ => false,
+    }
+}
+
+/// Whether there is a mark, and a description is of pointers.
+fn is_marked_pointer(mark: u64, description: &Description) -> bool
+    ensures { result ≡ true → (mark ≢ 0) × (are_pointers (description_view description.now) ≡ true) }
+{
+    match description {
+        Description::Pointer => mark != 0,
+        _ => false,
+    }
+}
+
+/// Whether both descriptions, which have these marks, are known by them to be equal.
+#[inline(always)]
+fn have_one_mark(_left: &Description, left_mark: u64, _right: &Description, right_mark: u64) -> bool
+    requires some { right_mark ≢ 0 }
+    requires left { HasMark (description_view _left.now) left_mark }
+    requires right { HasMark (description_view _right.now) right_mark }
+    ensures { result ≡ true → description_view _left.now ≡ description_view _right.now }
+{
+    left_mark == right_mark
 }
 
 impl<'m> Storage<'m> {
@@ -91,6 +134,36 @@ impl<'m> Storage<'m> {
         }
     }
 
+    /// The same of a generation that is found at once and known by its mark: no search and no walk over its description is
+    /// needed then.
+    #[inline(always)]
+    fn near_outside(&self, locator: Locator, part: &KnownPart<'_>) -> Option<usize>
+        requires { part.now.mark ≢ 0 }
+        ensures { IfSome result (IsOutside (storage_view self.now) locator (description_view part.now.whole.now)) }
+    {
+        let Locator::Pointer {
+            generation,
+            position,
+        } = locator
+        else {
+            return None;
+        };
+        if position != 0 {
+            return None;
+        }
+        let at = self.found_at_once(generation)?;
+        let generation = &self.generations[at];
+        if !have_one_mark(
+            generation.description,
+            generation.mark,
+            part.whole,
+            part.mark,
+        ) {
+            return None;
+        }
+        Some(at)
+    }
+
     /// Where a known part stands of what a locator leads to, if that is a generation of the whole description.
     #[inline(always)]
     fn part_by(&self, locator: Locator, part: &KnownPart<'_>) -> Option<GenerationPart>
@@ -101,6 +174,54 @@ impl<'m> Storage<'m> {
             at,
             offset: part.offset as usize,
         })
+    }
+
+    /// The same, where it is found at once.
+    #[inline(always)]
+    fn near_part_by(&self, locator: Locator, part: &KnownPart<'_>) -> Option<GenerationPart>
+        requires { part.now.mark ≢ 0 }
+        ensures { IfSome result (λ stands. StandsBy self.now locator part.now stands) }
+    {
+        let at = self.near_outside(locator, part)?;
+        Some(GenerationPart {
+            at,
+            offset: part.offset as usize,
+        })
+    }
+
+    /// A number put at a known part of what a locator leads to, which stands there.
+    #[inline(always)]
+    fn put_number_there(
+        &mut self,
+        _locator: Locator,
+        _part: &KnownPart<'_>,
+        stands: GenerationPart,
+        precision: u8,
+        number: i64,
+    )
+        requires stands { StandsBy self.old _locator _part.now stands }
+        requires number { description_view _part.now.description.now ≡ FixedBinary precision }
+        requires few { precision ≤ 63 }
+        requires held { holds (FixedBinary precision) (Number number) ≡ true }
+        ensures { PutBy true self.old self.new _locator _part.now (Number number) }
+    {
+        put_number(&mut self.generations, stands, precision, number);
+    }
+
+    /// The same of a pointer; where it is not put there, nothing has changed.
+    #[inline(always)]
+    fn put_pointer_there(
+        &mut self,
+        _locator: Locator,
+        _part: &KnownPart<'_>,
+        stands: GenerationPart,
+        pointer: Locator,
+    ) -> bool
+        requires stands { StandsBy self.old _locator _part.now stands }
+        requires pointer { description_view _part.now.description.now ≡ Pointer }
+        ensures { PutBy result self.old self.new _locator _part.now (Located pointer) }
+    {
+        put_pointer(&mut self.generations, stands, pointer)
     }
 
     /// A number put at a known part of what a locator leads to; where it is not, nothing has changed.
@@ -117,7 +238,7 @@ impl<'m> Storage<'m> {
         let Some(stands) = self.part_by(locator, part) else {
             return false;
         };
-        put_number(&mut self.generations, stands, precision, number);
+        self.put_number_there(locator, part, stands, precision, number);
         true
     }
 
@@ -137,7 +258,70 @@ impl<'m> Storage<'m> {
         let Some(stands) = self.part_by(locator, part) else {
             return false;
         };
-        put_pointer(&mut self.generations, stands, pointer)
+        self.put_pointer_there(locator, part, stands, pointer)
+    }
+
+    /// A number put at a known part of as many binary digits as most have, of what a locator leads to, where that is found
+    /// at once; where it is not put there, nothing has changed.
+    #[inline(always)]
+    pub fn put_near_number_by(
+        &mut self,
+        locator: Locator,
+        part: &KnownPart<'_>,
+        number: i64,
+    ) -> bool
+        ensures { PutBy result self.old self.new locator part.now (Number number) }
+    {
+        if !part.usual {
+            return false;
+        }
+        if !holds_number(USUAL_DIGITS, number) {
+            return false;
+        }
+        let Some(stands) = self.near_part_by(locator, part) else {
+            return false;
+        };
+        self.put_number_there(locator, part, stands, USUAL_DIGITS, number);
+        true
+    }
+
+    /// The same of a pointer.
+    #[inline(always)]
+    pub fn put_near_pointer_by(
+        &mut self,
+        locator: Locator,
+        part: &KnownPart<'_>,
+        pointer: Locator,
+    ) -> bool
+        ensures { PutBy result self.old self.new locator part.now (Located pointer) }
+    {
+        if !part.pointer {
+            return false;
+        }
+        let Some(stands) = self.near_part_by(locator, part) else {
+            return false;
+        };
+        self.put_pointer_there(locator, part, stands, pointer)
+    }
+
+    /// The number that a known part holds of the generation there, which is of the whole description.
+    #[inline(always)]
+    fn number_there(&self, _locator: Locator, part: &KnownPart<'_>, at: usize, precision: u8) -> i64
+        requires outside { IsOutside (storage_view self.now) _locator (description_view part.now.whole.now) at }
+        requires number { description_view part.now.description.now ≡ FixedBinary precision }
+        ensures { ReadBy self.now _locator part.now (Number result) }
+    {
+        number_within(&self.generations[at].bytes, part.offset as usize, precision)
+    }
+
+    /// The same of a pointer.
+    #[inline(always)]
+    fn pointer_there(&self, _locator: Locator, part: &KnownPart<'_>, at: usize) -> Locator
+        requires outside { IsOutside (storage_view self.now) _locator (description_view part.now.whole.now) at }
+        requires pointer { description_view part.now.description.now ≡ Pointer }
+        ensures { ReadBy self.now _locator part.now (Located result) }
+    {
+        known_pointer(&self.generations[at].bytes, part.offset as usize)
     }
 
     /// The number that a known part holds of what a locator leads to; `None` where it holds none, or the locator does
@@ -151,7 +335,7 @@ impl<'m> Storage<'m> {
     {
         let precision = number_precision(part.description)?;
         let at = self.outside(locator, part)?;
-        Some(number_within(&self.generations[at].bytes, part.offset as usize, precision))
+        Some(self.number_there(locator, part, at, precision))
     }
 
     /// The same of a pointer.
@@ -165,6 +349,31 @@ impl<'m> Storage<'m> {
             return None;
         }
         let at = self.outside(locator, part)?;
-        Some(known_pointer(&self.generations[at].bytes, part.offset as usize))
+        Some(self.pointer_there(locator, part, at))
+    }
+
+    /// The number of as many binary digits as most have that a known part holds of what a locator leads to, where all is
+    /// found at once: what is done is short then.
+    #[inline(always)]
+    pub fn near_number_by(&self, locator: Locator, part: &KnownPart<'_>) -> Option<i64>
+        ensures { IfSome result (λ x. ReadBy self.now locator part.now (Number x)) }
+    {
+        if !part.usual {
+            return None;
+        }
+        let at = self.near_outside(locator, part)?;
+        Some(self.number_there(locator, part, at, USUAL_DIGITS))
+    }
+
+    /// The same of a pointer.
+    #[inline(always)]
+    pub fn near_pointer_by(&self, locator: Locator, part: &KnownPart<'_>) -> Option<Locator>
+        ensures { IfSome result (λ l. ReadBy self.now locator part.now (Located l)) }
+    {
+        if !part.pointer {
+            return None;
+        }
+        let at = self.near_outside(locator, part)?;
+        Some(self.pointer_there(locator, part, at))
     }
 }

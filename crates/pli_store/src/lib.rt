@@ -6,7 +6,8 @@
 //! parts of a whole need no search, `elements` which of an array need no walk; `storage` reads, puts, copies and
 //! makes, by `putting` and `copying`, which change bytes, and `ending` ends; `lone_numbers` looks up once a number
 //! that is read and put more often, `number_dummies` makes dummy arguments of numbers, `texts` reads and puts
-//! characters; `bits` tells a lone bit from its byte, `numbers` a number and `pointers` a pointer from its bytes, and
+//! characters; `kind` is what is fixed for the generations of a description, of which one is made at once; `bits`
+//! tells a lone bit from its byte, `numbers` a number and `pointers` a pointer from its bytes, and
 //! `pointer_places` reads and puts pointers; `spare` keeps memory for generations to come, and `reserving` sees that
 //! a list has room. `strings` makes dummy arguments as long as their strings, which have the descriptions of
 //! `string_descriptions`. `blocks` changes the blocks of one generation, `places_in_blocks` reads, puts and copies
@@ -22,6 +23,7 @@ mod elements;
 mod ending;
 mod fault;
 mod generation;
+mod kind;
 mod known;
 mod leading;
 mod living;
@@ -45,6 +47,7 @@ pub use element_place::ElementPlace;
 pub use elements::RowNumber;
 pub use fault::StoreFault;
 pub use generation::Made;
+pub use kind::{Handle, Kind};
 pub use known::KnownPart;
 pub use living::Target;
 pub use lone_numbers::LoneNumber;

@@ -20,7 +20,8 @@ const SHORT_DIGITS: u8 = 15;
 #[derive(Clone, Copy)]
 pub struct LoneNumber {
     pub(crate) at: usize,
-    pub(crate) precision: u8,
+    /// How many binary digits the number has at most.
+    pub precision: u8,
 }
 
 impl Storage<'_> {
@@ -48,12 +49,11 @@ impl Storage<'_> {
         Some(LoneNumber { at, precision })
     }
 
-    /// The same of a number of so many binary digits, to which a place leads, if it leads to one alone.
+    /// The same of a number of so many binary digits, to which a place leads, if it leads to one alone and has as many.
     #[inline(always)]
     fn lone_of(&self, place: Place<'_>, digits: u8) -> Option<LoneNumber>
-        requires some { digits ≢ 0 }
-        requires digits { place.digits ≡ digits }
-        ensures { IfSome result (IsLone self.now (place_view place.entry)) }
+        requires { digits ≢ 0 }
+        ensures { IfSome result (λ n. place.entry.digits ≡ digits → IsLone self.now (place_view place.entry) n) }
     {
         let at = place.hint as usize;
         let generation = self.generations.get(at)?;
@@ -81,15 +81,17 @@ impl Storage<'_> {
         self.lone_of(place, USUAL_DIGITS)
     }
 
-    /// The same of half as many.
+    /// The same of half as many. How many the place has is asked last: asked first, it would become one question with
+    /// that for the usual number, in which few digits come before many.
     #[inline(always)]
     pub fn short_number(&self, place: Place<'_>) -> Option<LoneNumber>
         ensures { IfSome result (IsLone self.now (place_view place.entry)) }
     {
+        let lone = self.lone_of(place, SHORT_DIGITS)?;
         if place.digits != u64::from(SHORT_DIGITS) {
             return None;
         }
-        self.lone_of(place, SHORT_DIGITS)
+        Some(lone)
     }
 
     /// The number that is found so.

@@ -107,6 +107,6 @@ impl<'m> Storage<'m> {
         });
         self.made = number + 1;
         self.live += size;
-        Place::of_number(number, at, precision, description)
+        Place::of_alone(number, at, precision, description)
     }
 }

@@ -1,6 +1,5 @@
 //! Places: where references lead.
 ghost use Rattle.std.specs.Prelude.{IfSome, unsigned_abs, ◌*◌, ◌+◌, ◌-ℤ◌, ◌≡◌, ◌≢◌, ◌≤ℤ◌};
-ghost use Rattle.pli_map.specs.Description.{FixedBinary};
 ghost use Rattle.pli_map.specs.views.DescriptionView.{description_view};
 ghost use Rattle.pli_world.specs.Storage.{whole_at};
 ghost use Rattle.pli_world.specs.World.{led_on};
@@ -67,15 +66,16 @@ impl<'m> Place<'m> {
         }
     }
 
-    /// The whole of a generation that is a number of so many binary digits, and stands there among those that live.
+    /// The whole of a generation that stands there among those that live, and has so many binary digits if it is a
+    /// number; else they are 0.
     #[inline(always)]
-    pub(crate) fn of_number(
+    pub(crate) fn of_alone(
         generation: u32,
         hint: u32,
         digits: u8,
         whole: &'m Description,
     ) -> Place<'m>
-        requires { description_view whole.now ≡ FixedBinary digits }
+        requires { digits ≡ digits_in (description_view whole.now) }
         ensures { place_view result ≡ whole_at generation 0 (description_view whole.now) }
     {
         Place {

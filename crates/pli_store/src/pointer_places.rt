@@ -21,6 +21,17 @@ pub struct NearPointer {
     pub(crate) offset: usize,
 }
 
+/// The mark of pointers.
+const POINTER_MARK: u64 = 5;
+
+/// Whether both of these are 0, which is asked at once.
+#[inline(always)]
+fn is_at_start(position: u32, offset: u32) -> bool
+    ensures { result ≡ true → (position ≡ 0) × (offset ≡ 0) }
+{
+    u64::from(offset) * 4_294_967_296 + u64::from(position) == 0
+}
+
 impl Storage<'_> {
     ghost use Rattle.pli_store.specs.answers.Near.{IsNear};
     ghost use Rattle.pli_store.specs.views.StorageView.{place_view, storage_view, with_storage, ValuePut, CannotPut};
@@ -49,6 +60,28 @@ impl Storage<'_> {
             at: part.at,
             offset: part.offset,
         })
+    }
+
+    /// The same of a pointer alone: what is done with it is short then.
+    #[inline(always)]
+    pub fn lone_pointer(&self, place: Place<'_>) -> Option<NearPointer>
+        ensures { IfSome result (λ near. IsNear self.now (place_view place.entry) near) }
+    {
+        if !is_pointer(place.description) {
+            return None;
+        }
+        if !is_at_start(place.position, place.offset) {
+            return None;
+        }
+        let at = place.hint as usize;
+        let generation = self.generations.get(at)?;
+        if generation.number != place.generation {
+            return None;
+        }
+        if generation.mark != POINTER_MARK {
+            return None;
+        }
+        Some(NearPointer { at, offset: 0 })
     }
 
     /// The pointer that is found so.

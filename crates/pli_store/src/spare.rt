@@ -1,5 +1,5 @@
 //! The memory of generations that have ended, kept for those that are made.
-ghost use Rattle.std.specs.Prelude.{IfOk, IfSome, drop, length, take, ◌++◌, ◌≡◌, ◌≤◌};
+ghost use Rattle.std.specs.Prelude.{IfOk, IfSome, drop, length, take, true, vec_len, vec_capacity, ◌++◌, ◌<◌, ◌≡◌, ◌≤◌};
 
 use std::alloc::{AllocError, Global};
 
@@ -44,9 +44,9 @@ fn put_all(own: &mut [u8], bytes: &[u8])
     requires { length own.old ≡ length bytes.now }
     ensures { own.new ≡ bytes.now }
 {
-    if bytes.len() == 4 {
+    if own.len() == 4 {
         put_four(own, bytes);
-    } else if bytes.len() == 8 {
+    } else if own.len() == 8 {
         put_eight(own, bytes);
     } else {
         own.copy_from_slice(bytes);
@@ -109,11 +109,51 @@ impl SpareBytes {
         Ok(own)
     }
 
+    /// The memory that was kept last, if that was for as many bytes.
+    #[inline(always)]
+    fn take_alike(&mut self, size: usize) -> Option<Vec<u8>>
+        ensures { IfSome result (λ bytes. length bytes.items ≡ size) }
+    {
+        let bytes = self.kept.pop()?;
+        if bytes.len() == size {
+            return Some(bytes);
+        }
+        self.kept.push_reserved(bytes);
+        None
+    }
+
+    /// A copy of so many bytes in the memory that was kept last, if that was for as many.
+    #[inline(always)]
+    pub fn copied_alike(&mut self, bytes: &[u8], size: usize) -> Option<Vec<u8>>
+        requires { length bytes.now ≡ size }
+        ensures { IfSome result (λ own. own.items ≡ bytes.now) }
+    {
+        let mut own = self.take_alike(size)?;
+        put_all(&mut own, bytes);
+        Some(own)
+    }
+
+    /// Whether there is room to keep the memory of a generation of so many bytes.
+    #[inline(always)]
+    pub fn keeps(&self, size: usize) -> bool
+        ensures { result ≡ true → vec_len self.now.kept < vec_capacity self.now.kept }
+    {
+        size <= KEPT_BYTES && self.kept.len() < self.kept.capacity()
+    }
+
+    /// Keeps memory that there is room to keep.
+    #[inline(always)]
+    pub fn keep_reserved(&mut self, bytes: Vec<u8>)
+        requires { vec_len self.old.kept < vec_capacity self.old.kept }
+    {
+        self.kept.push_reserved(bytes);
+    }
+
     /// Keeps the memory of a small generation; any other is dropped, and also this where there is none to note it.
     #[inline(always)]
     pub fn keep(&mut self, bytes: Vec<u8>) {
-        if bytes.len() <= KEPT_BYTES && self.kept.len() < self.kept.capacity() {
-            self.kept.push_reserved(bytes);
+        if self.keeps(bytes.len()) {
+            self.keep_reserved(bytes);
         } else {
             self.keep_further(bytes);
         }

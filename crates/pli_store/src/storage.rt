@@ -124,11 +124,22 @@ impl<'m> Storage<'m> {
         ensures { MatchOption result (generation_in (storage_view self.now) number ≡ None)
             (StandsAt (storage_view self.now) number) }
     {
+        match self.found_at_once(number) {
+            Some(at) => Some(at),
+            None => self.find_far(number),
+        }
+    }
+
+    /// Where the generation of a number stands, if those before it have all numbers from the first one on.
+    #[inline(always)]
+    pub(crate) fn found_at_once(&self, number: u32) -> Option<usize>
+        ensures { IfSome result (StandsAt (storage_view self.now) number) }
+    {
         let guess = self.near_guess(number);
         if guess < self.generations.len() && self.generations[guess].number == number {
             return Some(guess);
         }
-        self.find_far(number)
+        None
     }
 
     /// Where the generation of a number stands, if those before it have all numbers from the first one on: a guess.
@@ -600,7 +611,7 @@ impl<'m> Storage<'m> {
 
     /// The place of the whole of the generation that is made next, if that is of this description.
     #[inline(always)]
-    pub fn next_place(&self, description: &'m Description) -> Place<'m>
+    fn next_place(&self, description: &'m Description) -> Place<'m>
         ensures { place_view result ≡ whole (made_count self.now) (description_view description.now) }
     {
         Place::of_whole(self.made, 0, self.generations.len() as u32, description)
@@ -608,7 +619,7 @@ impl<'m> Storage<'m> {
 
     /// A new generation as `make_copy` makes it, whose place is the next, so that it is not handed back.
     #[inline(always)]
-    pub fn make_next(
+    fn make_next(
         &mut self,
         alloc: Global,
         description: &'m Description,

@@ -7,5 +7,5 @@ use Rattle.pli_stacks.proofs.stack.Stack.laid_bytes.Goals as goal
 pub returns-in-Some : goal.returns-in-Some
 returns-in-Some c =
     let s = c.args.self.now in
-    subst (IsLaid (record { description = description_view s.description.now; initial = map initial_view s.initial.now }))
+    subst (IsLaid (record { description = description_view s.kind.description.now; initial = map initial_view s.initial.now }))
     (sym c.as_slice.ensures.value) (rw c.in-Some.is at s.begins)

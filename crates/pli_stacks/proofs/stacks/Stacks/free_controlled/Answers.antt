@@ -33,5 +33,5 @@ returns-clause-answer c = λ w.
     let count = s.stacks.ok.0 in
     let x = c.index_mut.result.now in
     let there = stack_read s c.args.number x (omega (arith, count, c.len.ensures, c.if-number-len.false)) c.index_mut.ensures.value in
-    unstacked_done s c.args.storage.now c.args.number w x there c.end_one.new.self c.in-Some.place c.pop_newest.new.stack c.in-Some.ensures
+    unstacked_done s c.args.storage.now c.args.number w x there c.end_one.new.self c.in-Some.newest.number c.pop_newest.new.stack c.in-Some.ensures
     c.end_one.ensures.storage c.end_one.ensures.made

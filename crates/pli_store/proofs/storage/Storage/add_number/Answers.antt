@@ -5,6 +5,7 @@ use Rattle.pli_map.specs.views.DescriptionView.{description_view}
 use Rattle.pli_world.specs.Storage as plain
 use Rattle.pli_world.specs.Storage.{Dummy, live_bytes, whole}
 use Rattle.pli_world.specs.World.{Yields}
+use Rattle.pli_store.specs.answers.Kinds.{digits_in}
 use Rattle.pli_store.specs.views.GenerationView.{generation_view}
 use Rattle.pli_store.specs.views.StorageView.{storage_view, with_storage}
 use Rattle.pli_store.proofs.MakingLemmas.{made_there, pushed_says}
@@ -38,6 +39,9 @@ invariant_of-self c =
       rising = rw (says, add-one) (rise_added 0 gs c.args.self.now.made added c.args.self.now.rising (omega arith));
     }
 
+pub of_alone-requires : goal.of_alone-requires
+of_alone-requires c = sym (ap digits_in c.requires.precision)
+
 pub returns : goal.returns
 returns c = λ w held.
     let d = description_view c.args.description.now in
@@ -51,4 +55,4 @@ returns c = λ w held.
     made_there d Dummy (values_of d c.args.bytes.items) before c.requires.room.0 c.requires.room.1 held
     ∙ ap (λ s. Yields (whole made d) (record before { storage = s; made = suc made })) (sym says)
     ∙ ap (λ n. Yields (whole made d) (record before { storage = map generation_view c.push_reserved.new.self.items; made = n })) (sym (add-one made))
-    ∙ ap (λ p. Yields p (record before { storage = map generation_view c.push_reserved.new.self.items; made = made + 1 })) (sym c.of_number.ensures)
+    ∙ ap (λ p. Yields p (record before { storage = map generation_view c.push_reserved.new.self.items; made = made + 1 })) (sym c.of_alone.ensures)

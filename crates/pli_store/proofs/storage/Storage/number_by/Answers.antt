@@ -1,43 +1,9 @@
-use Rattle.std.proofs.Common.{refl, arith, SFits, w64, rules}
+use Rattle.std.proofs.Common.{SFits, w64, rules}
 use Rattle.std.proofs.lemmas.Int.{to_z-of_z}
-use Rattle.pli_map.specs.Description.{FixedBinary}
-use Rattle.pli_value.specs.Value.{Number}
-use Rattle.pli_store.specs.declared.part.GenerationPart.{GenerationPart}
-use Rattle.pli_store.proofs.KnownLemmas.{part_leads, part_place, read_by}
-use Rattle.pli_store.proofs.PlaceLemmas.{within_store}
-use Rattle.pli_store.proofs.ReadParts.{known_read, within}
 use Rattle.pli_store.proofs.storage.Storage.number_by.Goals as goal
 
-pub index-requires : goal.index-requires
-index-requires c =
-    let o = c.in_ok-at.ensures in
-    let inside = within_store c.args.self.now.generations.items o.number c.in_ok-at.at o.stands in
-    omega (arith, inside)
-
-pub number_within-requires : goal.number_within-requires
-number_within-requires c =
-    let s = c.args.self.now in
-    let k = c.args.part.now in
-    let o = c.in_ok-at.ensures in
-    let at = c.in_ok-at.at in
-    let part : GenerationPart = record { at = at; offset = k.offset } in
-    omega (
-      arith,
-      within s (part_place s k c.args.locator at o) part (part_leads s k c.args.locator at o c.index.result.now c.index.ensures) c.index.result.now c.index.ensures c.deref.result.now c.deref.ensures.value
-          (FixedBinary c.in_ok-precision.precision) c.in_ok-precision.ensures,
-    )
-
--- what is read there is what the part's place holds in every world, so the locator reads it
 pub returns : goal.returns
 returns c =
-    let s = c.args.self.now in
-    let k = c.args.part.now in
-    let o = c.in_ok-at.ensures in
-    let at = c.in_ok-at.at in
-    let part : GenerationPart = record { at = at; offset = k.offset } in
-    let x = c.number_within.result in
+    let x = c.number_there.result in
     let fits : SFits w64 x = search rules in
-    rw (to_z-of_z w64 x fits)
-    (read_by s k c.args.locator at o (Number x)
-    (known_read s (part_place s k c.args.locator at o) part (part_leads s k c.args.locator at o c.index.result.now c.index.ensures) c.index.result.now c.index.ensures c.deref.result.now c.deref.ensures.value
-    (FixedBinary c.in_ok-precision.precision) c.in_ok-precision.ensures refl (Number x) c.number_within.ensures))
+    rw (to_z-of_z w64 x fits) c.number_there.ensures

@@ -1,39 +1,5 @@
-use Rattle.std.proofs.Common.{refl, arith}
-use Rattle.pli_map.specs.Description.{Pointer}
-use Rattle.pli_value.specs.Value.{Located}
-use Rattle.pli_store.specs.declared.part.GenerationPart.{GenerationPart}
-use Rattle.pli_store.proofs.KnownLemmas.{part_leads, part_place, read_by}
-use Rattle.pli_store.proofs.PlaceLemmas.{within_store}
-use Rattle.pli_store.proofs.ReadParts.{known_read, within}
+use Rattle.std.proofs.Common.{refl}
 use Rattle.pli_store.proofs.storage.Storage.pointer_by.Goals as goal
 
-pub index-requires : goal.index-requires
-index-requires c =
-    let o = c.in_ok-at.ensures in
-    let inside = within_store c.args.self.now.generations.items o.number c.in_ok-at.at o.stands in
-    omega (arith, inside)
-
-pub known_pointer-requires : goal.known_pointer-requires
-known_pointer-requires c =
-    let s = c.args.self.now in
-    let k = c.args.part.now in
-    let o = c.in_ok-at.ensures in
-    let at = c.in_ok-at.at in
-    let part : GenerationPart = record { at = at; offset = k.offset } in
-    omega (
-      arith,
-      within s (part_place s k c.args.locator at o) part (part_leads s k c.args.locator at o c.index.result.now c.index.ensures) c.index.result.now c.index.ensures c.deref.result.now c.deref.ensures.value
-          Pointer (c.if-not-is_pointer.ensures.0 refl),
-    )
-
--- what is read there is what the part's place holds in every world, so the locator reads it
-pub returns : goal.returns
-returns c =
-    let s = c.args.self.now in
-    let k = c.args.part.now in
-    let o = c.in_ok-at.ensures in
-    let at = c.in_ok-at.at in
-    let part : GenerationPart = record { at = at; offset = k.offset } in
-    read_by s k c.args.locator at o (Located c.known_pointer.result)
-    (known_read s (part_place s k c.args.locator at o) part (part_leads s k c.args.locator at o c.index.result.now c.index.ensures) c.index.result.now c.index.ensures c.deref.result.now c.deref.ensures.value
-    Pointer (c.if-not-is_pointer.ensures.0 refl) refl (Located c.known_pointer.result) c.known_pointer.ensures)
+pub pointer_there-requires-clause-pointer : goal.pointer_there-requires-clause-pointer
+pointer_there-requires-clause-pointer c = c.if-not-is_pointer.ensures.0 refl

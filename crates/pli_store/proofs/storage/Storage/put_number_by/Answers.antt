@@ -1,41 +1,8 @@
-use Rattle.std.proofs.Common.{true, [], ◌∷◌, map, refl, sym, ◌∙◌, subst, SFits, w64, rules}
-use Rattle.std.proofs.lemmas.Int.{to_z-of_z}
-use Rattle.pli_map.specs.Description.{FixedBinary}
-use Rattle.pli_value.specs.Value.{Number}
-use Rattle.pli_store.specs.answers.Found.{PartStands}
-use Rattle.pli_store.specs.views.GenerationView.{generation_view}
-use Rattle.pli_store.specs.views.StorageView.{storage_view}
-use Rattle.pli_store.proofs.KnownLemmas.{put_by}
-use Rattle.pli_store.proofs.LoneLemmas.{stored_in}
-use Rattle.pli_store.proofs.PartAnswers.{kept_put}
+use Rattle.std.proofs.Common.{refl}
 use Rattle.pli_store.proofs.storage.Storage.put_number_by.Goals as goal
 
-pub put_number-requires-clause-few : goal.put_number-requires-clause-few
-put_number-requires-clause-few c = (c.if-not-holds_number.ensures.0 refl).0
+pub put_number_there-requires-clause-few : goal.put_number_there-requires-clause-few
+put_number_there-requires-clause-few c = (c.if-not-holds_number.ensures.0 refl).0
 
-pub put_number-requires-clause-held : goal.put_number-requires-clause-held
-put_number-requires-clause-held c = (c.if-not-holds_number.ensures.0 refl).1
-
-pub put_number-requires-clause-stands : goal.put_number-requires-clause-stands
-put_number-requires-clause-stands c =
-    let s = c.in-Some-part_by.ensures in
-    subst (PartStands (storage_view c.args.self.now) c.in-Some-part_by.stands) (s.described ∙ c.in-Some.ensures) s.there.there
-
-pub invariant_of-self : goal.invariant_of-self
-invariant_of-self c =
-    let fits : SFits w64 c.args.number = search rules in
-    let whole = to_z-of_z w64 c.args.number fits in
-    let kept = kept_put (storage_view c.args.self.now) (map generation_view c.put_number.new.generations.items) c.in-Some-part_by.stands
-    c.args.self.now.made c.args.self.now.rising (FixedBinary c.in-Some.precision) (Number c.args.number ∷ []) (rw whole at c.put_number.ensures) in
-    record { counted = c.args.self.now.counted ∙ sym kept.counted; limited = c.args.self.now.limited; rising = kept.rising }
-
-pub returns : goal.returns
-returns c =
-    let fits : SFits w64 c.args.number = search rules in
-    let whole = to_z-of_z w64 c.args.number fits in
-    let stands = c.in-Some-part_by.stands in
-    let s = c.in-Some-part_by.ensures in
-    put_by true c.args.self.now _ c.args.locator c.args.part.now stands s (Number c.args.number)
-    (stored_in c.args.self.now (map generation_view c.put_number.new.generations.items) c.args.self.now.made s.part stands
-    (FixedBinary c.in-Some.precision) (s.described ∙ c.in-Some.ensures) s.there (Number c.args.number) (rw whole at c.put_number.ensures) refl
-    (rw whole at (c.if-not-holds_number.ensures.0 refl)).1)
+pub put_number_there-requires-clause-held : goal.put_number_there-requires-clause-held
+put_number_there-requires-clause-held c = (c.if-not-holds_number.ensures.0 refl).1
