@@ -29,6 +29,12 @@ fn main(rt: HostRuntime) -> ExitCode {
 }
 """
 LIBRARIES_WITHOUT_WORDS = ["pli_base", "pli_bench"]
+# The modules of `pli_bench` that read words and give them to the workbench, and the library that they read words by.
+WORKBENCH = "pli_bench"
+READERS = ["arguments", "serving"]
+READS_WORDS = "clap"
+# A line of the workbench's own file that names one of them.
+NAMES_READER = re.compile(rf"^(?:pub )?(?:mod|use) (?:{'|'.join(READERS)})\b[^;]*;$", re.M)
 # An attribute with a tactic, on lines of its own; it has no other closing bracket.
 TACTIC = re.compile(r"^ *#!?\[tactic\([^\]]*\)\]$", re.M)
 
@@ -50,18 +56,33 @@ def below(uses, names):
     return sorted(it for it in found if found[it]), sorted(it for it in found if not found[it])
 
 
+def emptied(pattern, text):
+    """A text whose lines that match are empty."""
+    return pattern.sub(lambda found: "\n" * found[0].count("\n"), text)
+
+
 def turned(text, crate, ours):
     """A file of a crate as one of the module of that name; of the program itself where that is None."""
-    text = TACTIC.sub(lambda found: "\n" * found[0].count("\n"), text)
+    text = emptied(TACTIC, text)
     if crate:
         text = re.sub(r"(?<![\w$.])crate::", f"crate::{crate}::", text)
     return re.sub(rf"(?<![\w.:])(?=(?:{'|'.join(ours)})::)", "crate::", text)
 
 
 def constant(top, file, name):
-    """The line of a constant of the command line."""
-    text = (top / "crates" / "pli_command_line" / "src" / file).read_text()
+    """The number of a constant of the command line."""
+    text = (top / "crates" / WORKBENCH / "src" / file).read_text()
     return re.search(rf"^(?:pub )?const {name}: u64 = ([0-9_]+);$", text, re.M)[1]
+
+
+def files_of(top, name, has_words):
+    """The files of a library with their texts; without words the workbench has no readers of them."""
+    base = top / "crates" / name / "src"
+    left_out = READERS if name == WORKBENCH and not has_words else []
+    for file in base.rglob("*.rt"):
+        if file.stem not in left_out:
+            text = file.read_text()
+            yield file.relative_to(base), emptied(NAMES_READER, text) if left_out else text
 
 
 def main_of(top, has_words, ours):
@@ -81,13 +102,12 @@ def write(top, folder, has_words):
     ours, kits = below(uses, uses[PROGRAM] if has_words else LIBRARIES_WITHOUT_WORDS)
     source = folder / "crates" / PROGRAM / "src"
     for name in ours:
-        base = top / "crates" / name / "src"
-        for file in base.rglob("*.rt"):
-            path = file.relative_to(base)
+        for path, text in files_of(top, name, has_words):
             to = source / f"{name}.rt" if str(path) == "lib.rt" else source / name / path
             to.parent.mkdir(parents=True, exist_ok=True)
-            to.write_text(turned(file.read_text(), name, ours))
+            to.write_text(turned(text, name, ours))
     (source / "main.rt").write_text(main_of(top, has_words, ours))
+    kits = [it for it in kits if has_words or it != READS_WORDS]
     (folder / "crates.txt").write_text(f"{PROGRAM}: {' '.join(kits)}\n")
 
 

@@ -1,2 +1,4 @@
 pub mod CommandsObeyed
+mod DevicesServed
 pub mod DumpsObeyed
+mod Steps

@@ -1,3 +1,6 @@
+pub mod CommandLine
 pub mod Session
+pub mod Statuses
 pub mod answers
+pub mod examples
 pub mod laws

@@ -3,7 +3,7 @@
 ghost use Rattle.pli_ledger.specs.Fits.{Fits};
 
 use pli_base::{Device, Name};
-use pli_command_line::go;
+use pli_bench::go;
 use pli_deck::Compiler;
 use pli_include::Expander;
 use pli_ledger::{Ledger, Outcome, edits_keep_fits};

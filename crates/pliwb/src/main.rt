@@ -16,5 +16,5 @@ fn main(rt: HostRuntime) -> ExitCode {
     let mut reader = Device::over(rt.stdin());
     let mut writer = Device::over(rt.stdout());
     let mut errors = Device::over(rt.stderr());
-    ExitCode::from(pli_command_line::go(alloc, &words, &mut reader, &mut writer, &mut errors))
+    ExitCode::from(pli_bench::go(alloc, &words, &mut reader, &mut writer, &mut errors))
 }

@@ -1,7 +1,7 @@
 //! The program over memory: its statuses, and what it tells.
 use crate::tests::devices::{Kept, Pieces};
 use pli_base::Device;
-use pli_command_line::{ArgumentsError, go, refuse, serve};
+use pli_bench::{ArgumentsError, go, refuse, serve};
 use std::alloc::Global;
 use std::io::Cursor;
 use std::process::Abort;

@@ -1,7 +1,7 @@
 use Rattle.std.proofs.Common.{refl}
 use Rattle.clap.proofs.OnLiterals.{clap_on_literals}
-use Rattle.pli_command_line.specs.examples.Examples.{NoWords, FiveSteps, StepsAreNoNumber, FileIsNoWord, HelpIsAsked}
-use Rattle.pli_command_line.proofs.laws.worked_examples.Goals as goal
+use Rattle.pli_bench.specs.examples.Examples.{NoWords, FiveSteps, StepsAreNoNumber, FileIsNoWord, HelpIsAsked}
+use Rattle.pli_bench.proofs.laws.worked_examples.Goals as goal
 
 no_words : NoWords
 unfolding clap_on_literals

@@ -1,6 +1,6 @@
 //! Worked examples of the words of the command line.
-ghost use Rattle.pli_command_line.specs.examples.Examples.{NoWords, FiveSteps, StepsAreNoNumber, FileIsNoWord};
-ghost use Rattle.pli_command_line.specs.examples.Examples.{HelpIsAsked};
+ghost use Rattle.pli_bench.specs.examples.Examples.{NoWords, FiveSteps, StepsAreNoNumber, FileIsNoWord};
+ghost use Rattle.pli_bench.specs.examples.Examples.{HelpIsAsked};
 
 /// Worked examples: no words, steps, and what is no command line.
 pub fn worked_examples()

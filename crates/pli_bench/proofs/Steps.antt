@@ -2,7 +2,7 @@
 use Rattle.std.proofs.Common.{◌≡◌, ◌∙◌, ap, refl, ℕ, List, Option, Some, None, Result, Ok, Err, unwrap_or}
 use Rattle.std.specs.Str.Parse.{ParsesUnsigned}
 use Rattle.clap.specs.Words.{Text, ReadsOne}
-use Rattle.pli_command_line.specs.CommandLine.{Spells}
+use Rattle.pli_bench.specs.CommandLine.{Spells}
 
 pub spelt : (E : Type 0) (G : List ℕ → Result ℕ E → Type 0) → ((t : Text) (r : Result ℕ E) → G t r → ParsesUnsigned 64 10 t r)
     → (text : Option Text) (read : Option ℕ) (n : ℕ) → n ≡ unwrap_or read 1000000

@@ -1,13 +1,13 @@
 //! The program over any reader and writers.
 ghost use Rattle.std.specs.Prelude.{◌≡◌, ◌≢◌, ◌≤◌, ◌<◌, ◌+◌, ℕ, drop, map};
 ghost use Rattle.std.specs.String.{string_bytes};
-ghost use Rattle.pli_command_line.specs.CommandLine.{Gives};
-ghost use Rattle.pli_command_line.specs.Statuses.{EndsServed, BreaksOff, devices, Refused, Tells, status_of};
-ghost use Rattle.pli_command_line.specs.Statuses.{reads_limit};
+ghost use Rattle.pli_bench.specs.CommandLine.{Gives};
+ghost use Rattle.pli_bench.specs.Statuses.{EndsServed, BreaksOff, devices, Refused, Tells, status_of};
+ghost use Rattle.pli_bench.specs.Statuses.{reads_limit};
 
 use crate::arguments::{ArgumentsError, read_arguments};
+use crate::bench::Bench;
 use pli_base::{Sink, Source, put_all};
-use pli_bench::Bench;
 use std::alloc::Global;
 
 /// The greatest number of reads (own).

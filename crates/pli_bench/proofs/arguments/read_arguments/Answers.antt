@@ -5,9 +5,9 @@ use Rattle.clap.specs.Words.{App, app_of, fault_of, found_of, is_simple, is_simp
 use Rattle.clap.proofs.WalkLemmas.{one_text-rows}
 use Rattle.clap.specs.Simple.{app_of_fields, on_top}
 use Rattle.clap.specs.declared.builder.value_parser.ValueParser.TheVariants.{Unsigned}
-use Rattle.pli_command_line.specs.CommandLine.{Refuses, program, steps, steps_text}
-use Rattle.pli_command_line.proofs.Steps.{spelt}
-use Rattle.pli_command_line.proofs.arguments.read_arguments.Goals as goal
+use Rattle.pli_bench.specs.CommandLine.{Refuses, program, steps, steps_text}
+use Rattle.pli_bench.proofs.Steps.{spelt}
+use Rattle.pli_bench.proofs.arguments.read_arguments.Goals as goal
 
 is_free : is_simple_and_free program ≡ true
 is_free = refl

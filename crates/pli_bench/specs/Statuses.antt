@@ -9,9 +9,9 @@ use Rattle.pli_commands.specs.Exchanges.{Span, span}
 use Rattle.pli_commands.specs.Runs.{Bytes, Service, Served, Takes, Blames, piece_limit}
 use Rattle.pli_commands.specs.declared.serving.AfterCommand.{AfterCommand}
 use Rattle.pli_commands.specs.declared.serving.ServeFault.{ServeFault}
-use Rattle.pli_command_line.specs.CommandLine.{Refuses, faults}
-use Rattle.pli_command_line.specs.declared.arguments.ArgumentsError.{ArgumentsError}
-use Rattle.pli_command_line.specs.declared.arguments.ArgumentsError.TheVariants.{Usage, OutOfMemory}
+use Rattle.pli_bench.specs.CommandLine.{Refuses, faults}
+use Rattle.pli_bench.specs.declared.arguments.ArgumentsError.{ArgumentsError}
+use Rattle.pli_bench.specs.declared.arguments.ArgumentsError.TheVariants.{Usage, OutOfMemory}
 
 -- the greatest number of reads
 abbrev pub reads_limit : ℕ

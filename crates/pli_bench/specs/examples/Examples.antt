@@ -1,7 +1,7 @@
 -- Worked examples of words.
 use Rattle.std.specs.Prelude.{◌≡◌, [], ◌∷◌, codes, Some}
 use Rattle.clap.specs.declared.error.kind.ErrorKind.TheVariants as kind
-use Rattle.pli_command_line.specs.CommandLine.{faults, steps_text}
+use Rattle.pli_bench.specs.CommandLine.{faults, steps_text}
 
 -- without words a bare RUN has a million steps
 abbrev pub NoWords : Type 0

@@ -2,8 +2,8 @@
 ghost use Rattle.std.specs.Prelude.{◌≡◌, map};
 ghost use Rattle.std.specs.String.{string_bytes};
 ghost use Rattle.clap.specs.Words.{HasKind, Kinds};
-ghost use Rattle.pli_command_line.specs.CommandLine.{Reads, Refuses};
-ghost use Rattle.pli_command_line.specs.declared.arguments.ArgumentsError.TheVariants.{OutOfMemory};
+ghost use Rattle.pli_bench.specs.CommandLine.{Reads, Refuses};
+ghost use Rattle.pli_bench.specs.declared.arguments.ArgumentsError.TheVariants.{OutOfMemory};
 
 use clap::error::ErrorKind;
 use clap::{Arg, ArgAction, Command, Error, value_parser};

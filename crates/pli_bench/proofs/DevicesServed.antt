@@ -5,7 +5,7 @@ use Rattle.pli_bench.specs.Session.{State, Step, quits, opened}
 use Rattle.pli_commands.specs.Runs.{Service, Served, Takes, Blames, piece_limit}
 use Rattle.pli_commands.specs.declared.serving.AfterCommand.{AfterCommand}
 use Rattle.pli_commands.specs.declared.serving.ServeFault.{ServeFault}
-use Rattle.pli_command_line.specs.Statuses.{Devices, Serves}
+use Rattle.pli_bench.specs.Statuses.{Devices, Serves}
 
 -- a workbench in this state serves
 abbrev from : State → (reads : ℕ) → Devices → (last : State) → Service State

@@ -7,9 +7,9 @@ use Rattle.clap.specs.Words.{with_rule}
 use Rattle.clap.specs.Simple.{on_top}
 use Rattle.clap.specs.declared.builder.action.ArgAction.TheVariants.{Set}
 use Rattle.clap.specs.declared.builder.value_parser.ValueParser.TheVariants.{Unsigned}
-use Rattle.pli_command_line.specs.declared.arguments.Arguments.{Arguments}
-use Rattle.pli_command_line.specs.declared.arguments.ArgumentsError.{ArgumentsError}
-use Rattle.pli_command_line.specs.declared.arguments.ArgumentsError.TheVariants.{Usage, OutOfMemory}
+use Rattle.pli_bench.specs.declared.arguments.Arguments.{Arguments}
+use Rattle.pli_bench.specs.declared.arguments.ArgumentsError.{ArgumentsError}
+use Rattle.pli_bench.specs.declared.arguments.ArgumentsError.TheVariants.{Usage, OutOfMemory}
 
 -- `--steps N`, with N up to 18 nines; 1000000 where the words do not say it
 abbrev pub steps : Rule

@@ -1,6 +1,6 @@
 use Rattle.std.proofs.Common.{Err}
-use Rattle.pli_command_line.proofs.DevicesServed.{serves}
-use Rattle.pli_command_line.proofs.serving.serve.Goals as goal
+use Rattle.pli_bench.proofs.DevicesServed.{serves}
+use Rattle.pli_bench.proofs.serving.serve.Goals as goal
 
 pub returns-clause-broke : goal.returns-clause-broke
 returns-clause-broke g c = λ _.

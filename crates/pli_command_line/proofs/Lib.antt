@@ -1,2 +1,0 @@
-mod DevicesServed
-mod Steps
