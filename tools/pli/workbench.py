@@ -2,9 +2,11 @@
 import os
 import queue
 import secrets
+import select
 import signal
 import subprocess
 import threading
+import time
 from collections import deque
 from contextlib import suppress
 
@@ -42,6 +44,7 @@ class Workbench:
 
     def __init__(self, words, batch=False):
         self.words, self.batch, self.planned, self.busy, self.emit = words, batch, deque(), False, None
+        self.answers = False
         self.mark = f"MARK_{secrets.token_hex(12)}".upper()
         self.end, self.given = f"1 {self.mark}\n".encode(), queue.SimpleQueue()
         self.pending, self.leading = b"", b"OK\nOK\n" + self.end + b"OK\n"
@@ -103,6 +106,7 @@ class Workbench:
         if not self.pending.startswith(self.leading):
             raise Trouble(f"{self.words[0]} does not answer as a workbench")
         self.pending, self.leading, self.emit = self.pending[len(self.leading) :], b"OK\n", emit
+        self.answers = True
         while (at := self.pending.find(self.end)) < 0:
             if emit and (cut := self.printed()):
                 emit(self.pending[:cut])
@@ -116,9 +120,19 @@ class Workbench:
         self.emit = None
         return answers[printed:-1]
 
+    def finish(self):
+        """Takes what is left of a batch that answers: it has done all that it was asked, and ends by itself."""
+        ends, output = time.monotonic() + SECONDS_TO_END, self.child.stdout.fileno()
+        while select.select([output], [], [], max(ends - time.monotonic(), 0))[0] and (chunk := os.read(output, CHUNK)):
+            self.pending += chunk
+        with suppress(subprocess.TimeoutExpired):
+            self.child.wait(max(ends - time.monotonic(), 0))
+
     def stop(self):
         """Ends the workbench with all that it started, and passes on what it had printed of a run."""
         self.alive.remove(self)
+        if self.batch and self.answers:
+            self.finish()
         for number in (signal.SIGTERM, signal.SIGKILL):
             with suppress(OSError, subprocess.TimeoutExpired):
                 if self.child.poll() is None:

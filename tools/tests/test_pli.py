@@ -379,7 +379,7 @@ class Batch(Room):
 
     def setUp(self):
         super().setUp()
-        starter = '[ "$1" = --which ] && exec echo unproved; cat >given; exec <given; exec "$SERVER"'
+        starter = '[ "$1" = --which ] && exec echo unproved; cat >given; "$SERVER" <given; sleep 0.2; echo >ended'
         (self.room / "starter").write_text(f"#!/bin/sh\n{starter}\n")
         (self.room / "starter").chmod(0o755)
 
@@ -395,6 +395,7 @@ class Batch(Room):
         self.write(range_pli=RANGE)
         told = f"range.pli:6: E1 SUBSCRIPT RANGE\n  A(N) = 1;\n{TRACED}"
         self.check(["range.pli", "--trace"], 1, "BEFORE \n", told)
+        self.assertTrue((self.room / "ended").exists())
 
     def test_diagnostics_and_commands(self):
         self.write(m_pli=body("X = 1;"), good_pli=body("PUT LIST(1);"))
